@@ -1,0 +1,119 @@
+// The UTF-8 decoder, one code point at a time.
+ghost use mathlib.Core.Path.{_≡_};
+ghost use Prim.Native.Nat.{_<_};
+ghost use lib.ListN.{drop};
+ghost use Rattle.utf_8.specs.Utf8.{lowerOf, upperOf, state, nextFrom, nextAt, wellFormed};
+use crate::Char;
+
+fn wide(x: u8) -> u32
+    ensures { λ r. ⌜ r ≡ x ⌝ }
+{
+    x as u32
+}
+
+// The lowest byte that may follow a lead byte: above 80h where less would be an overlong form.
+fn lower_of(lead: u8) -> u8
+    ensures { λ r. ⌜ r ≡ lowerOf lead ⌝ }
+{
+    if lead == 0xe0 {
+        return 0xa0;
+    }
+    if lead == 0xf0 {
+        return 0x90;
+    }
+    0x80
+}
+
+// The highest byte that may follow a lead byte: below BFh where more would be a surrogate, or past U+10FFFF.
+fn upper_of(lead: u8) -> u8
+    ensures { λ r. ⌜ r ≡ upperOf lead ⌝ }
+{
+    if lead == 0xed {
+        return 0x9f;
+    }
+    if lead == 0xf4 {
+        return 0x8f;
+    }
+    0xbf
+}
+
+// One more byte for `code`, from lower to upper. Any other byte is left to be read anew: the error ends before it.
+fn one_more(text: &[u8], at: usize, code: u32, lower: u8, upper: u8) -> Char
+    requires { ⌜ code < 0x100000 ⌝ }
+    ensures { λ r. ⌜ r ≡ nextFrom (state code 0 1 lower upper) at (drop at (now (text .entry))) ⌝ }
+{
+    if text.len() <= at {
+        return Char::Error(at);
+    }
+    let b = text[at];
+    if b < lower {
+        return Char::Error(at);
+    }
+    if upper < b {
+        return Char::Error(at);
+    }
+    Char::Code(code * 64 + wide(b) % 64, at + 1)
+}
+
+fn two_more(text: &[u8], at: usize, code: u32, lower: u8, upper: u8) -> Char
+    requires { ⌜ code < 0x1000 ⌝ }
+    ensures { λ r. ⌜ r ≡ nextFrom (state code 0 2 lower upper) at (drop at (now (text .entry))) ⌝ }
+{
+    match one_more(text, at, code, lower, upper) {
+        Char::Code(c, e) => one_more(text, e, c, 0x80, 0xbf),
+        Char::Error(e) => Char::Error(e),
+        Char::End => Char::End,
+    }
+}
+
+fn three_more(text: &[u8], at: usize, code: u32, lower: u8, upper: u8) -> Char
+    requires { ⌜ code < 0x20 ⌝ }
+    ensures { λ r. ⌜ r ≡ nextFrom (state code 0 3 lower upper) at (drop at (now (text .entry))) ⌝ }
+{
+    match one_more(text, at, code, lower, upper) {
+        Char::Code(c, e) => two_more(text, e, c, 0x80, 0xbf),
+        Char::Error(e) => Char::Error(e),
+        Char::End => Char::End,
+    }
+}
+
+// The code point at `at`, or the ill-formed part there. ASCII is told first.
+pub fn next(text: &[u8], at: usize) -> Char
+    ensures { λ r. ⌜ r ≡ nextAt (now (text .entry)) at ⌝ }
+{
+    if text.len() <= at {
+        return Char::End;
+    }
+    let b = text[at];
+    if b < 0x80 {
+        return Char::Code(b as u32, at + 1);
+    }
+    if b < 0xc2 {
+        return Char::Error(at + 1);
+    }
+    if b < 0xe0 {
+        return one_more(text, at + 1, wide(b) % 32, 0x80, 0xbf);
+    }
+    if b < 0xf0 {
+        return two_more(text, at + 1, wide(b) % 16, lower_of(b), upper_of(b));
+    }
+    if b < 0xf5 {
+        return three_more(text, at + 1, wide(b) % 8, lower_of(b), upper_of(b));
+    }
+    Char::Error(at + 1)
+}
+
+// Whether the whole text is UTF-8: no overlong form, no surrogate, no cut code point.
+pub fn well_formed(text: &[u8]) -> bool
+    ensures { λ r. ⌜ r ≡ wellFormed (now (text .entry)) ⌝ }
+{
+    let mut at = 0;
+    while at < text.len() {
+        match next(text, at) {
+            Char::Code(_, e) => at = e,
+            Char::Error(_) => return false,
+            Char::End => return true,
+        }
+    }
+    true
+}
