@@ -1,8 +1,10 @@
 -- Laws of little-endian byte order, over the width; this module alone unfolds `leValue` and `leBytes`. Assumes nothing.
 use mathlib.Core.Path.{_≡_, refl, sym, ap, _∙_}
 use mathlib.Core.List.{List, [], _∷_, _++_, append-assoc}
-use Prim.Native.Nat.{ℕ, zero, suc, _+_, _-_, _*_, _/_, _%_, _^_, _≤_, _<_, min}
-use native.Mathlib.Nat.{div-add-mod, mod-lt, mod-eq-of-lt, mul-assoc, add-mul-mod-self-left, pow-succ', pow-le-pow-right, one-le-pow, lt-of-lt-of-le, mul-comm}
+use Prim.Native.Nat.{ℕ, zero, suc, _+_, _-_, _*_, _/_, _%_, _^_, _≤_, _<_}
+use native.Mathlib.Nat.{mul-assoc, pow-suc, pow-succ', pow-le-pow-right, one-le-pow, lt-of-lt-of-le}
+use lib.Arith.{mod-mul, digits-mod, digits-div}
+use lib.Pow.{pow-add}
 use native.Mathlib.Numerals.{add-one}
 use native.Mathlib.Omega.{arith}
 use lib.ListN.{length, getD, take, drop, set, length-drop, take-append-drop}
@@ -16,23 +18,33 @@ unfolding leBytes
 length-leBytes zero n = refl
 length-leBytes (suc w) n = ap suc (length-leBytes w (n / 256))
 
-split-mod : (n p : ℕ) → 0 < p → n % 256 + 256 * (n / 256 % p) ≡ n % (256 * p)
-split-mod n p h =
-    let q = n / 256 in
-    let low = n % 256 + 256 * (q % p) in
-    let e : p * (q / p) + q % p ≡ q = div-add-mod q p in
-    let l : q % p < p = mod-lt q h in
-    let a : 256 * p * (q / p) ≡ 256 * (p * (q / p)) = mul-assoc 256 p (q / p) in
-    let w : low + 256 * p * (q / p) ≡ n = omega arith in
-    sym (ap (λ (k : ℕ). k % (256 * p)) (sym w) ∙ add-mul-mod-self-left low (256 * p) (q / p) ∙ mod-eq-of-lt (omega arith))
+next-byte : (w n : ℕ) → n % (256 ^ w * 256) ≡ n / 256 % 256 ^ w * 256 + n % 256
+next-byte w n = mod-mul n (one-le-pow w 256 (omega arith)) (omega arith)
 
 -- the w lowest bytes of n stand for n modulo 256 to the w
 pub leValue-leBytes : (w n : ℕ) → leValue (leBytes w n) ≡ n % 256 ^ w
 unfolding leValue leBytes
 leValue-leBytes zero n = omega arith
 leValue-leBytes (suc w) n =
-    rw (leValue-leBytes w (n / 256), pow-succ' 256 w)
-    (split-mod n (256 ^ w) (one-le-pow w 256 (omega arith)))
+    rw (leValue-leBytes w (n / 256), pow-suc 256 w) (omega (arith, next-byte w n))
+
+-- bytes past the width don't count
+pub leBytes-mod : (w n : ℕ) → leBytes w (n % 256 ^ w) ≡ leBytes w n
+unfolding leBytes
+leBytes-mod zero n = refl
+leBytes-mod (suc w) n =
+    let r : n % 256 < 256 = omega arith in
+    let e : n % 256 ^ suc w ≡ n / 256 % 256 ^ w * 256 + n % 256 = rw (pow-suc 256 w) (next-byte w n) in
+    let h : n % 256 ^ suc w % 256 ≡ n % 256 = rw e (digits-mod (n / 256 % 256 ^ w) r) in
+    let t : n % 256 ^ suc w / 256 ≡ n / 256 % 256 ^ w = rw e (digits-div (n / 256 % 256 ^ w) r) in
+    rw (h, t, leBytes-mod w (n / 256))
+
+-- 256 to the w has 8 times w bits
+pub pow-bytes : (w : ℕ) → 256 ^ w ≡ 2 ^ (8 * w)
+pow-bytes zero = refl
+pow-bytes (suc w) =
+    let e : 8 * suc w ≡ 8 * w + 8 = omega arith in
+    pow-suc 256 w ∙ ap (λ (p : ℕ). p * 256) (pow-bytes w) ∙ sym (ap (λ (k : ℕ). 2 ^ k) e ∙ pow-add 2 (8 * w) 8)
 
 -- bytes are those of the number that they stand for
 pub leBytes-leValue : (bs : List ℕ) → Bytes bs → leBytes (length bs) (leValue bs) ≡ bs

@@ -1,2 +1,4 @@
 pub mod Le
 pub mod TypeId
+pub mod Integer
+pub mod Float

@@ -4,6 +4,7 @@ ghost use Prim.Native.Nat.{_<_, min};
 ghost use lib.ListN.{length, take};
 ghost use Rattle.number.specs.Le.{leValue, leStored};
 
+// A byte as a number of four bytes.
 fn wide(x: u8) -> u32
     ensures { λ r. ⌜ (r ≡ x) × (r < 256) ⌝ }
 {
@@ -46,6 +47,7 @@ pub fn le_value(slice: &[u8]) -> u64
     low + 0x1_0000_0000 * (le_u32(&slice[4..]) as u64)
 }
 
+// A length, or 8 where it is more.
 fn at_most_eight(len: usize) -> usize
     ensures { λ r. ⌜ r ≡ min 8 len ⌝ }
 {

@@ -1,3 +1,6 @@
--- Laws that the functions' proofs cite, and those on names and look-up that the crates above cite.
+-- Laws that the functions' proofs cite, and those on blocks, names and look-up that the crates above cite.
 mod Parts
+mod Slots
+pub mod Blocks
 pub mod Names
+pub mod Finds

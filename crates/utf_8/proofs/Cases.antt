@@ -1,8 +1,8 @@
 -- Worked examples, by computation: the shortest and the longest forms, and each kind of ill-formed part. Assumes nothing.
 use mathlib.Core.Path.{_≡_, refl}
-use mathlib.Core.List.{List, [], _∷_}
+use mathlib.Core.List.{[], _∷_}
 use Rattle.utf_8.specs.declared.Char.the-variants.{Error}
-use Rattle.utf_8.specs.Utf8.{Item, scalar, error, leading, following, after, decodeFrom, decode, scalars, found, nextFrom, nextAt, encoded, utf8Of}
+use Rattle.utf_8.specs.Utf8.{scalar, error, leading, following, after, decodeFrom, decode, scalars, found, nextFrom, nextAt, encoded, utf8Of}
 
 -- U+0041 U+20AC U+1F600
 euro : decode (0x41 ∷ 0xe2 ∷ 0x82 ∷ 0xac ∷ 0xf0 ∷ 0x9f ∷ 0x98 ∷ 0x80 ∷ []) ≡ scalar 0x41 ∷ scalar 0x20ac ∷ scalar 0x1f600 ∷ []

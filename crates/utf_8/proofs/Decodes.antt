@@ -1,8 +1,8 @@
--- Laws of the decoder. They alone open `decodeFrom` and `nextFrom`. Assumes nothing.
+-- What `nextFrom` finds at each exit of the decoder's functions. Assumes nothing.
 use mathlib.Core.Path.{_≡_, refl, sym, ap, _∙_}
-use mathlib.Core.Bool.{Bool, true, false, cond, _&&_, _||_}
-use mathlib.Core.List.{List, [], _∷_, _++_}
-use Prim.Native.Nat.{ℕ, zero, suc, _+_, _*_, _/_, _%_, _-_, _≤_, _<_}
+use mathlib.Core.Bool.{Bool, true, false, cond, _&&_}
+use mathlib.Core.List.{List, [], _∷_}
+use Prim.Native.Nat.{ℕ, suc, _+_, _*_, _%_, _-_, _≤_, _<_}
 use native.Mathlib.Omega.{arith}
 use native.Mathlib.Numerals.{add-one}
 use lib.ListN.{length, getD, drop, drop-of-length-le}
@@ -11,7 +11,7 @@ use lib.Dec.{T, leb, ltb, eqb, ltb→lt, eqb·suc-zero, eqb·zero-suc, eqb·suc-
 use borrow.Author.Tests.{lt-ltb, le-ltb, le-leb, lt-leb, eq-eqb, ne-eqb}
 use Rattle.utf_8.specs.declared.Char.{Char}
 use Rattle.utf_8.specs.declared.Char.the-variants.{Code, Error, End}
-use Rattle.utf_8.specs.Utf8.{Item, scalar, error, State, state, initial, lowerOf, upperOf, Reply, give, continue, leading, following, after, decodeFrom, decode, found, nextFrom, nextAt}
+use Rattle.utf_8.specs.Utf8.{State, state, lowerOf, upperOf, leading, following, found, nextFrom, nextAt}
 
 -- ---- the exits of `lower_of` and `upper_of`
 

@@ -1,15 +1,15 @@
 -- The first item that `nextAt` finds is the first of `decode`, and the others are those from the place after it on. Assumes nothing.
-use mathlib.Core.Path.{_≡_, refl, sym, ap, _∙_, subst}
-use mathlib.Core.Bool.{Bool, true, false, cond, _&&_, _||_}
-use mathlib.Core.List.{List, [], _∷_, _++_}
-use Prim.Native.Nat.{ℕ, zero, suc, _+_, _*_, _/_, _%_, _-_, _≤_, _<_}
+use mathlib.Core.Path.{_≡_, refl, sym, ap, _∙_}
+use mathlib.Core.Bool.{Bool, true, false, cond, _&&_}
+use mathlib.Core.List.{List, [], _∷_, map}
+use Prim.Native.Nat.{ℕ, suc, _+_, _*_, _%_, _-_, _≤_, _<_}
 use native.Mathlib.Omega.{arith}
-use lib.ListN.{length, getD, drop, length-drop, drop-of-length-le}
+use lib.ListN.{length, drop, length-drop, drop-of-length-le}
 use lib.Seq.{drop-drop}
 use lib.Dec.{leb, ltb, eqb, eqb·suc-zero}
 use Rattle.utf_8.specs.declared.Char.{Char}
 use Rattle.utf_8.specs.declared.Char.the-variants.{Code, Error, End}
-use Rattle.utf_8.specs.Utf8.{Item, scalar, error, State, state, initial, Reply, give, continue, leading, following, after, decodeFrom, decode, noError, wellFormed, found, nextFrom, nextAt}
+use Rattle.utf_8.specs.Utf8.{Item, scalar, error, State, state, initial, Reply, give, continue, leading, following, after, decodeFrom, decode, noError, wellFormed, replaced, scalars, found, nextFrom, nextAt}
 
 -- the item `i` took the bytes of `bs` up to the place `e`, where `at` is the place of the first, and the items are `is`
 record Took (i : Item) (e at : ℕ) (bs : List ℕ) (is : List Item) : Type 0 where
@@ -174,6 +174,16 @@ module _ (text : List ℕ) (at : ℕ) (r : Char) (h : r ≡ nextAt text at) wher
 
   pub next-none : r ≡ End → Ends text at
   next-none k = record { decodes = end-items (rw k at told); past = past-end (drop at text) refl k }
+
+  -- the same of the scalar values, where an error counts as U+FFFD
+  pub scalars-code : (c e : ℕ) → r ≡ Code c e → scalars (drop at text) ≡ c ∷ scalars (drop e text)
+  scalars-code c e k = ap (λ (is : List Item). map replaced is) (next-code c e k .decodes)
+
+  pub scalars-error : (e : ℕ) → r ≡ Error e → scalars (drop at text) ≡ 0xfffd ∷ scalars (drop e text)
+  scalars-error e k = ap (λ (is : List Item). map replaced is) (next-error e k .decodes)
+
+  pub scalars-none : r ≡ End → scalars (drop at text) ≡ []
+  scalars-none k = ap (λ (is : List Item). map replaced is) (next-none k .decodes)
 
 -- ---- the exits of `well_formed`: the whole is well-formed where what is left is
 

@@ -1,4 +1,5 @@
--- Laws of the definitions of specs/: those of the buffer, of the encoder and of the decoder.
+-- Laws of the definitions of specs/. Splices: the buffer. Encodes: the encoder. Decodes, Items, Scalars, Trips: the decoder, with
+-- what is found at each exit of its functions, the items of a text, their values, and the way there and back. Cases: worked examples.
 pub mod Splices
 pub mod Encodes
 pub mod Decodes

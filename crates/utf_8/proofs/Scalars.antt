@@ -1,15 +1,15 @@
 -- Every code point that `nextAt` finds is a scalar value. Assumes nothing.
-use mathlib.Core.Path.{_≡_, refl, sym, ap, _∙_}
-use mathlib.Core.Bool.{Bool, true, false, cond, _&&_, _||_}
+use mathlib.Core.Path.{_≡_, refl}
+use mathlib.Core.Bool.{Bool, true, false, cond, _&&_}
 use mathlib.Core.List.{List, [], _∷_}
-use Prim.Native.Nat.{ℕ, zero, suc, _+_, _*_, _%_, _-_, _≤_, _<_}
+use Prim.Native.Nat.{ℕ, _+_, _*_, _%_, _-_, _≤_, _<_}
 use native.Mathlib.Omega.{arith}
 use lib.ListN.{drop}
-use lib.Dec.{leb, ltb, eqb, eqb·suc-zero, eqb·zero-suc, eqb·suc-suc}
-use borrow.Author.Tests.{ltb-true, ltb-false, leb-true, leb-false, eqb-true, eqb-false}
+use lib.Dec.{leb, ltb, eqb}
+use borrow.Author.Tests.{ltb-true, ltb-false, leb-true, eqb-true, eqb-false}
 use Rattle.utf_8.specs.declared.Char.{Char}
 use Rattle.utf_8.specs.declared.Char.the-variants.{Code, Error, End}
-use Rattle.utf_8.specs.Utf8.{State, state, initial, lowerOf, upperOf, Reply, give, continue, scalar, error, leading, following, found, nextFrom, nextAt, isScalar}
+use Rattle.utf_8.specs.Utf8.{State, state, initial, lowerOf, upperOf, Reply, leading, following, found, nextFrom, nextAt, isScalar}
 use Rattle.utf_8.proofs.Encodes.{scalar-low, scalar-high}
 use Rattle.utf_8.proofs.Decodes.{fewer, lower-other, upper-other}
 

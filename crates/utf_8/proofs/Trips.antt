@@ -1,16 +1,16 @@
 -- The decoder gives back what the encoder wrote. Assumes nothing.
 use mathlib.Core.Path.{_≡_, refl, sym, ap, _∙_}
-use mathlib.Core.Bool.{Bool, true, false, cond, _&&_}
-use mathlib.Core.List.{List, [], _∷_, _++_}
-use Prim.Native.Nat.{ℕ, zero, suc, _+_, _*_, _/_, _%_, _-_, _≤_, _<_}
+use mathlib.Core.Bool.{Bool, true, false, cond}
+use mathlib.Core.List.{List, _∷_, _++_}
+use Prim.Native.Nat.{ℕ, _+_, _*_, _/_, _%_, _-_, _≤_, _<_}
 use native.Mathlib.Omega.{arith}
 use native.Mathlib.Nat.{div-add-mod', div-div-eq-div-mul}
-use lib.Dec.{leb, ltb, eqb}
-use borrow.Author.Tests.{lt-ltb, le-ltb, le-leb, ne-eqb, eq-eqb, eqb-true, eqb-false, ltb-true, ltb-false}
-use Rattle.utf_8.specs.Utf8.{Item, scalar, error, state, initial, lowerOf, upperOf, leading, following, after, decodeFrom, decode, noError, wellFormed, isScalar, two, three, four, utf8Of}
-use Rattle.utf_8.proofs.Encodes.{Valued, Ranges, range-one, range-two, range-three, range-four, ranges, utf8-one, utf8-two, utf8-four, encoded-for, replaced-scalar}
+use lib.Dec.{ltb, eqb}
+use borrow.Author.Tests.{lt-ltb, le-ltb, le-leb, eqb-true, ltb-true, ltb-false}
+use Rattle.utf_8.specs.Utf8.{scalar, lowerOf, upperOf, leading, following, after, decodeFrom, decode, noError, wellFormed, isScalar, two, utf8Of}
+use Rattle.utf_8.proofs.Encodes.{Ranges, range-one, range-two, range-three, range-four, ranges, utf8-one, utf8-two, utf8-four, encoded-for, replaced-scalar}
 
--- a byte from 80h to BFh follows
+-- one code point of one to four bytes, and what follows it
 module _ (rest : List ℕ) where
   decode-one : (a : ℕ) → a < 0x80 → decode (a ∷ rest) ≡ scalar a ∷ decode rest
   unfolding decodeFrom leading after

@@ -1,5 +1,4 @@
 -- UTF-8 by the WHATWG Encoding Standard: the steps of its UTF-8 decoder and of its UTF-8 encoder. Assumes nothing.
-use mathlib.Core.Path.{_≡_}
 use mathlib.Core.Bool.{Bool, true, false, cond, _&&_, _||_}
 use mathlib.Core.List.{List, [], _∷_, map}
 use Prim.Native.Nat.{ℕ, _+_, _*_, _/_, _%_}
@@ -58,7 +57,7 @@ unfoldable pub after : Reply → (State → List Item) → List Item
 after (give i) rest = i ∷ rest initial
 after (continue s) rest = rest s
 
--- the decoder from a state on; a byte outside the boundaries is an error, and is then taken in the initial state (step 4: it is restored to the queue)
+-- the decoder from a state on, to the end of the queue (steps 1 and 2); a byte outside the boundaries is an error, and is then taken in the initial state (step 4: it is restored to the queue)
 unfoldable pub decodeFrom : State → List ℕ → List Item
 decodeFrom (state code seen needed lower upper) [] = cond (eqb needed 0) [] (error ∷ [])
 decodeFrom (state code seen needed lower upper) (b ∷ bs) =
@@ -98,7 +97,7 @@ found (give (scalar c)) at rest = Code c (at + 1)
 found (give error) at rest = Error (at + 1)
 found (continue s) at rest = rest s
 
--- from a state on, with the place of the first of the bytes
+-- the first item from a state on, where `at` is the place of the first byte; a byte that is restored to the queue is not taken
 unfoldable pub nextFrom : State → ℕ → List ℕ → Char
 nextFrom (state code seen needed lower upper) at [] = cond (eqb needed 0) End (Error at)
 nextFrom (state code seen needed lower upper) at (b ∷ bs) =
@@ -107,7 +106,7 @@ nextFrom (state code seen needed lower upper) at (b ∷ bs) =
     (found (following code seen needed b) at (λ s. nextFrom s (at + 1) bs))
     (Error at))
 
--- the first item of the text from `at` on
+-- the first item of a text from `at` on
 abbrev pub nextAt : List ℕ → ℕ → Char
 nextAt text at = nextFrom initial at (drop at text)
 
@@ -117,13 +116,15 @@ nextAt text at = nextFrom initial at (drop at text)
 abbrev pub isScalar : ℕ → Bool
 isScalar c = ltb c 0xd800 || (leb 0xe000 c && leb c 0x10ffff)
 
--- the bytes of a code point that takes two, three, four
+-- the bytes of a code point that takes two
 abbrev pub two : ℕ → List ℕ
 two c = (0xc0 + c / 64) ∷ (0x80 + c % 64) ∷ []
 
+-- the bytes of a code point that takes three
 abbrev pub three : ℕ → List ℕ
 three c = (0xe0 + c / 4096) ∷ (0x80 + c / 64 % 64) ∷ (0x80 + c % 64) ∷ []
 
+-- the bytes of a code point that takes four
 abbrev pub four : ℕ → List ℕ
 four c = (0xf0 + c / 262144) ∷ (0x80 + c / 4096 % 64) ∷ (0x80 + c / 64 % 64) ∷ (0x80 + c % 64) ∷ []
 

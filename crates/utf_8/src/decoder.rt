@@ -5,6 +5,7 @@ ghost use lib.ListN.{drop};
 ghost use Rattle.utf_8.specs.Utf8.{lowerOf, upperOf, state, nextFrom, nextAt, wellFormed};
 use crate::Char;
 
+// A byte as a number that six more bits can be added to.
 fn wide(x: u8) -> u32
     ensures { λ r. ⌜ r ≡ x ⌝ }
 {
@@ -55,6 +56,7 @@ fn one_more(text: &[u8], at: usize, code: u32, lower: u8, upper: u8) -> Char
     Char::Code(code * 64 + wide(b) % 64, at + 1)
 }
 
+// Two more bytes; the boundaries are those of the first.
 fn two_more(text: &[u8], at: usize, code: u32, lower: u8, upper: u8) -> Char
     requires { ⌜ code < 0x1000 ⌝ }
     ensures { λ r. ⌜ r ≡ nextFrom (state code 0 2 lower upper) at (drop at (now (text .entry))) ⌝ }
@@ -66,6 +68,7 @@ fn two_more(text: &[u8], at: usize, code: u32, lower: u8, upper: u8) -> Char
     }
 }
 
+// Three more bytes; the boundaries are those of the first.
 fn three_more(text: &[u8], at: usize, code: u32, lower: u8, upper: u8) -> Char
     requires { ⌜ code < 0x20 ⌝ }
     ensures { λ r. ⌜ r ≡ nextFrom (state code 0 3 lower upper) at (drop at (now (text .entry))) ⌝ }
@@ -77,7 +80,7 @@ fn three_more(text: &[u8], at: usize, code: u32, lower: u8, upper: u8) -> Char
     }
 }
 
-// The code point at `at`, or the ill-formed part there. ASCII is told first.
+// The code point at `at`, or the ill-formed part there. ASCII is told first, since most text is ASCII.
 pub fn next(text: &[u8], at: usize) -> Char
     ensures { λ r. ⌜ r ≡ nextAt (now (text .entry)) at ⌝ }
 {

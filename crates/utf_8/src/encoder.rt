@@ -73,6 +73,29 @@ fn put_replacement(out: &mut [u8], at: usize) -> Put
     put_3(out, at, 0xef, 0xbf, 0xbd)
 }
 
+// A code point of three bytes, of the Basic Multilingual Plane.
+fn put_basic(out: &mut [u8], at: usize, code: u32) -> Put
+    requires { ⌜ code < 0x10000 ⌝ }
+    ensures { λ r. ⌜ Wrote (three code) (now (out .entry)) at r (now (out .exit)) ⌝ }
+{
+    let a = (0xe0 + code / 4096) as u8;
+    let b = (0x80 + code / 64 % 64) as u8;
+    let c = (0x80 + code % 64) as u8;
+    put_3(out, at, a, b, c)
+}
+
+// A code point of four bytes, of a supplementary plane.
+fn put_supplementary(out: &mut [u8], at: usize, code: u32) -> Put
+    requires { ⌜ code < 0x110000 ⌝ }
+    ensures { λ r. ⌜ Wrote (four code) (now (out .entry)) at r (now (out .exit)) ⌝ }
+{
+    let a = (0xf0 + code / 262144) as u8;
+    let b = (0x80 + code / 4096 % 64) as u8;
+    let c = (0x80 + code / 64 % 64) as u8;
+    let d = (0x80 + code % 64) as u8;
+    put_4(out, at, a, b, c, d)
+}
+
 // The bytes of one code point from `at` on, all of them or none. A number that is no scalar value counts as U+FFFD.
 pub fn put(out: &mut [u8], at: usize, code: u32) -> Put
     ensures { λ r. ⌜ Wrote (utf8Of code) (now (out .entry)) at r (now (out .exit)) ⌝ }
@@ -98,29 +121,6 @@ pub fn put(out: &mut [u8], at: usize, code: u32) -> Put
         return put_supplementary(out, at, code);
     }
     put_replacement(out, at)
-}
-
-// A code point of three bytes, of the Basic Multilingual Plane.
-fn put_basic(out: &mut [u8], at: usize, code: u32) -> Put
-    requires { ⌜ code < 0x10000 ⌝ }
-    ensures { λ r. ⌜ Wrote (three code) (now (out .entry)) at r (now (out .exit)) ⌝ }
-{
-    let a = (0xe0 + code / 4096) as u8;
-    let b = (0x80 + code / 64 % 64) as u8;
-    let c = (0x80 + code % 64) as u8;
-    put_3(out, at, a, b, c)
-}
-
-// A code point of four bytes, of a supplementary plane.
-fn put_supplementary(out: &mut [u8], at: usize, code: u32) -> Put
-    requires { ⌜ code < 0x110000 ⌝ }
-    ensures { λ r. ⌜ Wrote (four code) (now (out .entry)) at r (now (out .exit)) ⌝ }
-{
-    let a = (0xf0 + code / 262144) as u8;
-    let b = (0x80 + code / 4096 % 64) as u8;
-    let c = (0x80 + code / 64 % 64) as u8;
-    let d = (0x80 + code % 64) as u8;
-    put_4(out, at, a, b, c, d)
 }
 
 // How many bytes a code point takes.

@@ -1,20 +1,16 @@
+-- `utf_8::decoder::lower_of` meets its contract. Each exit is a law of `Decodes`. Assumes nothing.
 use Rattle.utf_8.proofs.Decodes.{lower-e0, lower-f0, lower-other}
 use Rattle.utf_8.proofs.decoder.lower_of.Statement.{statement}
 use Rattle.utf_8.proofs.decoder.lower_of.Tie as tie
-use Rattle.utf_8.proofs.decoder.lower_of.Reads as reads
-use Rattle.utf_8.proofs.decoder.lower_of.Lts as lts
 
 ruleset exits = (lower-e0, lower-f0, lower-other)
 
--- src/decoder.rt:20:9
 returns : tie.Need-returns
 returns c = search exits
 
--- src/decoder.rt:23:9
 returns-2 : tie.Need-returns-2
 returns-2 c = search exits
 
--- src/decoder.rt:16:1
 returns-3 : tie.Need-returns-3
 returns-3 c = search exits
 

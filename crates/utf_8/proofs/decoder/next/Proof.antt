@@ -1,115 +1,83 @@
+-- `utf_8::decoder::next` meets its contract. Each exit is a law of `Decodes`. Assumes nothing.
 use Rattle.utf_8.proofs.Decodes.{next-end, next-one, next-trail, next-two, next-three, next-four, next-past}
 use borrow.Author.Needs.{needs}
 use Rattle.utf_8.proofs.decoder.next.Statement.{statement}
 use Rattle.utf_8.proofs.decoder.next.Tie as tie
-use Rattle.utf_8.proofs.decoder.next.Reads as reads
-use Rattle.utf_8.proofs.decoder.next.Lts as lts
-use Rattle.utf_8.proofs.decoder.lower_of.Reads as lower-of-reads
-use Rattle.utf_8.proofs.decoder.one_more.Reads as one-more-reads
-use Rattle.utf_8.proofs.decoder.three_more.Reads as three-more-reads
-use Rattle.utf_8.proofs.decoder.two_more.Reads as two-more-reads
-use Rattle.utf_8.proofs.decoder.upper_of.Reads as upper-of-reads
-use Rattle.utf_8.proofs.decoder.wide.Reads as wide-reads
 
 ruleset exits = (next-end, next-one, next-trail, next-two, next-three, next-four, next-past)
 
--- src/decoder.rt:86:9
 returns : tie.Need-returns
 returns c = search exits
 
--- src/decoder.rt:88:13
 shared-slice-read-b : tie.Need-shared-slice-read-b
 shared-slice-read-b c = search needs
 
--- src/decoder.rt:90:27
 cast-t8 : tie.Need-cast-t8
 cast-t8 c = search needs
 
--- src/decoder.rt:90:37
 add-t9 : tie.Need-add-t9
 add-t9 c = search needs
 
--- src/decoder.rt:90:9
 returns-2 : tie.Need-returns-2
 returns-2 c = search exits
 
--- src/decoder.rt:93:28
 add-t10 : tie.Need-add-t10
 add-t10 c = search needs
 
--- src/decoder.rt:93:9
 returns-3 : tie.Need-returns-3
 returns-3 c = search exits
 
--- src/decoder.rt:96:31
 add-one-more : tie.Need-add-one-more
 add-one-more c = search needs
 
--- src/decoder.rt:96:39
 wide-requires : tie.Need-wide-requires
 wide-requires c κs = search needs
 
--- src/decoder.rt:96:9
 one-more-requires : tie.Need-one-more-requires
 one-more-requires c κs = search needs
 
--- src/decoder.rt:96:9
 returns-4 : tie.Need-returns-4
 returns-4 c = search exits
 
--- src/decoder.rt:99:31
 add-two-more : tie.Need-add-two-more
 add-two-more c = search needs
 
--- src/decoder.rt:99:39
 wide-requires-2 : tie.Need-wide-requires-2
 wide-requires-2 c κs = search needs
 
--- src/decoder.rt:99:53
 lower-of-requires : tie.Need-lower-of-requires
 lower-of-requires c κs = search needs
 
--- src/decoder.rt:99:66
 upper-of-requires : tie.Need-upper-of-requires
 upper-of-requires c κs = search needs
 
--- src/decoder.rt:99:9
 two-more-requires : tie.Need-two-more-requires
 two-more-requires c κs = search needs
 
--- src/decoder.rt:99:9
 returns-5 : tie.Need-returns-5
 returns-5 c = search exits
 
--- src/decoder.rt:102:33
 add-three-more : tie.Need-add-three-more
 add-three-more c = search needs
 
--- src/decoder.rt:102:41
 wide-requires-3 : tie.Need-wide-requires-3
 wide-requires-3 c κs = search needs
 
--- src/decoder.rt:102:54
 lower-of-requires-2 : tie.Need-lower-of-requires-2
 lower-of-requires-2 c κs = search needs
 
--- src/decoder.rt:102:67
 upper-of-requires-2 : tie.Need-upper-of-requires-2
 upper-of-requires-2 c κs = search needs
 
--- src/decoder.rt:102:9
 three-more-requires : tie.Need-three-more-requires
 three-more-requires c κs = search needs
 
--- src/decoder.rt:102:9
 returns-6 : tie.Need-returns-6
 returns-6 c = search exits
 
--- src/decoder.rt:104:17
 add-t4 : tie.Need-add-t4
 add-t4 c = search needs
 
--- src/decoder.rt:82:1
 returns-7 : tie.Need-returns-7
 returns-7 c = search exits
 

@@ -1,46 +1,35 @@
+-- `utf_8::decoder::one_more` meets its contract. Each exit is a law of `Decodes`. Assumes nothing.
 use Rattle.utf_8.proofs.Decodes.{more-end, more-below, more-above, more-last}
 use borrow.Author.Needs.{needs}
 use Rattle.utf_8.proofs.decoder.one_more.Statement.{statement}
 use Rattle.utf_8.proofs.decoder.one_more.Tie as tie
-use Rattle.utf_8.proofs.decoder.one_more.Reads as reads
-use Rattle.utf_8.proofs.decoder.one_more.Lts as lts
-use Rattle.utf_8.proofs.decoder.wide.Reads as wide-reads
 
 ruleset exits = (more-end, more-below, more-above, more-last)
 
--- src/decoder.rt:47:9
 returns : tie.Need-returns
 returns c = search exits
 
--- src/decoder.rt:49:13
 shared-slice-read-b : tie.Need-shared-slice-read-b
 shared-slice-read-b c = search needs
 
--- src/decoder.rt:51:9
 returns-2 : tie.Need-returns-2
 returns-2 c = search exits
 
--- src/decoder.rt:54:9
 returns-3 : tie.Need-returns-3
 returns-3 c = search exits
 
--- src/decoder.rt:56:16
 mul-t11 : tie.Need-mul-t11
 mul-t11 c = search needs
 
--- src/decoder.rt:56:28
 wide-requires : tie.Need-wide-requires
 wide-requires c κs = search needs
 
--- src/decoder.rt:56:16
 add-t14 : tie.Need-add-t14
 add-t14 c = search needs
 
--- src/decoder.rt:56:42
 add-t7 : tie.Need-add-t7
 add-t7 c = search needs
 
--- src/decoder.rt:42:1
 returns-4 : tie.Need-returns-4
 returns-4 c = search exits
 

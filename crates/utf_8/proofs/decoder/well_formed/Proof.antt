@@ -1,15 +1,12 @@
+-- `utf_8::decoder::well_formed` meets its contract. The loop's invariant: the text is well-formed where what is left of it is. Each exit is a law of `Items`. Assumes nothing.
 use mathlib.Core.Path.{_≡_, refl}
-use Prim.Native.Nat.{_≤_, _-_}
-use native.Mathlib.Omega.{arith}
+use Prim.Native.Nat.{_-_}
 use lib.ListN.{length, drop}
 use Rattle.utf_8.specs.Utf8.{wellFormed}
 use Rattle.utf_8.proofs.Items.{formed-again, formed-less, formed-not, formed-none, formed-end}
 use borrow.Author.Needs.{needs}
 use Rattle.utf_8.proofs.decoder.well_formed.Statement.{statement}
 use Rattle.utf_8.proofs.decoder.well_formed.Tie as tie
-use Rattle.utf_8.proofs.decoder.well_formed.Reads as reads
-use Rattle.utf_8.proofs.decoder.well_formed.Lts as lts
-use Rattle.utf_8.proofs.decoder.next.Reads as next-reads
 
 ruleset exits = (formed-not, formed-none, formed-end)
 
@@ -19,43 +16,33 @@ Inv-loop text at₀ at = wellFormed text ≡ wellFormed (drop at text)
 abbrev μ-loop : tie.MeasureT-loop
 μ-loop text at₀ at = length text - at
 
--- src/decoder.rt:111:5
 loop-holds : tie.Need-loop-holds Inv-loop μ-loop
 loop-holds c = refl
 
--- src/decoder.rt:112:15
 next-requires : tie.Need-next-requires Inv-loop μ-loop
 next-requires c κs = search needs
 
--- src/decoder.rt:113:27
 enum-known-e : tie.Need-enum-known-e Inv-loop μ-loop
 enum-known-e c = search needs
 
--- src/decoder.rt:111:5
 loop-less : tie.Need-loop-less Inv-loop μ-loop
 loop-less c = search formed-less
 
--- src/decoder.rt:111:5
 loop-again : tie.Need-loop-again Inv-loop μ-loop
 loop-again c = search formed-again
 
--- src/decoder.rt:114:31
 enum-told : tie.Need-enum-told Inv-loop μ-loop
 enum-told c = search needs
 
--- src/decoder.rt:114:31
 returns : tie.Need-returns Inv-loop μ-loop
 returns c = search exits
 
--- src/decoder.rt:115:26
 enum-told-2 : tie.Need-enum-told-2 Inv-loop μ-loop
 enum-told-2 c = search needs
 
--- src/decoder.rt:115:26
 returns-2 : tie.Need-returns-2 Inv-loop μ-loop
 returns-2 c = search exits
 
--- src/decoder.rt:107:1
 returns-3 : tie.Need-returns-3 Inv-loop μ-loop
 returns-3 c = search exits
 

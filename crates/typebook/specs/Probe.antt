@@ -1,0 +1,17 @@
+-- What the parts of the look-up by an index promise each other. Assumes nothing.
+use mathlib.Core.Path.{_≡_}
+use mathlib.Core.List.{List}
+use Prim.Native.Nat.{ℕ}
+use lib.ListN.{length}
+use Rattle.typebook.specs.Find.{NamedBlock, Slots}
+use Rattle.typebook.specs.declared.type_provider.Found.{Found}
+use Rattle.typebook.specs.declared.type_provider.Found.the-variants.{At}
+
+-- a block that was found in a slot is a type block of that name
+pub record Probed (book name : List ℕ) (r : Found) : Type 0 where
+  pub at : (n : ℕ) → r ≡ At n → NamedBlock book name n
+
+-- an index stays one of the book
+pub record Entered (book before after : List ℕ) : Type 0 where
+  pub kept : length after ≡ length before
+  pub slots : Slots book before → Slots book after
