@@ -1,0 +1,6 @@
+-- Laws that the functions' proofs cite.
+mod Texts
+mod Steps
+mod Answers
+pub mod Categories
+pub mod Validities

@@ -1,0 +1,5 @@
+pub mod Unit16
+pub mod Decode
+pub mod Encode
+pub mod WString
+pub mod Step

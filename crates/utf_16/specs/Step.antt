@@ -1,0 +1,23 @@
+-- What the private functions of this crate promise. Assumes nothing.
+use mathlib.Core.Path.{_≡_}
+use mathlib.Core.List.{List, _∷_}
+use Prim.Native.Nat.{ℕ, _+_, _≤_, _<_}
+use lib.ListN.{length, getD, drop}
+use Rattle.utf_16.specs.Unit16.{unitOf}
+
+-- the two bytes at a place are the code unit u
+pub record UnitAt (bytes : List ℕ) (at u : ℕ) : Type 0 where
+  pub is : u ≡ unitOf (getD bytes at 0) (getD bytes (at + 1) 0)
+
+-- the code unit at a place is a surrogate
+pub record SurrogateAt (bytes : List ℕ) (at u : ℕ) : Type 0 where
+  pub unit : UnitAt bytes at u
+  pub whole : at + 2 ≤ length bytes
+  pub from : 0xD800 ≤ u
+  pub to : u ≤ 0xDFFF
+
+-- at a place stands the scalar value `code`, and `next` is the place after it, where `scalarsOf` gives the scalar values of bytes
+pub record ScalarAt (scalarsOf : List ℕ → List ℕ) (bytes : List ℕ) (at code next : ℕ) : Type 0 where
+  pub is : scalarsOf (drop at bytes) ≡ code ∷ scalarsOf (drop next bytes)
+  pub later : at < next
+  pub within : next ≤ length bytes

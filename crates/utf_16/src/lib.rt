@@ -1,0 +1,297 @@
+// UTF-16LE, the encoding of a WSTRING: where its text ends, the text decoded to UTF-8, and UTF-8 encoded.
+ghost use mathlib.Core.Path.{_≡_};
+ghost use mathlib.Core.List.{_++_};
+ghost use Prim.Native.Nat.{_+_, _≤_, _<_};
+ghost use lib.ListN.{length};
+ghost use lib.Dec.{leb};
+ghost use Rattle.utf_8.specs.Utf8.{scalars};
+ghost use Rattle.utf_8.specs.Buffer.{Wrote, roomFor};
+ghost use Rattle.utf_16.specs.Decode.{decodeScalars, decodeText};
+ghost use Rattle.utf_16.specs.Encode.{unitBytes, utf16Of, encodeText};
+ghost use Rattle.utf_16.specs.WString.{wstringEnd};
+ghost use Rattle.utf_16.specs.Step.{UnitAt, SurrogateAt, ScalarAt};
+use utf_8::Char;
+use utf_8::Put;
+use utf_8::Room;
+use utf_8::TextEnd;
+use utf_8::decoder::next;
+use utf_8::encoder::put;
+use utf_8::encoder::utf8_len;
+
+// What an error is replaced by.
+const REPLACEMENT: u32 = 0xfffd;
+
+// A scalar value, and the place after it.
+struct Scalar {
+    code: u32,
+    next: usize,
+}
+
+// A byte as a number that a code unit can be made of.
+fn wide(x: u8) -> u32
+    ensures { λ r. ⌜ (r ≡ x) × (r < 256) ⌝ }
+{
+    x as u32
+}
+
+// The code unit at a place, its low byte first.
+fn unit(bytes: &[u8], at: usize) -> u32
+    requires { ⌜ at + 2 ≤ length (now bytes) ⌝ }
+    ensures { λ r. ⌜ UnitAt (now (bytes .entry)) at r ⌝ }
+{
+    wide(bytes[at]) + wide(bytes[at + 1]) * 256
+}
+
+// Where the text of a WSTRING ends: at the first aligned zero pair, else after all bytes.
+pub fn wstring_end(bytes: &[u8]) -> TextEnd
+    ensures { λ r. ⌜ r ≡ wstringEnd (now (bytes .entry)) ⌝ }
+{
+    let mut at = 0;
+    while bytes.len() - at >= 2 {
+        if unit(bytes, at) == 0 {
+            return TextEnd::Terminated(at);
+        }
+        at += 2;
+    }
+    TextEnd::Unterminated(bytes.len())
+}
+
+// The scalar value that a surrogate at a place begins; U+FFFD for an error.
+fn surrogate(bytes: &[u8], at: usize, lead: u32) -> Scalar
+    requires { ⌜ SurrogateAt (now bytes) at lead ⌝ }
+    ensures { λ r. ⌜ ScalarAt decodeScalars (now (bytes .entry)) at (r .code) (r .next) ⌝ }
+{
+    if lead > 0xdbff {
+        // A trailing surrogate alone.
+        return Scalar {
+            code: REPLACEMENT,
+            next: at + 2,
+        };
+    }
+    if bytes.len() - at < 4 {
+        // A leading surrogate at the end: one error, also where an odd byte follows it.
+        return Scalar {
+            code: REPLACEMENT,
+            next: bytes.len(),
+        };
+    }
+    let trail = unit(bytes, at + 2);
+    if trail < 0xdc00 {
+        return Scalar {
+            code: REPLACEMENT,
+            next: at + 2,
+        };
+    }
+    if trail > 0xdfff {
+        return Scalar {
+            code: REPLACEMENT,
+            next: at + 2,
+        };
+    }
+    let code = 0x10000 + (lead - 0xd800) * 0x400 + (trail - 0xdc00);
+    Scalar { code, next: at + 4 }
+}
+
+// The scalar value at a place of UTF-16LE bytes; U+FFFD for an error. Most units are no surrogates, and are told first.
+fn scalar_16(bytes: &[u8], at: usize) -> Scalar
+    requires { ⌜ at < length (now bytes) ⌝ }
+    ensures { λ r. ⌜ ScalarAt decodeScalars (now (bytes .entry)) at (r .code) (r .next) ⌝ }
+{
+    if bytes.len() - at < 2 {
+        // An odd byte at the end.
+        return Scalar {
+            code: REPLACEMENT,
+            next: at + 1,
+        };
+    }
+    let code = unit(bytes, at);
+    if code < 0xd800 {
+        return Scalar { code, next: at + 2 };
+    }
+    if code > 0xdfff {
+        return Scalar { code, next: at + 2 };
+    }
+    surrogate(bytes, at, code)
+}
+
+// How many bytes the text takes in UTF-8, where that is at most `room`.
+pub fn decoded_len(bytes: &[u8], room: usize) -> Room
+    ensures { λ r. ⌜ r ≡ roomFor (length (decodeText (now (bytes .entry)))) room ⌝ }
+{
+    let mut at = 0;
+    let mut used = 0;
+    while at < bytes.len() {
+        let here = scalar_16(bytes, at);
+        let n = utf8_len(here.code);
+        if room - used < n {
+            return Room::Over;
+        }
+        used += n;
+        at = here.next;
+    }
+    Room::Fits(used)
+}
+
+// Whether the text takes at most `room` bytes in UTF-8. No byte gives more than three, so a short text is not measured.
+fn fits_in(bytes: &[u8], room: usize) -> bool
+    ensures { λ r. ⌜ r ≡ leb (length (decodeText (now (bytes .entry)))) room ⌝ }
+{
+    if bytes.len() <= room / 3 {
+        return true;
+    }
+    match decoded_len(bytes, room) {
+        Room::Fits(_) => true,
+        Room::Over => false,
+    }
+}
+
+// Writes the text in UTF-8 from `at` on, where it fits, and gives the place after it.
+fn write_8(bytes: &[u8], out: &mut [u8], at: usize) -> usize
+    requires { ⌜ at + length (decodeText (now bytes)) ≤ length (now out) ⌝ }
+    ensures { λ r. ⌜ Wrote (decodeText (now (bytes .entry))) (now (out .entry)) at (Put.Next r) (now (out .exit)) ⌝ }
+{
+    let mut from = 0;
+    let mut to = at;
+    while from < bytes.len() {
+        let here = scalar_16(bytes, from);
+        let Put::Next(end) = put(out, to, here.code) else {
+            return to;
+        };
+        to = end;
+        from = here.next;
+    }
+    to
+}
+
+// Decodes UTF-16LE to UTF-8 from `at` on; the buffer is not touched where the text does not fit. An empty text fits anywhere.
+pub fn decode(bytes: &[u8], out: &mut [u8], at: usize) -> Put
+    ensures { λ r. ⌜ Wrote (decodeText (now (bytes .entry))) (now (out .entry)) at r (now (out .exit)) ⌝ }
+{
+    if bytes.len() == 0 {
+        return Put::Next(at);
+    }
+    if out.len() < at {
+        return Put::Full;
+    }
+    if fits_in(bytes, out.len() - at) {
+        return Put::Next(write_8(bytes, out, at));
+    }
+    Put::Full
+}
+
+// The scalar value at a place of a UTF-8 text; U+FFFD for what is ill-formed.
+fn scalar_8(text: &[u8], at: usize) -> Scalar
+    requires { ⌜ at < length (now text) ⌝ }
+    ensures { λ r. ⌜ ScalarAt scalars (now (text .entry)) at (r .code) (r .next) ⌝ }
+{
+    match next(text, at) {
+        Char::Code(code, next) => Scalar { code, next },
+        Char::Error(next) => Scalar {
+            code: REPLACEMENT,
+            next,
+        },
+        Char::End => Scalar {
+            code: REPLACEMENT,
+            next: at,
+        },
+    }
+}
+
+// How many bytes a scalar value takes in UTF-16.
+fn utf16_len(code: u32) -> usize
+    ensures { λ r. ⌜ r ≡ length (utf16Of code) ⌝ }
+{
+    if code < 0x10000 {
+        return 2;
+    }
+    4
+}
+
+// Writes a code unit from `at` on, its low byte first, where it fits.
+fn put_unit(out: &mut [u8], at: usize, unit: u32) -> Put
+    ensures { λ r. ⌜ Wrote (unitBytes unit) (now (out .entry)) at r (now (out .exit)) ⌝ }
+{
+    if out.len() < at {
+        return Put::Full;
+    }
+    if out.len() - at < 2 {
+        return Put::Full;
+    }
+    out[at] = (unit % 256) as u8;
+    out[at + 1] = (unit / 256 % 256) as u8;
+    Put::Next(at + 2)
+}
+
+// Writes a surrogate pair from `at` on, all of it or nothing.
+fn put_pair(out: &mut [u8], at: usize, lead: u32, trail: u32) -> Put
+    ensures { λ r. ⌜ Wrote (unitBytes lead ++ unitBytes trail) (now (out .entry)) at r (now (out .exit)) ⌝ }
+{
+    if out.len() < at {
+        return Put::Full;
+    }
+    if out.len() - at < 4 {
+        return Put::Full;
+    }
+    out[at] = (lead % 256) as u8;
+    out[at + 1] = (lead / 256 % 256) as u8;
+    out[at + 2] = (trail % 256) as u8;
+    out[at + 3] = (trail / 256 % 256) as u8;
+    Put::Next(at + 4)
+}
+
+// Writes a scalar value from `at` on, where it fits.
+fn put_16(out: &mut [u8], at: usize, code: u32) -> Put
+    ensures { λ r. ⌜ Wrote (utf16Of code) (now (out .entry)) at r (now (out .exit)) ⌝ }
+{
+    if code < 0x10000 {
+        return put_unit(out, at, code);
+    }
+    let over = code - 0x10000;
+    put_pair(out, at, 0xd800 + over / 0x400, 0xdc00 + over % 0x400)
+}
+
+// How many bytes the text takes in UTF-16, where that is at most `room`.
+pub fn encoded_len(text: &[u8], room: usize) -> Room
+    ensures { λ r. ⌜ r ≡ roomFor (length (encodeText (now (text .entry)))) room ⌝ }
+{
+    let mut at = 0;
+    let mut used = 0;
+    while at < text.len() {
+        let here = scalar_8(text, at);
+        let size = utf16_len(here.code);
+        if room - used < size {
+            return Room::Over;
+        }
+        used += size;
+        at = here.next;
+    }
+    Room::Fits(used)
+}
+
+// Writes the text in UTF-16LE, where it fits, and gives the place after it.
+fn write_16(text: &[u8], out: &mut [u8]) -> usize
+    requires { ⌜ length (encodeText (now text)) ≤ length (now out) ⌝ }
+    ensures { λ r. ⌜ Wrote (encodeText (now (text .entry))) (now (out .entry)) 0 (Put.Next r) (now (out .exit)) ⌝ }
+{
+    let mut from = 0;
+    let mut to = 0;
+    while from < text.len() {
+        let here = scalar_8(text, from);
+        let Put::Next(end) = put_16(out, to, here.code) else {
+            return to;
+        };
+        to = end;
+        from = here.next;
+    }
+    to
+}
+
+// Encodes UTF-8 to UTF-16LE; the buffer is not touched where the text does not fit.
+pub fn encode(text: &[u8], out: &mut [u8]) -> Put
+    ensures { λ r. ⌜ Wrote (encodeText (now (text .entry))) (now (out .entry)) 0 r (now (out .exit)) ⌝ }
+{
+    match encoded_len(text, out.len()) {
+        Room::Fits(_) => Put::Next(write_16(text, out)),
+        Room::Over => Put::Full,
+    }
+}

@@ -1,0 +1,153 @@
+"""Writes files of recorded cases for the program `vectors`.
+
+A file is a run of pages: 4 bytes, the page's length (at most 65,536), and that many bytes of whole cases.
+Numbers are little-endian. A case:
+
+    1 byte    operation
+    2 bytes   length of the buffer that is lent to the call, 0 where it takes none; each byte of it is A5h before
+    2 bytes   length of the input, and the input
+    2 bytes   length of the recorded answer, and the answer
+
+The program runs the operation on the input and compares what it answers with the recorded bytes. The operations of the
+first layer, with their inputs and answers (u16, u32, u64: numbers; `lent`: all of the lent buffer after the call):
+
+     1  windows_1252::code_point    byte                        u32
+     2  windows_1252::byte_of       u32                         1 and the byte, or 0
+     3  windows_1252::string_end    bytes                       1 if a zero was found, else 0; u32 place
+     4  windows_1252::decoded_len   u16 room, bytes             0, u64 length; or 15
+     5  windows_1252::decode        u16 place, bytes            0, u64 next place, lent; or 15, lent
+     6  windows_1252::encoded_len   u16 room, text              0, u64 length; or 15
+     7  windows_1252::encode        text                        0, u64 length, lent; or 15, lent
+     8  utf_16::wstring_end         as 3
+     9  utf_16::decoded_len         as 4
+    10  utf_16::decode              as 5
+    11  utf_16::encoded_len         as 6
+    12  utf_16::encode              as 7
+    13  utf_8::decoder::well_formed text                        1 or 0
+    14  utf_8::decoder::next        text                        from place 0 to the end: u32 code point, or FFFFFFFFh for
+                                                                an ill-formed part, and u32 place after it
+    15  utf_8::encoder::put         u16 place, u32 code point   0, u64 next place, lent; or 15, lent
+    16  utf_8::encoder::utf8_len    u32 code point              byte
+    32  AdsTypeId                   u32                         its place in the list of ids (Unknown: 17), u32 back
+    33  le::le_value                bytes                       u64
+    34  le::le_u32                  bytes                       u32
+    35  le::le_store                u64                         lent
+    36  integer, read               u32 id, bytes               0, kind 7 or 8, width, u64 bits; or 10, 11
+    37  integer, written            u32 id, kind, width, u64    0, 10, 17 or 19, then lent
+    38  real, read                  u32 id, bytes               0, kind 9 or 10, 0, u64 bits; or 10, 11
+    39  real, written               kind, u64 bits              0 or 10, then lent
+
+The numbers 10, 11, 15, 17 and 19 are document 01's refusals, the kinds 7 to 10 those of its tape.
+
+The operations on books. The program keeps one book from case to case (a buffer of 262,144 bytes, 512 blocks); `packed` bytes have
+each run of 1 to 255 zeros as two bytes, 0 and its length, and every other byte as it is; a refusal is its number and,
+for 7, the u32 block:
+
+    64  book                        0 or 1, packed              0: the book is these bytes; 1: they follow it. u32 length
+    65  check_root                  u64 root                    0 to 5
+    66  check_book, a byte changed  u32 place, value, 0 or 1    0 to 4. The byte is changed, with 1 the block's sum is made
+                                                                right, and after the check both are put back
+    67  determine                   width, u32 block            the category's place in the Rust's list (None: 0)
+    68  resolve_alias               width, u32 root             0, u32 block; or a refusal
+    69  resolve_indirection         width, u32 root             0, u32 block; or a refusal
+    70  requires_read_modify_write  width, u32 root             0, 1 or 0; or a refusal
+    71  missing_types               width, u32 root             0, whole (1 or 0), u32 count, the u32 blocks; or a refusal
+    72  resolve_fields              width, u32 root             0, for each field u32 offset, size, type block, field block;
+                                                                or a refusal
+    73  read                        width, u32 root, u32 bytes  0, u32 tape bytes, u32 text bytes, both packed; or a
+                                    of tape, u32 of text room,  refusal. Then 1 if the rest of tape and text is as
+                                    memory                      document 01 has it (as before; zeros after a refusal)
+    74  write                       width, u32 root, u16 image, 0, the output packed; or a refusal, and 1 if the output
+                                    u16 tape, image, tape,      then is the image
+                                    text, tape and text packed
+"""
+
+import struct
+
+PAGE = 65536
+FILL = 0xA5
+
+CODE_POINT, BYTE_OF, STRING_END, DECODED_LEN, DECODE, ENCODED_LEN, ENCODE = range(1, 8)
+WSTRING_END, WDECODED_LEN, WDECODE, WENCODED_LEN, WENCODE = range(8, 13)
+WELL_FORMED, ITEMS, PUT, UTF8_LEN = range(13, 17)
+TYPE_ID, LE_VALUE, LE_U32, LE_STORE, INTEGER_READ, INTEGER_WRITE, REAL_READ, REAL_WRITE = range(32, 40)
+BOOK, CHECK, CHANGED, CATEGORY, ALIAS, INDIRECTION, RMW, MISSING, FIELDS, READ, WRITE = range(64, 75)
+
+
+def u16(n):
+    return struct.pack("<H", n)
+
+
+def u32(n):
+    return struct.pack("<I", n)
+
+
+def u64(n):
+    return struct.pack("<Q", n)
+
+
+class CaseFile:
+    def __init__(self):
+        self.cases = []
+        self.seen = set()
+
+    def add(self, operation, given, answer, lent=0):
+        case = struct.pack("<BHH", operation, lent, len(given)) + given + u16(len(answer)) + answer
+        assert len(case) <= PAGE, (operation, len(given), len(answer))
+        if case not in self.seen:
+            self.seen.add(case)
+            self.cases.append(case)
+
+    def add_in_order(self, operation, given, answer, lent=0):
+        """A case that leans on the one before it, and so is kept even if it was there."""
+        case = struct.pack("<BHH", operation, lent, len(given)) + given + u16(len(answer)) + answer
+        assert len(case) <= PAGE, (operation, len(given), len(answer))
+        self.cases.append(case)
+
+    def write(self, path):
+        pages, page = [], []
+        size = 0
+        for case in self.cases:
+            if size + len(case) > PAGE:
+                pages.append(b"".join(page))
+                page, size = [], 0
+            page.append(case)
+            size += len(case)
+        if page:
+            pages.append(b"".join(page))
+        data = b"".join(u32(len(p)) + p for p in pages)
+        with open(path, "wb") as f:
+            f.write(data)
+        print(f"{path}: {len(self.cases)} cases, {len(data)} bytes")
+
+
+def lent_answer(data, place, room):
+    """What a call answers that writes `data` at a place of a lent buffer: where it does not fit, 15 and the buffer as before."""
+    before = bytes([FILL]) * room
+    if not data:
+        return b"\0" + u64(place) + before
+    if place + len(data) > room:
+        return b"\x0f" + before
+    return b"\0" + u64(place + len(data)) + before[:place] + data + before[place + len(data):]
+
+
+def room_answer(length, room):
+    return b"\0" + u64(length) if length <= room else b"\x0f"
+
+
+def packed(data):
+    """Each run of 1 to 255 zeros as 0 and its length, every other byte as it is."""
+    out, at = bytearray(), 0
+    while at < len(data):
+        if data[at]:
+            end = data.find(0, at)
+            end = len(data) if end < 0 else end
+            out += data[at:end]
+            at = end
+        else:
+            n = 1
+            while n < 255 and data[at + n:at + n + 1] == b"\0":
+                n += 1
+            out += bytes([0, n])
+            at += n
+    return bytes(out)
