@@ -107,8 +107,10 @@ class Recorder:
             answer = refusal(words) + b"\1"
         else:
             answer = b"\0" + packed(b"" if words[1] == "-" else bytes.fromhex(words[1]))
+        if len(tape) > TAPE:
+            return
         given = bytes([width]) + u32(n) + u16(len(image)) + u16(len(tape)) + image + packed(tape + text)
-        if len(tape) < 65536 and len(given) + len(answer) < 60000:
+        if len(given) + len(answer) < 60000:
             file.add_in_order(WRITE, given, answer)
 
     # -- files
@@ -261,10 +263,14 @@ class Recorder:
         yield b.Book([b.Type("S", size=4, fields=[b.Field("a", "S", 0, 4)])]), 8, 0
 
     def random(self, seed, count):
-        for k in range(count):
+        """That many random books that the program has room for, one in four drawn without sense."""
+        k = 0
+        while count:
             rng = Random(seed + k)
             made = self.b.gen_book(rng) if k % 4 else self.b.gen_chaos(rng)
+            k += 1
             if len(made.book.bytes()) <= ROOM:
+                count -= 1
                 yield rng, made
 
     def walks(self, count=5000):
