@@ -1,0 +1,131 @@
+// Replays a file of recorded cases, page by page.
+ghost use Prim.Native.Nat.{_<_};
+use crate::input::byte_at;
+use crate::input::first;
+use crate::input::from;
+use crate::input::u16_at;
+use crate::operation;
+use crate::report;
+use crate::report::Tally;
+
+// What a lent buffer holds before each case.
+const FILL: u8 = 0xa5;
+
+// The length of a case's fields before its input: operation, length of the lent buffer, length of the input.
+const HEAD: usize = 5;
+
+// Reads the next page into `page` and returns its length: 0 at the end of the file, and where a page is cut short or
+// longer than the buffer.
+fn read_page(fd: i32, page: &mut [u8]) -> usize {
+    let mut head = [0u8; 4];
+    if io::read_full(fd, &mut head) < 4 {
+        return 0;
+    }
+    let n = number::le::le_u32(&head) as usize;
+    if n <= page.len() {
+        if io::read_full(fd, &mut page[0..n]) == n {
+            return n;
+        }
+    }
+    0
+}
+
+fn fill(out: &mut [u8]) {
+    let mut i = 0;
+    while i < out.len() {
+        out[i] = FILL;
+        i += 1;
+    }
+}
+
+// Runs a case's operation on a filled buffer and compares the answer with the recorded one.
+fn same_answer(case: &[u8], recorded: &[u8], out: &mut [u8], answer: &mut [u8]) -> bool {
+    fill(out);
+    let n = operation::run(byte_at(case, 0), from(case, HEAD), out, answer);
+    check::same(recorded, first(answer, n))
+}
+
+// The same with a buffer of the length that the case asks for.
+fn agrees(case: &[u8], recorded: &[u8], work: &mut [u8], answer: &mut [u8]) -> bool {
+    let room = u16_at(case, 1);
+    if room <= work.len() {
+        return same_answer(case, recorded, &mut work[0..room], answer);
+    }
+    false
+}
+
+// The case that stands first, up to its recorded answer.
+fn case_of(rest: &[u8]) -> &[u8] {
+    first(rest, HEAD + u16_at(rest, 3))
+}
+
+// What is recorded for the case that stands first.
+fn recorded_of(rest: &[u8]) -> &[u8] {
+    let tail = from(rest, HEAD + u16_at(rest, 3));
+    first(from(tail, 2), u16_at(tail, 0))
+}
+
+// The length of the case that stands first, with what is recorded.
+fn length_of(rest: &[u8]) -> usize
+    ensures { λ r. ⌜ (0 < r) × (r < 200000) ⌝ }
+{
+    let n = HEAD + u16_at(rest, 3);
+    n + 2 + u16_at(rest, n)
+}
+
+fn run_case(
+    case: &[u8],
+    recorded: &[u8],
+    work: &mut [u8],
+    answer: &mut [u8],
+    tally: Tally,
+) -> Tally {
+    if agrees(case, recorded, work, answer) {
+        return tally.agreed();
+    }
+    report::difference(case, recorded, tally);
+    tally.differed()
+}
+
+// All the cases of a page.
+fn run_page(page: &[u8], work: &mut [u8], answer: &mut [u8], start: Tally) -> Tally {
+    let mut tally = start;
+    let mut at = 0;
+    while at < page.len() {
+        let rest = from(page, at);
+        tally = run_case(case_of(rest), recorded_of(rest), work, answer, tally);
+        at += length_of(rest);
+    }
+    tally
+}
+
+// All the pages of an open file. Nothing says that a file ends, so the loop counts its turns down from a number that no
+// file uses up.
+fn run_pages(fd: i32, page: &mut [u8], work: &mut [u8], answer: &mut [u8]) -> Tally {
+    let mut tally = Tally::new();
+    let mut turns = u32::MAX;
+    while turns > 0 {
+        let n = read_page(fd, page);
+        if n == 0 {
+            break;
+        }
+        tally = run_page(first(page, n), work, answer, tally);
+        turns -= 1;
+    }
+    tally
+}
+
+// Replays the cases of a file of the folder and writes how many there were, and how many differ.
+pub fn file(name: &[u8]) {
+    let fd = os::open_read(name);
+    if fd < 0 {
+        os::fail(name);
+        return;
+    }
+    let mut page = io::large_buffer();
+    let mut work = io::large_buffer();
+    let mut answer = io::large_buffer();
+    let tally = run_pages(fd, &mut page, &mut work, &mut answer);
+    libc::close(fd);
+    report::total(name, tally);
+}

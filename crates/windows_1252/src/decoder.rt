@@ -1,0 +1,146 @@
+// The decoder: bytes to UTF-8. It goes by blocks of at most 64 bytes, of which one that is ASCII throughout is only copied.
+ghost use mathlib.Core.Path.{_≡_};
+ghost use Prim.Native.Nat.{_+_, _<_, _≤_};
+ghost use lib.ListN.{length};
+ghost use Rattle.utf_8.specs.Buffer.{Wrote, roomFor};
+ghost use Rattle.windows_1252.specs.Index.{codePoints};
+ghost use Rattle.windows_1252.specs.Text.{stringEnd, decodeByte, decodeText, Laid};
+use crate::ascii::block_end;
+use crate::ascii::copy_ascii;
+use crate::ascii::is_ascii;
+use crate::index::code_points;
+use crate::index::entry;
+use crate::index::utf8_length_of;
+use crate::index::utf8_lengths;
+use utf_8::Put;
+use utf_8::Room;
+use utf_8::TextEnd;
+use utf_8::encoder::put;
+
+// Where a text ends: before its first zero, or with the memory.
+pub fn string_end(bytes: &[u8]) -> TextEnd
+    ensures { λ r. ⌜ r ≡ stringEnd (now (bytes .entry)) ⌝ }
+{
+    let mut i = 0;
+    while i < bytes.len() {
+        if bytes[i] == 0 {
+            return TextEnd::Terminated(i);
+        }
+        i += 1;
+    }
+    TextEnd::Unterminated(i)
+}
+
+// The length of a block's text.
+fn block_len(block: &[u8]) -> usize
+    requires { ⌜ length (now block) ≤ 64 ⌝ }
+    ensures { λ r. ⌜ r ≡ length (decodeText (now (block .entry))) ⌝ }
+{
+    if is_ascii(block) {
+        return block.len();
+    }
+    let lengths = utf8_lengths();
+    let mut n: usize = 0;
+    let mut i = 0;
+    while i < block.len() {
+        n += utf8_length_of(&lengths, block[i]);
+        i += 1;
+    }
+    n
+}
+
+// The length of the text of some bytes, where it is at most the room.
+pub fn decoded_len(bytes: &[u8], room: usize) -> Room
+    ensures { λ r. ⌜ r ≡ roomFor (length (decodeText (now (bytes .entry)))) room ⌝ }
+{
+    let mut n: usize = 0;
+    let mut i = 0;
+    while i < bytes.len() {
+        let end = block_end(i, bytes.len());
+        let len = block_len(&bytes[i..end]);
+        if room - n < len {
+            return Room::Over;
+        }
+        n += len;
+        i = end;
+    }
+    Room::Fits(n)
+}
+
+// Writes one byte's text. ASCII is told first.
+fn put_byte(points: &[u32; 256], byte: u8, out: &mut [u8], at: usize) -> usize
+    requires { ⌜ now points ≡ codePoints ⌝ }
+    requires { ⌜ at + length (decodeByte byte) ≤ length (now out) ⌝ }
+    ensures { λ r. ⌜ Laid (decodeByte byte) (now (out .entry)) at r (now (out .exit)) ⌝ }
+{
+    if byte < 0x80 {
+        out[at] = byte;
+        return at + 1;
+    }
+    match put(out, at, entry(points, byte)) {
+        Put::Next(next) => next,
+        // never: the text fits
+        Put::Full => at,
+    }
+}
+
+// Writes the text of a block, byte by byte.
+fn put_each(block: &[u8], out: &mut [u8], at: usize) -> usize
+    requires { ⌜ at + length (decodeText (now block)) ≤ length (now out) ⌝ }
+    ensures { λ r. ⌜ Laid (decodeText (now (block .entry))) (now (out .entry)) at r (now (out .exit)) ⌝ }
+{
+    let points = code_points();
+    let mut next = at;
+    let mut i = 0;
+    while i < block.len() {
+        next = put_byte(&points, block[i], out, next);
+        i += 1;
+    }
+    next
+}
+
+// Writes the text of a block.
+fn put_block(block: &[u8], out: &mut [u8], at: usize) -> usize
+    requires { ⌜ length (now block) ≤ 64 ⌝ }
+    requires { ⌜ at + length (decodeText (now block)) ≤ length (now out) ⌝ }
+    ensures { λ r. ⌜ Laid (decodeText (now (block .entry))) (now (out .entry)) at r (now (out .exit)) ⌝ }
+{
+    if is_ascii(block) {
+        return copy_ascii(block, out, at);
+    }
+    put_each(block, out, at)
+}
+
+// Writes the text of some bytes, which fits.
+fn put_text(bytes: &[u8], out: &mut [u8], at: usize) -> usize
+    requires { ⌜ at + length (decodeText (now bytes)) ≤ length (now out) ⌝ }
+    ensures { λ r. ⌜ Laid (decodeText (now (bytes .entry))) (now (out .entry)) at r (now (out .exit)) ⌝ }
+{
+    let mut next = at;
+    let mut i = 0;
+    while i < bytes.len() {
+        let end = block_end(i, bytes.len());
+        next = put_block(&bytes[i..end], out, next);
+        i = end;
+    }
+    next
+}
+
+// Writes the text of some bytes from `at` on, all of it or nothing. An empty text fits anywhere.
+pub fn decode(bytes: &[u8], out: &mut [u8], at: usize) -> Put
+    ensures { λ r. ⌜ Wrote (decodeText (now (bytes .entry))) (now (out .entry)) at r (now (out .exit)) ⌝ }
+{
+    if bytes.len() == 0 {
+        return Put::Next(at);
+    }
+    if out.len() < at {
+        return Put::Full;
+    }
+    match decoded_len(bytes, out.len() - at) {
+        Room::Fits(len) => {
+            put_text(bytes, out, at);
+            Put::Next(at + len)
+        }
+        Room::Over => Put::Full,
+    }
+}
