@@ -1,0 +1,81 @@
+-- The rows: what the definitions give, and what document 01 says. Assumes nothing.
+use mathlib.Core.List.{List, [], _∷_, _++_}
+use Prim.Native.Nat.{ℕ, suc}
+use lib.ListN.{length, take}
+use lib.IntN.{ℤ, pos, negsuc}
+use Rattle.number.specs.Integer.{bytesValue}
+use Rattle.number.specs.declared.type_id.AdsTypeId.the-variants.{Int8, Int16}
+use Rattle.utf_8.specs.Buffer.{roomFor}
+use Rattle.utf_8.specs.declared.Room.{Room}
+use Rattle.utf_8.specs.declared.Room.the-variants.{Fits, Over}
+use Rattle.utf_8.specs.declared.TextEnd.{TextEnd}
+use Rattle.utf_8.specs.declared.TextEnd.the-variants.{Terminated, Unterminated}
+use Rattle.utf_16.specs.Decode as utf16
+use Rattle.utf_16.specs.WString.{wstringEnd}
+use Rattle.windows_1252.specs.Text as windows1252
+use Rattle.type_category.specs.Category.{categoryOf}
+use Rattle.type_category.specs.Validate.{placeOf}
+use Rattle.type_category.specs.declared.type_category.AdsTypeCategory.the-variants as category
+use Rattle.cases.specs.Blocks.{typeBlock, fieldBlock}
+
+pub record Row : Type 0 where
+  pub got : List ℕ
+  pub said : List ℕ
+
+infix 4 _is_
+abbrev pub _is_ : List ℕ → List ℕ → Row
+g is s = record { got = g; said = s }
+
+-- an integer as a sign (1 for a minus) and a number
+abbrev pub signed : ℤ → List ℕ
+signed (pos n) = 0 ∷ n ∷ []
+signed (negsuc n) = 1 ∷ suc n ∷ []
+
+abbrev pub room : Room → List ℕ
+room (Fits n) = 1 ∷ n ∷ []
+room Over = 0 ∷ []
+
+-- the text of a WSTRING's bytes
+abbrev pub wideText : List ℕ → TextEnd → List ℕ
+wideText bytes (Terminated n) = utf16.decodeText (take n bytes)
+wideText bytes (Unterminated n) = utf16.decodeText (take n bytes)
+
+-- U+0416 in UTF-8, and its decimal reference
+abbrev pub zhe : List ℕ
+zhe = 0xd0 ∷ 0x96 ∷ []
+
+-- the names INT, S, A, B
+abbrev pub int : List ℕ
+int = 0x49 ∷ 0x4e ∷ 0x54 ∷ []
+
+abbrev pub s : List ℕ
+s = 0x53 ∷ []
+
+abbrev pub a : List ℕ
+a = 0x41 ∷ []
+
+abbrev pub b : List ℕ
+b = 0x42 ∷ []
+
+-- id 65, two fields of INT at two offsets, no type name, no methods
+abbrev pub twoFields : ℕ → ℕ → List ℕ
+twoFields first second = typeBlock 65 12 2 s [] ++ fieldBlock first 2 a int ++ fieldBlock second 2 b int
+
+unfoldable pub rows : List Row
+rows =
+    -- integer/mod.rs: Int8 80h is −128; Int16 00h 80h is −32,768; FFh 7Fh is 32,767
+    (signed (bytesValue Int8 (0x80 ∷ [])) is (1 ∷ 128 ∷ []))
+    ∷ (signed (bytesValue Int16 (0x00 ∷ 0x80 ∷ [])) is (1 ∷ 32768 ∷ []))
+    ∷ (signed (bytesValue Int16 (0xff ∷ 0x7f ∷ [])) is (0 ∷ 32767 ∷ []))
+    -- deserializer.rs: a WSTRING 41h 00h 3Dh D8h 00h 00h gives 41h EFh BFh BDh; 41h alone gives EFh BFh BDh
+    ∷ (wideText (0x41 ∷ 0x00 ∷ 0x3d ∷ 0xd8 ∷ 0x00 ∷ 0x00 ∷ []) (wstringEnd (0x41 ∷ 0x00 ∷ 0x3d ∷ 0xd8 ∷ 0x00 ∷ 0x00 ∷ [])) is (0x41 ∷ 0xef ∷ 0xbf ∷ 0xbd ∷ []))
+    ∷ (wideText (0x41 ∷ []) (wstringEnd (0x41 ∷ [])) is (0xef ∷ 0xbf ∷ 0xbd ∷ []))
+    -- serializer.rs: U+0416 is `&#1046;`, so with its zero it fits 8 bytes, and 7 are too few
+    ∷ (windows1252.encodeText zhe is (0x26 ∷ 0x23 ∷ 0x31 ∷ 0x30 ∷ 0x34 ∷ 0x36 ∷ 0x3b ∷ []))
+    ∷ (room (roomFor (suc (length (windows1252.encodeText zhe))) 8) is (1 ∷ 8 ∷ []))
+    ∷ (room (roomFor (suc (length (windows1252.encodeText zhe))) 7) is (0 ∷ []))
+    -- type_category.rs: INT with type name INT is an alias; two fields at 0 a union; at 4 and 8 a function block
+    ∷ ((placeOf (categoryOf (typeBlock 2 2 0 int int) 8 0) ∷ []) is (placeOf category.Alias ∷ []))
+    ∷ ((placeOf (categoryOf (twoFields 0 0) 8 0) ∷ []) is (placeOf category.Union ∷ []))
+    ∷ ((placeOf (categoryOf (twoFields 4 8) 8 0) ∷ []) is (placeOf category.FunctionBlock ∷ []))
+    ∷ []
