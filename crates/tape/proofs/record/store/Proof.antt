@@ -16,39 +16,30 @@ abbrev μ-loop : tie.MeasureT-loop
 μ-loop tape₀ at bytes i₀ tape i =
     24 - i
 
--- src/record.rt:88:5
 loop-holds : tie.Need-loop-holds Inv-loop μ-loop
 loop-holds c = (search needs, search copied-none)
 
--- src/record.rt:89:24
 array-read-tape : tie.Need-array-read-tape Inv-loop μ-loop
 array-read-tape c = search needs
 
--- src/record.rt:89:14
 add-tape : tie.Need-add-tape Inv-loop μ-loop
 add-tape c = search needs
 
--- src/record.rt:89:9
 slice-write-tape : tie.Need-slice-write-tape Inv-loop μ-loop
 slice-write-tape c = omega (arith, c .before .loop .inv .1 .long)
 
--- src/record.rt:90:9
 add-i : tie.Need-add-i Inv-loop μ-loop
 add-i c = search needs
 
--- src/record.rt:88:5
 loop-less : tie.Need-loop-less Inv-loop μ-loop
 loop-less c = search needs
 
--- src/record.rt:88:5
 loop-again : tie.Need-loop-again Inv-loop μ-loop
 loop-again c = (search needs, copied-more _ _ _ _ _ (c .before .loop .inv .1) (search needs) (search needs))
 
--- src/record.rt:83:1
 same-length : tie.Need-same-length Inv-loop μ-loop
 same-length c = c .before .loop .inv .1 .long
 
--- src/record.rt:83:1
 returns : tie.Need-returns Inv-loop μ-loop
 returns c = copied-all _ _ _ _ _ (c .before .loop .inv .1) (search needs)
 

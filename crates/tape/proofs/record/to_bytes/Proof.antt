@@ -7,71 +7,54 @@ use Rattle.tape.proofs.record.to_bytes.Tie as tie
 use Rattle.tape.proofs.record.to_bytes.Reads as reads
 use Rattle.tape.proofs.record.to_bytes.Lts as lts
 
--- src/record.rt:63:9
 cast-t19 : tie.Need-cast-t19
 cast-t19 c = search needs
 
--- src/record.rt:64:9
 cast-t21 : tie.Need-cast-t21
 cast-t21 c = search needs
 
--- src/record.rt:65:9
 cast-t23 : tie.Need-cast-t23
 cast-t23 c = search needs
 
--- src/record.rt:66:9
 cast-t25 : tie.Need-cast-t25
 cast-t25 c = search needs
 
--- src/record.rt:67:9
 cast-t27 : tie.Need-cast-t27
 cast-t27 c = search needs
 
--- src/record.rt:68:9
 cast-t29 : tie.Need-cast-t29
 cast-t29 c = search needs
 
--- src/record.rt:69:9
 cast-t31 : tie.Need-cast-t31
 cast-t31 c = search needs
 
--- src/record.rt:70:9
 cast-t33 : tie.Need-cast-t33
 cast-t33 c = search needs
 
--- src/record.rt:71:9
 cast-t35 : tie.Need-cast-t35
 cast-t35 c = search needs
 
--- src/record.rt:72:9
 cast-t37 : tie.Need-cast-t37
 cast-t37 c = search needs
 
--- src/record.rt:73:9
 cast-t39 : tie.Need-cast-t39
 cast-t39 c = search needs
 
--- src/record.rt:74:9
 cast-t41 : tie.Need-cast-t41
 cast-t41 c = search needs
 
--- src/record.rt:75:9
 cast-t43 : tie.Need-cast-t43
 cast-t43 c = search needs
 
--- src/record.rt:76:9
 cast-t45 : tie.Need-cast-t45
 cast-t45 c = search needs
 
--- src/record.rt:77:9
 cast-t47 : tie.Need-cast-t47
 cast-t47 c = search needs
 
--- src/record.rt:78:9
 cast-t49 : tie.Need-cast-t49
 cast-t49 c = search needs
 
--- src/record.rt:35:1
 returns : tie.Need-returns
 unfolding recordBytes leBytes
 returns c = refl

@@ -8,71 +8,54 @@ use Rattle.number.proofs.le.le_value.Reads as le-value-reads
 
 ruleset exits = (step-past, step-short, step-whole)
 
--- src/cursor.rt:29:13
 returns : tie.Need-returns
 returns c = search exits
 
--- src/cursor.rt:31:20
 sub-rest : tie.Need-sub-rest
 sub-rest c = search needs
 
--- src/cursor.rt:31:20
 part-rest-start : tie.Need-part-rest-start
 part-rest-start c = search needs
 
--- src/cursor.rt:31:20
 part-rest-end : tie.Need-part-rest-end
 part-rest-end c = search needs
 
--- src/cursor.rt:33:13
 returns-2 : tie.Need-returns-2
 returns-2 c = search exits
 
--- src/cursor.rt:37:23
 shared-slice-read-t10 : tie.Need-shared-slice-read-t10
 shared-slice-read-t10 c = search needs
 
--- src/cursor.rt:38:24
 shared-slice-read-t12 : tie.Need-shared-slice-read-t12
 shared-slice-read-t12 c = search needs
 
--- src/cursor.rt:39:29
 sub-le-value : tie.Need-sub-le-value
 sub-le-value c = search needs
 
--- src/cursor.rt:39:29
 part-le-value-start : tie.Need-part-le-value-start
 part-le-value-start c = search needs
 
--- src/cursor.rt:39:29
 part-le-value-end : tie.Need-part-le-value-end
 part-le-value-end c = search needs
 
--- src/cursor.rt:39:20
 le-value-requires : tie.Need-le-value-requires
 le-value-requires c κs = search needs
 
--- src/cursor.rt:40:29
 sub-le-value-2 : tie.Need-sub-le-value-2
 sub-le-value-2 c = search needs
 
--- src/cursor.rt:40:29
 part-le-value-start-2 : tie.Need-part-le-value-start-2
 part-le-value-start-2 c = search needs
 
--- src/cursor.rt:40:29
 part-le-value-end-2 : tie.Need-part-le-value-end-2
 part-le-value-end-2 c = search needs
 
--- src/cursor.rt:40:20
 le-value-requires-2 : tie.Need-le-value-requires-2
 le-value-requires-2 c κs = search needs
 
--- src/cursor.rt:42:26
 add-t23 : tie.Need-add-t23
 add-t23 c = search needs
 
--- src/cursor.rt:24:5
 returns-3 : tie.Need-returns-3
 returns-3 c = search exits
 

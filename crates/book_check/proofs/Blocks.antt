@@ -1,0 +1,163 @@
+-- The blocks of a book, one after another: one law for each way out of each function. Assumes nothing.
+use mathlib.Core.Path.{_≡_, refl, sym, _∙_}
+use mathlib.Core.Bool.{Bool, true, false, _&&_, not, cond}
+use mathlib.Core.List.{List}
+use Prim.Native.Nat.{ℕ, zero, suc, _+_, _*_, _-_, _≤_, _<_}
+use native.Mathlib.Omega.{arith}
+use lib.ListN.{length, take, drop, length-drop}
+use lib.Seq.{length-take-le, take-take}
+use lib.Dec.{eqb, lit≤}
+use borrow.Author.Tests.{eq-eqb, ne-eqb, eqb-true, eqb-false, not-true, not-false}
+use Rattle.typebook.specs.Book.{blocks, blockOf, fieldsOf, entriesOf}
+use Rattle.number.specs.Le.{leValue}
+use Rattle.book_check.specs.Form.{sumOf, sumRight, typeForm, fieldForm, entryForm}
+use Rattle.book_check.specs.Check.{allFrom, sumAt, placeOf, onward, placedFrom, placed}
+use Rattle.book_check.specs.declared.Place.{Place}
+use Rattle.book_check.specs.declared.Place.the-variants.{Next, Wrong}
+use Rattle.book_check.proofs.Bytes.{and-left, and-right}
+
+module _ (book : List ℕ) (n : ℕ) (l : n < blocks book) where
+  long : n * 512 + 512 - n * 512 ≡ 512
+  long = omega arith
+
+  pub block-cut : take (n * 512 + 512 - n * 512) (drop (n * 512) book) ≡ blockOf book n
+  block-cut = rw long
+
+  pub block-length : length (blockOf book n) ≡ 512
+  block-length = length-take-le 512 (drop (n * 512) book) (rw (length-drop (n * 512) book) (omega arith))
+
+  pub block-whole : length (take (n * 512 + 512 - n * 512) (drop (n * 512) book)) ≡ 512
+  block-whole = rw long block-length
+
+-- a test of every block, from the first on
+module _ (p : ℕ → Bool) (n : ℕ) where
+  pub all-start : allFrom p 0 n ≡ allFrom p 0 (n - 0)
+  all-start = let k : n - 0 ≡ n = omega arith in rw k
+
+  module _ (i : ℕ) (inv : allFrom p 0 n ≡ allFrom p i (n - i)) (m : ℕ) (e : m ≡ n) where
+    module _ (l : i < m) where
+      turn : allFrom p 0 n ≡ p i && allFrom p (i + 1) (n - (i + 1))
+      unfolding allFrom
+      turn = let k : n - i ≡ suc (n - (i + 1)) = omega arith in inv ∙ rw k
+
+      pub all-stop : p i ≡ false → false ≡ allFrom p 0 n
+      all-stop h = sym (turn ∙ rw h)
+
+      pub all-again : p i ≡ true → allFrom p 0 n ≡ allFrom p (i + 1) (n - (i + 1))
+      all-again h = turn ∙ rw h
+
+    pub all-end : m ≤ i → true ≡ allFrom p 0 n
+    unfolding allFrom
+    all-end h = let k : n - i ≡ 0 = omega arith in sym (inv ∙ rw k)
+
+-- what every block passes, and back
+all-from : (p : ℕ → Bool) (i k : ℕ) → ((m : ℕ) → i ≤ m → m < i + k → p m ≡ true) → allFrom p i k ≡ true
+unfolding allFrom
+all-from p i zero h = refl
+all-from p i (suc k) h = rw (h i (omega arith) (omega arith)) (all-from p (i + 1) k (λ m l g. h m (omega arith) (omega arith)))
+
+pub all-of : (p : ℕ → Bool) (n : ℕ) → ((m : ℕ) → m < n → p m ≡ true) → allFrom p 0 n ≡ true
+all-of p n h = all-from p 0 n (λ m l g. h m (omega arith))
+
+each-from : (p : ℕ → Bool) (i k : ℕ) → allFrom p i k ≡ true → (m : ℕ) → i ≤ m → m < i + k → p m ≡ true
+unfolding allFrom
+each-from p i zero h m l g = absurd (omega arith)
+each-from p i (suc k) h m l g = by (eqb m i) refl (each-from p (i + 1) k (and-right (p i) _ h) m)
+  where
+    by : (t : Bool) → eqb m i ≡ t → (i + 1 ≤ m → m < i + 1 + k → p m ≡ true) → p m ≡ true
+    by true e go = rw (eqb-true m i e) (and-left _ _ h)
+    by false e go = let n : m ≡ i → ⊥ = eqb-false m i e in go (omega (arith, n)) (omega arith)
+
+pub each-of : (p : ℕ → Bool) (n : ℕ) → allFrom p 0 n ≡ true → (m : ℕ) → m < n → p m ≡ true
+each-of p n h m l = each-from p 0 n h m (omega arith) (omega arith)
+
+-- refusal 2
+module _ (b : List ℕ) (h : length b ≡ 512) where
+  pub sum-head : 508 ≡ length (take 508 b)
+  sum-head = sym (length-take-le 508 b (omega arith))
+
+  pub sum-short : length (take 508 b) ≤ 512
+  sum-short = omega (arith, sum-head)
+
+pub sum-is : (b : List ℕ) (s r : ℕ) → s ≡ leValue (take 4 (take 4 (drop 508 b))) → r ≡ sumOf (take 508 b) → eqb s r ≡ sumRight b
+unfolding sumRight
+sum-is b s r e q = rw (e, q, take-take 4 4 (drop 508 b) (lit≤ tt))
+
+module _ (book : List ℕ) (i : ℕ) (s : List ℕ) (e : s ≡ blockOf book i) (t : Bool) (q : t ≡ sumRight s) where
+  pub sum-fails : not t ≡ true → sumAt book i ≡ false
+  unfolding sumAt
+  sum-fails h = rw (← e, ← q) (not-true t h)
+
+  pub sum-holds : not t ≡ false → sumAt book i ≡ true
+  unfolding sumAt
+  sum-holds h = rw (← e, ← q) (not-false t h)
+
+-- refusal 3
+module _ (book : List ℕ) (n f e : ℕ) (s : List ℕ) (q : s ≡ blockOf book n) (t : Bool) where
+  module _ (l : 0 < f) (o : t ≡ fieldForm s) where
+    field : placeOf book n f e ≡ cond t (Next (f - 1) e) Wrong
+    unfolding placeOf
+    field = let k : f ≡ suc (f - 1) = omega arith in rw (k, o, q, ← k)
+
+    pub place-field : t ≡ true → Next (f - 1) e ≡ placeOf book n f e
+    place-field h = sym (field ∙ rw h)
+
+    pub place-no-field : t ≡ false → Wrong ≡ placeOf book n f e
+    place-no-field h = sym (field ∙ rw h)
+
+  module _ (l : f ≤ 0) (g : 0 < e) (o : t ≡ entryForm s) where
+    entry : placeOf book n f e ≡ cond t (Next 0 (e - 1)) Wrong
+    unfolding placeOf
+    entry =
+        let z : f ≡ 0 = omega arith in
+        let k : e ≡ suc (e - 1) = omega arith in
+        rw (z, k, o, q, ← k)
+
+    pub place-entry : t ≡ true → Next 0 (e - 1) ≡ placeOf book n f e
+    place-entry h = sym (entry ∙ rw h)
+
+    pub place-no-entry : t ≡ false → Wrong ≡ placeOf book n f e
+    place-no-entry h = sym (entry ∙ rw h)
+
+  module _ (l : f ≤ 0) (g : e ≤ 0) (o : t ≡ typeForm s) where
+    type : placeOf book n f e ≡ cond t (Next (fieldsOf book n) (entriesOf book n)) Wrong
+    unfolding placeOf
+    type =
+        let z : f ≡ 0 = omega arith in
+        let k : e ≡ 0 = omega arith in
+        rw (z, k, o, q)
+
+    pub place-type : t ≡ true → (a b : ℕ) → a ≡ fieldsOf book n → b ≡ entriesOf book n → Next a b ≡ placeOf book n f e
+    place-type h a b x y = rw (x, y) (sym (type ∙ rw h))
+
+    pub place-no-type : t ≡ false → Wrong ≡ placeOf book n f e
+    place-no-type h = sym (type ∙ rw h)
+
+module _ (book : List ℕ) where
+  pub placed-start : placed book ≡ placedFrom book 0 (blocks book - 0) 0 0
+  placed-start = let k : blocks book - 0 ≡ blocks book = omega arith in rw k
+
+  module _ (i f e : ℕ) (inv : placed book ≡ placedFrom book i (blocks book - i) f e) (m : ℕ) (q : m ≡ blocks book) where
+    module _ (l : i < m) (r : Place) (o : r ≡ placeOf book i f e) where
+      next : placed book ≡ onward (placedFrom book (i + 1) (blocks book - (i + 1))) r
+      unfolding placedFrom
+      next = let k : blocks book - i ≡ suc (blocks book - (i + 1)) = omega arith in inv ∙ rw (k, o)
+
+      pub placed-stop : r ≡ Wrong → false ≡ placed book
+      unfolding onward
+      placed-stop h = sym (next ∙ rw h)
+
+      pub placed-again : (f′ e′ : ℕ) → r ≡ Next f′ e′ → placed book ≡ placedFrom book (i + 1) (blocks book - (i + 1)) f′ e′
+      unfolding onward
+      placed-again f′ e′ h = next ∙ rw h
+
+    module _ (l : m ≤ i) where
+      last : placed book ≡ eqb f 0 && eqb e 0
+      unfolding placedFrom
+      last = let k : blocks book - i ≡ 0 = omega arith in inv ∙ rw k
+
+      pub placed-fields : (f ≡ 0 → ⊥) → false ≡ placed book
+      placed-fields h = sym (last ∙ rw (ne-eqb f 0 h))
+
+      pub placed-end : f ≡ 0 → eqb e 0 ≡ placed book
+      placed-end h = sym (last ∙ rw (eq-eqb f 0 h))

@@ -1,0 +1,90 @@
+-- Refusals 1 to 5 of document 01, over a book that fills the first `len` bytes of a buffer. Assumes nothing.
+use mathlib.Core.Path.{_≡_}
+use mathlib.Core.Bool.{Bool, true, false, cond, not, _&&_, _||_}
+use mathlib.Core.List.{List}
+use Prim.Native.Nat.{ℕ, zero, suc, _+_, _/_, _%_}
+use lib.ListN.{length, take}
+use lib.Dec.{eqb, leb, ltb}
+use Rattle.typebook.specs.Book.{blocks, blockOf, isType, fieldsOf, entriesOf, nameOf, isNamed}
+use Rattle.book_check.specs.Form.{sumRight, typeForm, fieldForm, entryForm}
+use Rattle.book_check.specs.declared.Place.{Place}
+use Rattle.book_check.specs.declared.Place.the-variants.{Next, Wrong}
+use Rattle.book_check.specs.declared.BookCheck.{BookCheck}
+use Rattle.book_check.specs.declared.BookCheck.the-variants.{Valid, Size, Sum, Form, Doubled}
+use Rattle.book_check.specs.declared.RootCheck.{RootCheck}
+use Rattle.book_check.specs.declared.RootCheck.the-variants.{Root, Refused}
+
+-- each of the k blocks from block i on passes a test
+unfoldable pub allFrom : (ℕ → Bool) → ℕ → ℕ → Bool
+allFrom p i zero = true
+allFrom p i (suc k) = p i && allFrom p (i + 1) k
+
+-- 1: a book lies in its buffer, is not empty, and is 1 to 65,536 whole blocks
+unfoldable pub sizeRight : ℕ → ℕ → Bool
+sizeRight room len = leb len room && (ltb 0 len && (eqb (len % 512) 0 && leb (len / 512) 65536))
+
+-- 2: every block holds its sum
+unfoldable pub sumAt : List ℕ → ℕ → Bool
+sumAt book n = sumRight (blockOf book n)
+
+abbrev pub sums : List ℕ → Bool
+sums book = allFrom (sumAt book) 0 (blocks book)
+
+-- 3: with f fields and e entries due, block n has to be a field, then an entry, then a type, whose own fields and entries are due next
+unfoldable pub placeOf : List ℕ → ℕ → ℕ → ℕ → Place
+placeOf book n (suc f) e = cond (fieldForm (blockOf book n)) (Next f e) Wrong
+placeOf book n zero (suc e) = cond (entryForm (blockOf book n)) (Next zero e) Wrong
+placeOf book n zero zero = cond (typeForm (blockOf book n)) (Next (fieldsOf book n) (entriesOf book n)) Wrong
+
+unfoldable pub onward : (ℕ → ℕ → Bool) → Place → Bool
+onward go (Next f e) = go f e
+onward go Wrong = false
+
+-- the k blocks from block n on have the form of their places, and nothing is due after them
+unfoldable pub placedFrom : List ℕ → ℕ → ℕ → ℕ → ℕ → Bool
+placedFrom book n zero f e = eqb f 0 && eqb e 0
+placedFrom book n (suc k) f e = onward (placedFrom book (n + 1) k) (placeOf book n f e)
+
+abbrev pub placed : List ℕ → Bool
+placed book = placedFrom book 0 (blocks book) 0 0
+
+-- 4: block n is no type block of that name
+unfoldable pub isOther : List ℕ → List ℕ → ℕ → Bool
+isOther book name n = not (isNamed book name n)
+
+-- no block before type block n is a type block of its name
+unfoldable pub isFirst : List ℕ → ℕ → Bool
+isFirst book n = not (isType book n) || allFrom (isOther book (nameOf book n)) 0 n
+
+abbrev pub distinct : List ℕ → Bool
+distinct book = allFrom (isFirst book) 0 (blocks book)
+
+-- all of 1 before all of 2, all of 2 before all of 3, all of 3 before 4
+unfoldable pub checkBlocks : List ℕ → BookCheck
+checkBlocks book = cond (sums book) (cond (placed book) (cond (distinct book) Valid Doubled) Form) Sum
+
+unfoldable pub checkBook : List ℕ → ℕ → BookCheck
+checkBook buffer len = cond (sizeRight (length buffer) len) (checkBlocks (take len buffer)) Size
+
+-- document 01's number of each answer, 0 for a book that is not refused
+abbrev pub bookRefusal : BookCheck → ℕ
+bookRefusal Valid = 0
+bookRefusal Size = 1
+bookRefusal Sum = 2
+bookRefusal Form = 3
+bookRefusal Doubled = 4
+
+-- document 01's term: a valid book passes 1 to 4
+abbrev pub ValidBook : List ℕ → Type 0
+ValidBook book = checkBook book (length book) ≡ Valid
+
+-- 5: the root is the number of a type block
+unfoldable pub rootOf : List ℕ → ℕ → RootCheck
+rootOf book root = cond (ltb root (blocks book) && isType book root) (Root root) (Refused 5)
+
+-- 1 to 4 before 5; an answer `Refused n` has document 01's number n
+unfoldable pub checkRoot : List ℕ → ℕ → ℕ → RootCheck
+checkRoot buffer len root =
+    cond (eqb (bookRefusal (checkBook buffer len)) 0)
+    (rootOf (take len buffer) root)
+    (Refused (bookRefusal (checkBook buffer len)))

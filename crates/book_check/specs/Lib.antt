@@ -1,0 +1,3 @@
+pub mod Form
+pub mod Check
+pub mod Marks

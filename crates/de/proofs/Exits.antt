@@ -1,0 +1,245 @@
+-- What each function of the reader owes at each exit and each turn, from what the calls ensure and the tests show there, so that `search` finds each premise. Assumes nothing.
+use mathlib.Core.Path.{_≡_, refl, sym, ap, _∙_}
+use mathlib.Core.Bool.{Bool, true, false}
+use mathlib.Core.List.{List}
+use Prim.Native.Nat.{ℕ, zero, suc, _+_, _*_, _-_, _/_, _^_, _≤_, _<_}
+use native.Mathlib.Omega.{arith}
+use native.Mathlib.Nat.{zero-add, add-mul, one-mul, zero-mul}
+use lib.ListN.{length, getD, take, drop, length-take, length-drop}
+use lib.Dec.{eqb}
+use borrow.Author.Tests.{leb-false}
+use Rattle.typebook.specs.Book.{isType, sizeOf, fieldsOf, entriesOf, countOf, dimensionsOf}
+use Rattle.book_check.specs.Check.{ValidBook}
+use Rattle.book_check.proofs.Valid.{valid-size, valid-type}
+use mir.Syntax.{w8, w32, w64}
+use mir.Val.{Fits}
+use Rattle.resolvers.specs.Resolve.{fieldsCheck, LookedUp, FieldResolved}
+use Rattle.resolvers.specs.declared.ResolvedField.{ResolvedField}
+use Rattle.resolvers.specs.declared.Resolved.{Resolved}
+use Rattle.resolvers.specs.declared.Resolved.the-variants as resolved
+use Rattle.resolvers.specs.declared.FieldAnswer.{FieldAnswer}
+use Rattle.resolvers.specs.declared.FieldAnswer.the-variants as answer
+use Rattle.resolvers.specs.declared.FieldsCheck.{FieldsCheck}
+use Rattle.resolvers.specs.declared.FieldsCheck.the-variants as check
+use Rattle.de.specs.declared.step.Step.{Step}
+use Rattle.de.specs.declared.step.Step.the-variants.{Next, Stop}
+use Rattle.de.specs.declared.deserializer.Shape.{Shape}
+use Rattle.de.specs.declared.deserializer.Shape.the-variants as shape
+use Rattle.de.specs.Trace.{Trace, rec, one, refuse, From, Halts}
+use Rattle.de.specs.Walk.{Ctx, whole, Child, cut, shapeAt, leafOf, checked, memberOf, membersFrom, membersOf, mapOf, productFrom, strideOf, isLast, elementItem, elementCheck, elementsFrom, elementsOf, dimensionOf, bytesOf, arrayBy, arrayOf, shapeWalk, walk, Fills, FillsNext, StrideIs}
+use Rattle.de.proofs.Runs.{Rest, from-as, from-held, halted, chain, rest-all, rest-next}
+use Rattle.de.proofs.Walks as walks
+
+-- ---- value
+
+module _ (c : Ctx) (left t : ℕ) (mem : List ℕ) {tape tape′ txt txt′ : List ℕ} {s r : Step} where
+  pub value-deep : left ≡ 0 → Halts s 14 0 r → From (walk c left (whole t) mem) tape txt s r tape′ txt′
+  value-deep e h = from-as (walks.walk-deep c left mem (whole t) e) (halted h)
+
+  module _ (n : left ≡ 0 → ⊥) (k : Shape) (e : k ≡ shapeAt c t) where
+    pub value-map : k ≡ shape.Map → From (mapOf (walk c (left - 1)) c t mem) tape txt s r tape′ txt′ → From (walk c left (whole t) mem) tape txt s r tape′ txt′
+    unfolding shapeWalk
+    value-map q h = from-as (walks.walk-shape c left mem t shape.Map n (sym q ∙ e)) h
+
+    pub value-array : k ≡ shape.Array → From (arrayOf (walk c (left - 1)) c t mem) tape txt s r tape′ txt′ → From (walk c left (whole t) mem) tape txt s r tape′ txt′
+    unfolding shapeWalk
+    value-array q h = from-as (walks.walk-shape c left mem t shape.Array n (sym q ∙ e)) h
+
+    pub value-leaf : k ≡ shape.Leaf → From (leafOf c t mem) tape txt s r tape′ txt′ → From (walk c left (whole t) mem) tape txt s r tape′ txt′
+    unfolding shapeWalk
+    value-leaf q h = from-as (walks.walk-shape c left mem t shape.Leaf n (sym q ∙ e)) h
+
+-- ---- member
+
+module _ (child : Child) (c : Ctx) (mem : List ℕ) (f : ℕ) {tape tape₁ txt txt₁ : List ℕ} {s k r : Step} (key : From (one (rec 4 0 f 0)) tape txt s k tape₁ txt₁)
+    (a : FieldAnswer) (q : FieldResolved (c .book) (c .width) f a) {tape₂ txt₂ : List ℕ} where
+  pub member-lacks : (b : ℕ) → a ≡ answer.Lacks b → Halts k 7 b r → From (memberOf child c mem f) tape txt s r tape₂ txt₂
+  member-lacks b e h = from-as (walks.member-lacks child c mem f a (q .is) b e) (chain key (halted h))
+
+  pub member-endless : a ≡ answer.Endless → Halts k 8 0 r → From (memberOf child c mem f) tape txt s r tape₂ txt₂
+  member-endless e h = from-as (walks.member-endless child c mem f a (q .is) e) (chain key (halted h))
+
+  module _ (x : ResolvedField) (e : a ≡ answer.Field x) where
+    pub member-over : length mem < x .offset + x .size → Halts k 10 0 r → From (memberOf child c mem f) tape txt s r tape₂ txt₂
+    member-over l h = from-as (walks.member-over child c mem f a (q .is) x e l) (chain key (halted h))
+
+    pub member-value : x .offset + x .size ≤ length mem → From (child (whole (x .resolved)) (take (x .offset + x .size - x .offset) (drop (x .offset) mem))) tape₁ txt₁ k r tape₂ txt₂
+        → From (memberOf child c mem f) tape txt s r tape₂ txt₂
+    member-value l v =
+        let z : x .offset + x .size - x .offset ≡ x .size = omega arith in
+        from-as (walks.member-in child c mem f a (q .is) x e l) (chain key (rw z at v))
+
+-- ---- members
+
+module _ (child : Child) (c : Ctx) (t n : ℕ) (mem : List ℕ) where
+  pub members-start : {tape txt : List ℕ} {s : Step} → Rest (membersFrom child c mem (t + 1) n) tape txt s (membersFrom child c mem (t + 1 + 0) (n - 0)) tape txt s
+  members-start = rest-all (walks.members-all child c mem t n)
+
+  pub members-again : {tape₁ tape₂ tape₃ txt₁ txt₂ txt₃ : List ℕ} {first here next : Step} (i : ℕ)
+      → Rest (membersFrom child c mem (t + 1) n) tape₁ txt₁ first (membersFrom child c mem (t + 1 + i) (n - i)) tape₂ txt₂ here
+      → i < n → From (memberOf child c mem (t + 1 + i)) tape₂ txt₂ here next tape₃ txt₃
+      → Rest (membersFrom child c mem (t + 1) n) tape₁ txt₁ first (membersFrom child c mem (t + 1 + (i + 1)) (n - (i + 1))) tape₃ txt₃ next
+  members-again i q l v = rest-next q (walks.members-more child c mem t i n l) v
+
+  module _ (e : n ≡ fieldsOf (c .book) t) {tape tape₁ tape₂ txt txt₁ txt₂ : List ℕ} {s first here : Step} (h : From (one (rec 3 0 n 0)) tape txt s first tape₁ txt₁) (i : ℕ)
+      (q : Rest (membersFrom child c mem (t + 1) n) tape₁ txt₁ first (membersFrom child c mem (t + 1 + i) (n - i)) tape₂ txt₂ here) where
+    pub members-end : {tape₃ txt₃ : List ℕ} {r : Step} → n ≤ i → From (one (rec 5 0 0 0)) tape₂ txt₂ here r tape₃ txt₃ → From (membersOf child c t mem) tape txt s r tape₃ txt₃
+    members-end l x = from-as (walks.members-of child c mem t n e) (chain h (q .finish _ _ _ (from-as (walks.members-none child c mem t i n l) x)))
+
+    -- a refusal leaves the loop at once
+    pub members-stop : (k b : ℕ) → here ≡ Stop k b → From (membersOf child c t mem) tape txt s here tape₂ txt₂
+    members-stop k b z = from-as (walks.members-of child c mem t n e) (chain h (q .finish here tape₂ txt₂ (from-held k b z)))
+
+-- ---- map
+
+module _ (child : Child) (c : Ctx) (t size : ℕ) (sz : size ≡ sizeOf (c .book) t) (mem : List ℕ) {tape tape′ txt txt′ : List ℕ} {s r : Step} where
+  pub map-odd : (length mem ≡ size → ⊥) → Halts s 10 0 r → From (mapOf child c t mem) tape txt s r tape′ txt′
+  map-odd o h = from-as (walks.map-odd child c mem t size sz o) (halted h)
+
+  module _ (ev : length mem ≡ size) (k : FieldsCheck) (q : k ≡ fieldsCheck (c .book) (c .width) t) where
+    pub map-fine : k ≡ check.Fine → From (membersOf child c t mem) tape txt s r tape′ txt′ → From (mapOf child c t mem) tape txt s r tape′ txt′
+    unfolding checked
+    map-fine e h = from-as (walks.map-even child c mem t size sz ev check.Fine (sym e ∙ q)) h
+
+    pub map-lacks : (b : ℕ) → k ≡ check.Lacks b → Halts s 7 b r → From (mapOf child c t mem) tape txt s r tape′ txt′
+    unfolding checked
+    map-lacks b e h = from-as (walks.map-even child c mem t size sz ev (check.Lacks b) (sym e ∙ q)) (halted h)
+
+    pub map-endless : k ≡ check.Endless → Halts s 8 0 r → From (mapOf child c t mem) tape txt s r tape′ txt′
+    unfolding checked
+    map-endless e h = from-as (walks.map-even child c mem t size sz ev check.Endless (sym e ∙ q)) (halted h)
+
+-- ---- array
+
+module _ (child : Child) (c : Ctx) (t size : ℕ) (sz : size ≡ sizeOf (c .book) t) (mem : List ℕ) {tape tape′ txt txt′ : List ℕ} {s r : Step} where
+  pub array-odd : (length mem ≡ size → ⊥) → Halts s 10 0 r → From (arrayOf child c t mem) tape txt s r tape′ txt′
+  array-odd o h = from-as (walks.array-odd child c mem t size sz o) (halted h)
+
+  module _ (ev : length mem ≡ size) (k : Resolved) (q : LookedUp (c .book) (c .width) t k) where
+    pub array-lacks : (b : ℕ) → k ≡ resolved.Lacks b → Halts s 7 b r → From (arrayOf child c t mem) tape txt s r tape′ txt′
+    unfolding arrayBy
+    array-lacks b e h = from-as (walks.array-even child c mem t size sz ev (resolved.Lacks b) (sym e ∙ q .is)) (halted h)
+
+    pub array-endless : k ≡ resolved.Endless → Halts s 8 0 r → From (arrayOf child c t mem) tape txt s r tape′ txt′
+    unfolding arrayBy
+    array-endless e h = from-as (walks.array-even child c mem t size sz ev resolved.Endless (sym e ∙ q .is)) (halted h)
+
+    module _ (e : ℕ) (z : k ≡ resolved.Base e) (b : Bool) (p : b ≡ eqb (bytesOf (c .book) t e) (length mem)) where
+      pub array-other : b ≡ false → Halts s 10 0 r → From (arrayOf child c t mem) tape txt s r tape′ txt′
+      unfolding arrayBy
+      array-other h x = from-as (walks.array-even child c mem t size sz ev (resolved.Base e) (sym z ∙ q .is) ∙ rw (← p, h)) (halted x)
+
+      pub array-base : b ≡ true → From (dimensionOf child c 0 t e mem) tape txt s r tape′ txt′ → From (arrayOf child c t mem) tape txt s r tape′ txt′
+      unfolding arrayBy
+      array-base h x = from-as (walks.array-even child c mem t size sz ev (resolved.Base e) (sym z ∙ q .is) ∙ rw (← p, h)) x
+
+-- ---- dimension
+
+module _ (child : Child) (c : Ctx) (d t e : ℕ) (mem : List ℕ) {tape tape′ txt txt′ : List ℕ} {s r : Step} (k : FieldsCheck) (q : k ≡ elementCheck c d t e) where
+  pub dimension-fine : k ≡ check.Fine → From (elementsOf child c d t e mem) tape txt s r tape′ txt′ → From (dimensionOf child c d t e mem) tape txt s r tape′ txt′
+  unfolding checked
+  dimension-fine z h = from-as (walks.dimension-by child c mem d t e check.Fine (sym z ∙ q)) h
+
+  pub dimension-lacks : (b : ℕ) → k ≡ check.Lacks b → Halts s 7 b r → From (dimensionOf child c d t e mem) tape txt s r tape′ txt′
+  unfolding checked
+  dimension-lacks b z h = from-as (walks.dimension-by child c mem d t e (check.Lacks b) (sym z ∙ q)) (halted h)
+
+  pub dimension-endless : k ≡ check.Endless → Halts s 8 0 r → From (dimensionOf child c d t e mem) tape txt s r tape′ txt′
+  unfolding checked
+  dimension-endless z h = from-as (walks.dimension-by child c mem d t e check.Endless (sym z ∙ q)) (halted h)
+
+-- ---- elements
+
+-- how far the loop over n elements of `stride` bytes has come
+pub record Along (book : List ℕ) (d t e n stride from i len : ℕ) : Type 0 where
+  pub step : 0 < n → stride ≡ strideOf book d t e
+  pub upto : from + (n - i) * stride ≡ len
+
+module _ (child : Child) (c : Ctx) (d t e n : ℕ) (mem : List ℕ) where
+  pub elements-start : {tape txt : List ℕ} {s : Step} → Rest (elementsFrom child (elementItem c d t e) (strideOf (c .book) d t e) mem 0 n) tape txt s (elementsFrom child (elementItem c d t e) (strideOf (c .book) d t e) mem 0 (n - 0)) tape txt s
+  elements-start = rest-all (walks.elements-all child (elementItem c d t e) mem (strideOf (c .book) d t e) n)
+
+  pub elements-again : {tape₁ tape₂ tape₃ txt₁ txt₂ txt₃ : List ℕ} {first here next : Step} (stride from i : ℕ)
+      → Rest (elementsFrom child (elementItem c d t e) (strideOf (c .book) d t e) mem 0 n) tape₁ txt₁ first (elementsFrom child (elementItem c d t e) (strideOf (c .book) d t e) mem from (n - i)) tape₂ txt₂ here
+      → i < n → Along (c .book) d t e n stride from i (length mem) → From (child (elementItem c d t e) (take (from + stride - from) (drop from mem))) tape₂ txt₂ here next tape₃ txt₃
+      → Rest (elementsFrom child (elementItem c d t e) (strideOf (c .book) d t e) mem 0 n) tape₁ txt₁ first (elementsFrom child (elementItem c d t e) (strideOf (c .book) d t e) mem (from + stride) (n - (i + 1))) tape₃ txt₃ next
+  elements-again stride from i q l a v =
+      let z : from + stride - from ≡ stride = omega arith in
+      let y : stride ≡ strideOf (c .book) d t e = a .step (omega arith) in
+      rw y (rest-next q (walks.elements-more child (elementItem c d t e) mem (strideOf (c .book) d t e) from i n l) (rw (z, y) at v))
+
+  module _ (z : n ≡ countOf (c .book) t d) {tape tape₁ tape₂ txt txt₁ txt₂ : List ℕ} {s first here : Step} (h : From (one (rec 1 0 n 0)) tape txt s first tape₁ txt₁) (from i : ℕ)
+      (q : Rest (elementsFrom child (elementItem c d t e) (strideOf (c .book) d t e) mem 0 n) tape₁ txt₁ first (elementsFrom child (elementItem c d t e) (strideOf (c .book) d t e) mem from (n - i)) tape₂ txt₂ here) where
+    pub elements-end : {tape₃ txt₃ : List ℕ} {r : Step} → n ≤ i → From (one (rec 2 0 0 0)) tape₂ txt₂ here r tape₃ txt₃ → From (elementsOf child c d t e mem) tape txt s r tape₃ txt₃
+    elements-end l x =
+        from-as (walks.elements-of child c mem d t e n z)
+        (chain h (q .finish _ _ _ (from-as (walks.elements-none child (elementItem c d t e) mem (strideOf (c .book) d t e) from i n l) x)))
+
+    pub elements-stop : (k b : ℕ) → here ≡ Stop k b → From (elementsOf child c d t e mem) tape txt s here tape₂ txt₂
+    elements-stop k b y = from-as (walks.elements-of child c mem d t e n z) (chain h (q .finish here tape₂ txt₂ (from-held k b y)))
+
+-- what the stride's function ensures
+pub along-start : {book : List ℕ} {d t e n stride len : ℕ} → n ≡ countOf book t d → Fills book d t e len → StrideIs n len stride → Along book d t e n stride 0 0 len
+along-start {book} {d} {t} {e} {n} {stride} {len} z f s =
+    let k : n * strideOf book d t e ≡ len = rw z (f .fills) in
+    record { step = λ l. s .is (strideOf book d t e) l k; upto = by n stride k s }
+  where
+    by : (n stride : ℕ) → n * strideOf book d t e ≡ len → StrideIs n len stride → 0 + (n - 0) * stride ≡ len
+    by zero stride k s = rw (zero-mul) (sym (zero-mul (strideOf book d t e)) ∙ k)
+    by (suc n) stride k s = let y : stride ≡ strideOf book d t e = s .is (strideOf book d t e) (omega arith) k in let z : suc n - 0 ≡ suc n = omega arith in rw (y, zero-add, z) k
+
+bytes-split : (n stride i : ℕ) → i < n → (n - i) * stride ≡ stride + (n - (i + 1)) * stride
+bytes-split n stride i l = let q : n - i ≡ 1 + (n - (i + 1)) = omega arith in rw (q, add-mul, one-mul)
+
+pub along-again : {book : List ℕ} {d t e n stride from i len : ℕ} → i < n → Along book d t e n stride from i len → Along book d t e n stride (from + stride) (i + 1) len
+along-again {book} {d} {t} {e} {n} {stride} {from} {i} {len} l a = record { step = a .step; upto = omega (arith, bytes-split n stride i l, a .upto) }
+
+pub along-end : (book : List ℕ) (d t e n stride from i len : ℕ) → i < n → Along book d t e n stride from i len → from + stride ≤ len
+along-end book d t e n stride from i len l a = omega (arith, bytes-split n stride i l, a .upto)
+
+pub along-fits : (book : List ℕ) (d t e n stride from i len : ℕ) → i < n → Along book d t e n stride from i len → len < 2 ^ 64 → Fits w64 (from + stride)
+along-fits book d t e n stride from i len l a h = record { fits = omega (arith, along-end book d t e n stride from i len l a) }
+
+-- ---- element
+
+module _ (c : Ctx) (left d t e : ℕ) (mem : List ℕ) {tape tape′ txt txt′ : List ℕ} {s r : Step} (b : Bool) (q : b ≡ isLast (c .book) d t) where
+  pub element-last : b ≡ true → From (walk c left (whole e) mem) tape txt s r tape′ txt′ → From (walk c left (elementItem c d t e) mem) tape txt s r tape′ txt′
+  element-last h x = rw (walks.item-last c d t e b q h) x
+
+  pub element-deep : b ≡ false → left ≡ 0 → Halts s 14 0 r → From (walk c left (elementItem c d t e) mem) tape txt s r tape′ txt′
+  element-deep h z x = from-as (walks.walk-deep c left mem (elementItem c d t e) z) (halted x)
+
+  pub element-further : b ≡ false → (left ≡ 0 → ⊥) → From (dimensionOf (walk c (left - 1)) c (d + 1) t e mem) tape txt s r tape′ txt′
+      → From (walk c left (elementItem c d t e) mem) tape txt s r tape′ txt′
+  element-further h n x = rw (walks.item-further c d t e b q h) (from-as (walks.walk-further c left mem (d + 1) t e n) x)
+
+-- ---- what calls ask
+
+pub element-fills : {book : List ℕ} {d t e n stride from i : ℕ} (mem : List ℕ) → i < n → Along book d t e n stride from i (length mem) → FillsNext book d t e (length (take (from + stride - from) (drop from mem)))
+element-fills {book} {d} {t} {e} {n} {stride} {from} {i} mem l a =
+    let y : stride ≡ strideOf book d t e = a .step (omega arith) in
+    record { fills = sym y ∙ sym (simp (length-take, length-drop) (omega (arith, along-end book d t e n stride from i (length mem) l a))) }
+
+-- a type's fields and entries have numbers below 65,536
+pub leaf-inside : (book : List ℕ) (t : ℕ) → ValidBook book → isType book t ≡ true → t + fieldsOf book t + entriesOf book t < 65536
+leaf-inside book t v y = omega (arith, valid-type book v t y .room, valid-size book v .few)
+
+pub field-number : (book : List ℕ) (t n i : ℕ) → ValidBook book → isType book t ≡ true → n ≡ fieldsOf book t → i < n → Fits w32 (t + 1 + i)
+field-number book t n i v y e l = record { fits = omega (arith, leaf-inside book t v y) }
+
+pub field-first : (book : List ℕ) (t n i : ℕ) → ValidBook book → isType book t ≡ true → n ≡ fieldsOf book t → i < n → Fits w32 (t + 1)
+field-first book t n i v y e l = record { fits = omega (arith, leaf-inside book t v y) }
+
+-- a type that was looked up is a type block
+pub typed-base : {book : List ℕ} {width b : ℕ} {r : Resolved} {e : ℕ} → LookedUp book width b r → r ≡ resolved.Base e → isType book e ≡ true
+typed-base {e = e} h q = h .typed e q
+
+pub typed-field : {book : List ℕ} {width f : ℕ} {r : FieldAnswer} {x : ResolvedField} → FieldResolved book width f r → r ≡ answer.Field x → isType book (x .resolved) ≡ true
+typed-field {x = x} h q = h .typed x q
+
+-- a dimension that is not the last has a next one
+pub next-dimension : (book : List ℕ) (d t : ℕ) (b : Bool) → b ≡ isLast book d t → b ≡ false → ((i : ℕ) → Fits w8 (getD book i 0)) → Fits w8 (d + 1)
+unfolding isLast
+next-dimension book d t b q h k =
+    let l : d + 1 < dimensionsOf book t = leb-false (dimensionsOf book t) (d + 1) (sym q ∙ h) in
+    record { fits = omega (arith, k (t * 512 + 2) .fits) }

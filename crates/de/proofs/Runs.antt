@@ -1,0 +1,238 @@
+-- Laws of `Ran`: how a trace runs in two parts. They are the only place that opens `stepOf`, `splice` and `_then_`. Assumes nothing.
+use mathlib.Core.Path.{_≡_, refl, sym, ap, _∙_, subst}
+use mathlib.Core.Bool.{Bool, true, false, cond, _&&_}
+use mathlib.Core.List.{List, [], _∷_, _++_, append-assoc, append-nil}
+use Prim.Native.Nat.{ℕ, zero, suc, _+_, _-_, _≤_, _<_}
+use native.Mathlib.Omega.{arith}
+use lib.ListN.{length, length-append}
+use lib.Dec.{leb}
+use borrow.Author.Tests.{leb-true, leb-false, le-leb, lt-leb}
+use Rattle.utf_8.specs.Buffer.{splice, fitsIn, Wrote}
+use Rattle.utf_8.specs.declared.Put.the-variants as put
+use Rattle.utf_8.proofs.Splices.{splice-none, splice-long, splice-splice, went as put-went, stayed as put-stayed}
+use Rattle.de.specs.declared.step.Step.{Step}
+use Rattle.de.specs.declared.step.Step.the-variants.{Next, Stop}
+use Rattle.de.specs.Trace.{Event, rec, text, bytesOf, textBytes, tapeBytes, Trace, done, stop, eventsOf, endOf, refuse, one, _then_, fits, stepOf, Ran, From, Halts}
+
+pub next-stop : {X : Type 0} {n m k b : ℕ} → Next n m ≡ Stop k b → X
+next-stop e = absurd (let z : _≡_ {A = ℕ} 0 1 = cc in omega arith)
+
+-- ---- splice
+
+pub length-splice : (l xs : List ℕ) (at : ℕ) → fitsIn xs at (length l) ≡ true → length (splice l at xs) ≡ length l
+unfolding fitsIn
+length-splice l [] at h = ap length (splice-none l at)
+length-splice l (x ∷ xs) at h = splice-long l (x ∷ xs) at (leb-true _ _ h)
+
+pub splice-both : (l xs ys : List ℕ) (at : ℕ) → fitsIn xs at (length l) ≡ true → splice (splice l at xs) (at + length xs) ys ≡ splice l at (xs ++ ys)
+unfolding fitsIn
+splice-both l [] ys at h = let e : at + 0 ≡ at = omega arith in rw (splice-none, e)
+splice-both l (x ∷ xs) ys at h = splice-splice l (x ∷ xs) ys at (leb-true _ _ h)
+
+-- where the first fits, the whole fits as the second does
+fitsIn-then : (xs ys : List ℕ) (room at : ℕ) → fitsIn xs at room ≡ true → fitsIn (xs ++ ys) at room ≡ fitsIn ys (at + length xs) room
+unfolding fitsIn
+fitsIn-then [] [] room at h = refl
+fitsIn-then [] (y ∷ ys) room at h = let e : at + 0 ≡ at = omega arith in rw e
+fitsIn-then (x ∷ xs) [] room at h = ap (λ (l : List ℕ). fitsIn l at room) (append-nil (x ∷ xs)) ∙ h
+fitsIn-then (x ∷ xs) (y ∷ ys) room at h =
+    let e : at + suc (length (xs ++ y ∷ ys)) ≡ at + suc (length xs) + suc (length ys) = simp length-append (omega arith) in
+    rw e
+
+-- where the first does not fit, nor does the whole
+unfitIn-then : (xs ys : List ℕ) (room at : ℕ) → fitsIn xs at room ≡ false → fitsIn (xs ++ ys) at room ≡ false
+unfolding fitsIn
+unfitIn-then [] ys room at h = absurd (let z : _≡_ {A = ℕ} 0 1 = cc in omega arith)
+unfitIn-then (x ∷ xs) ys room at h = lt-leb (at + suc (length (xs ++ ys))) room (simp length-append (omega (arith, leb-false (at + suc (length xs)) room h)))
+
+-- ---- events in two parts
+
+pub text-then : (xs ys : List Event) → textBytes (xs ++ ys) ≡ textBytes xs ++ textBytes ys
+unfolding textBytes
+text-then [] ys = refl
+text-then (rec k w a b ∷ xs) ys = text-then xs ys
+text-then (text t ∷ xs) ys = rw (text-then xs ys) (sym (append-assoc t (textBytes xs) (textBytes ys)))
+
+pub tape-then : (from : ℕ) (xs ys : List Event) → tapeBytes from (xs ++ ys) ≡ tapeBytes from xs ++ tapeBytes (from + length (textBytes xs)) ys
+unfolding tapeBytes textBytes
+tape-then from [] ys = let e : from + 0 ≡ from = omega arith in rw e
+tape-then from (rec k w a b ∷ xs) ys = rw (tape-then from xs ys) (sym (append-assoc (bytesOf k w a b) (tapeBytes from xs) (tapeBytes (from + length (textBytes xs)) ys)))
+tape-then from (text t ∷ xs) ys =
+    let e : from + length t + length (textBytes xs) ≡ from + length (t ++ textBytes xs) = simp length-append (omega arith) in
+    rw (tape-then (from + length t) xs ys, e) (sym (append-assoc (bytesOf 11 0 from (length t)) (tapeBytes (from + length t) xs) (tapeBytes (from + length (t ++ textBytes xs)) ys)))
+
+and-left : (a b : Bool) → a && b ≡ true → a ≡ true
+and-left true b h = refl
+and-left false b h = h
+
+and-right : (a b : Bool) → a && b ≡ true → b ≡ true
+and-right true b h = h
+and-right false b h = absurd (let z : _≡_ {A = ℕ} 0 1 = cc in omega arith)
+
+-- the events fit, buffer by buffer
+pub record Fit (es : List Event) (at from tapeRoom textRoom : ℕ) : Type 0 where
+  pub tape : fitsIn (tapeBytes from es) at tapeRoom ≡ true
+  pub txt : fitsIn (textBytes es) from textRoom ≡ true
+
+fit : (es : List Event) (at from tapeRoom textRoom : ℕ) → fits es at from tapeRoom textRoom ≡ true → Fit es at from tapeRoom textRoom
+unfolding fits
+fit es at from tapeRoom textRoom h =
+    let a = fitsIn (tapeBytes from es) at tapeRoom in
+    let b = fitsIn (textBytes es) from textRoom in
+    record { tape = and-left a b h; txt = and-right a b h }
+
+fits-then : (xs ys : List Event) (at from tapeRoom textRoom : ℕ) → Fit xs at from tapeRoom textRoom
+    → fits (xs ++ ys) at from tapeRoom textRoom ≡ fits ys (at + length (tapeBytes from xs)) (from + length (textBytes xs)) tapeRoom textRoom
+unfolding fits
+fits-then xs ys at from tapeRoom textRoom h =
+    rw (tape-then from xs ys, text-then xs ys, fitsIn-then (tapeBytes from xs) (tapeBytes (from + length (textBytes xs)) ys) tapeRoom at (h .tape), fitsIn-then (textBytes xs) (textBytes ys) textRoom from (h .txt))
+
+unfits-then : (xs ys : List Event) (at from tapeRoom textRoom : ℕ) → fits xs at from tapeRoom textRoom ≡ false → fits (xs ++ ys) at from tapeRoom textRoom ≡ false
+unfolding fits
+unfits-then xs ys at from tapeRoom textRoom h =
+    by (fitsIn (tapeBytes from xs) at tapeRoom) refl (fitsIn (textBytes xs) from textRoom) refl h
+  where
+    and-false : (a : Bool) → a && false ≡ false
+    and-false true = refl
+    and-false false = refl
+
+    by : (a : Bool) → fitsIn (tapeBytes from xs) at tapeRoom ≡ a → (b : Bool) → fitsIn (textBytes xs) from textRoom ≡ b → a && b ≡ false
+        → fitsIn (tapeBytes from (xs ++ ys)) at tapeRoom && fitsIn (textBytes (xs ++ ys)) from textRoom ≡ false
+    by false e b q h = rw (tape-then from xs ys, unfitIn-then (tapeBytes from xs) (tapeBytes (from + length (textBytes xs)) ys) tapeRoom at e)
+    by true e false q h = rw (text-then xs ys, unfitIn-then (textBytes xs) (textBytes ys) textRoom from q) (and-false (fitsIn (tapeBytes from (xs ++ ys)) at tapeRoom))
+    by true e true q h = absurd (let z : _≡_ {A = ℕ} 0 1 = cc in omega arith)
+
+-- ---- what an answer tells
+
+-- the trace was not refused and fits
+pub record Went (t : Trace) (tape txt : List ℕ) (at from n m : ℕ) (tape′ txt′ : List ℕ) : Type 0 where
+  pub is : t ≡ done (eventsOf t)
+  pub fit : Fit (eventsOf t) at from (length tape) (length txt)
+  pub to : n ≡ at + length (tapeBytes from (eventsOf t))
+  pub upto : m ≡ from + length (textBytes (eventsOf t))
+  pub wrote : tape′ ≡ splice tape at (tapeBytes from (eventsOf t))
+  pub told : txt′ ≡ splice txt from (textBytes (eventsOf t))
+
+went-by : (t : Trace) (b : Bool) {tape tape′ txt txt′ : List ℕ} {at from n m : ℕ} → fits (eventsOf t) at from (length tape) (length txt) ≡ b
+    → Next n m ≡ cond b (endOf t at from) (Stop 15 0) → tape′ ≡ splice tape at (tapeBytes from (eventsOf t)) → txt′ ≡ splice txt from (textBytes (eventsOf t))
+    → Went t tape txt at from n m tape′ txt′
+unfolding eventsOf endOf
+went-by (done es) true e a w v = record { is = refl; fit = fit _ _ _ _ _ e; to = cc; upto = cc; wrote = w; told = v }
+went-by (done es) false e a w v = next-stop a
+went-by (stop es k b) true e a w v = next-stop a
+went-by (stop es k b) false e a w v = next-stop a
+
+pub went : {t : Trace} {tape tape′ txt txt′ : List ℕ} {at from n m : ℕ} → Ran t tape txt at from (Next n m) tape′ txt′ → Went t tape txt at from n m tape′ txt′
+unfolding stepOf
+went {t} {tape} {tape′} {txt} {txt′} {at} {from} {n} {m} r =
+    went-by t (fits (eventsOf t) at from (length tape) (length txt)) refl (r .answer) (r .wrote n m refl) (r .told n m refl)
+
+pub same-tape : {t : Trace} {tape tape′ txt txt′ : List ℕ} {at from n m : ℕ} → Ran t tape txt at from (Next n m) tape′ txt′ → length tape′ ≡ length tape
+same-tape {t} {tape} {at = at} {from} r = ap length (went r .wrote) ∙ length-splice tape (tapeBytes from (eventsOf t)) at (went r .fit .tape)
+
+pub same-text : {t : Trace} {tape tape′ txt txt′ : List ℕ} {at from n m : ℕ} → Ran t tape txt at from (Next n m) tape′ txt′ → length txt′ ≡ length txt
+same-text {t} {txt = txt} {from = from} r = ap length (went r .told) ∙ length-splice txt (textBytes (eventsOf t)) from (went r .fit .txt)
+
+-- ---- a refusal
+
+pub refused : {tape tape′ txt txt′ : List ℕ} {at from : ℕ} (n b : ℕ) → Ran (refuse n b) tape txt at from (Stop n b) tape′ txt′
+unfolding stepOf eventsOf endOf fits fitsIn tapeBytes textBytes
+refused n b = record { answer = refl; wrote = λ k m e. next-stop (sym e); told = λ k m e. next-stop (sym e) }
+
+-- ---- two traces
+
+step-then : (xs : List Event) (u : Trace) (tapeRoom textRoom at from : ℕ) → Fit xs at from tapeRoom textRoom
+    → stepOf (done xs then u) tapeRoom textRoom at from ≡ stepOf u tapeRoom textRoom (at + length (tapeBytes from xs)) (from + length (textBytes xs))
+unfolding stepOf eventsOf endOf _then_
+step-then xs (done ys) tapeRoom textRoom at from h =
+    let e : at + length (tapeBytes from (xs ++ ys)) ≡ at + length (tapeBytes from xs) + length (tapeBytes (from + length (textBytes xs)) ys) = rw (tape-then from xs ys) (simp length-append (omega arith)) in
+    let f : from + length (textBytes (xs ++ ys)) ≡ from + length (textBytes xs) + length (textBytes ys) = rw (text-then xs ys) (simp length-append (omega arith)) in
+    rw (fits-then xs ys at from tapeRoom textRoom h, e, f)
+step-then xs (stop ys n b) tapeRoom textRoom at from h = rw (fits-then xs ys at from tapeRoom textRoom h)
+
+events-then : (xs : List Event) (u : Trace) → eventsOf (done xs then u) ≡ xs ++ eventsOf u
+unfolding eventsOf _then_
+events-then xs (done ys) = refl
+events-then xs (stop ys n b) = refl
+
+next-done : (xs : List Event) (u : Trace) {tape tape₁ tape₂ txt txt₁ txt₂ : List ℕ} {at at₁ from from₁ : ℕ} {r : Step} → Fit xs at from (length tape) (length txt)
+    → at₁ ≡ at + length (tapeBytes from xs) → from₁ ≡ from + length (textBytes xs) → tape₁ ≡ splice tape at (tapeBytes from xs) → txt₁ ≡ splice txt from (textBytes xs)
+    → Ran u tape₁ txt₁ at₁ from₁ r tape₂ txt₂ → Ran (done xs then u) tape txt at from r tape₂ txt₂
+next-done xs u {tape} {tape₁} {tape₂} {txt} {txt₁} {txt₂} {at} {at₁} {from} {from₁} {r} h e f w v b = record {
+  answer = b .answer ∙ rw (e, f, w, v, length-splice tape (tapeBytes from xs) at (h .tape), length-splice txt (textBytes xs) from (h .txt)) (sym (step-then xs u (length tape) (length txt) at from h));
+  wrote = λ n m q. b .wrote n m q ∙ rw (e, f, w, splice-both tape (tapeBytes from xs) (tapeBytes (from + length (textBytes xs)) (eventsOf u)) at (h .tape), events-then xs u, tape-then from xs (eventsOf u));
+  told = λ n m q. b .told n m q ∙ rw (f, v, splice-both txt (textBytes xs) (textBytes (eventsOf u)) from (h .txt), events-then xs u, text-then xs (eventsOf u));
+}
+
+-- the first ran to its end: the rest is the second's
+pub then-next : {t u : Trace} {tape tape₁ tape₂ txt txt₁ txt₂ : List ℕ} {at at₁ from from₁ : ℕ} {r : Step} → Ran t tape txt at from (Next at₁ from₁) tape₁ txt₁
+    → Ran u tape₁ txt₁ at₁ from₁ r tape₂ txt₂ → Ran (t then u) tape txt at from r tape₂ txt₂
+then-next {t} {u} a b =
+    let w = went a in
+    rw (w .is) (next-done (eventsOf t) u (w .fit) (w .to) (w .upto) (w .wrote) (w .told) b)
+
+stop-by : (t u : Trace) (b : Bool) (tapeRoom textRoom at from n c : ℕ) → fits (eventsOf t) at from tapeRoom textRoom ≡ b → Stop n c ≡ cond b (endOf t at from) (Stop 15 0)
+    → Stop n c ≡ stepOf (t then u) tapeRoom textRoom at from
+unfolding eventsOf endOf _then_ stepOf
+stop-by (done xs) u true tapeRoom textRoom at from n c e a = next-stop (sym a)
+stop-by (done xs) (done ys) false tapeRoom textRoom at from n c e a = a ∙ rw (unfits-then xs ys at from tapeRoom textRoom e)
+stop-by (done xs) (stop ys k d) false tapeRoom textRoom at from n c e a = a ∙ rw (unfits-then xs ys at from tapeRoom textRoom e)
+stop-by (stop xs k d) u b tapeRoom textRoom at from n c e a = a ∙ rw e
+
+-- the first was refused, or did not fit: so is the whole
+pub then-stop : (u : Trace) {t : Trace} {tape tape₁ tape₂ txt txt₁ txt₂ : List ℕ} {at from n c : ℕ} → Ran t tape txt at from (Stop n c) tape₁ txt₁ → Ran (t then u) tape txt at from (Stop n c) tape₂ txt₂
+unfolding stepOf
+then-stop u {t} {tape} {txt = txt} {at = at} {from} {n} {c} r = record {
+  answer = stop-by t u (fits (eventsOf t) at from (length tape) (length txt)) (length tape) (length txt) at from n c refl (r .answer);
+  wrote = λ k m e. next-stop (sym e);
+  told = λ k m e. next-stop (sym e);
+}
+
+-- ---- after a step
+
+pub from-next : {t : Trace} {tape tape′ txt txt′ : List ℕ} {s r : Step} (at from : ℕ) → s ≡ Next at from → Ran t tape txt at from r tape′ txt′ → From t tape txt s r tape′ txt′
+from-next {t} {tape} {tape′} {txt} {txt′} {s} {r} at from e h = record {
+  on = λ k j q. let z : k ≡ at = cc in let y : j ≡ from = cc in rw (z, y) h;
+  off = λ n b q. next-stop (sym e ∙ q);
+}
+
+pub from-stop : {t : Trace} {tape tape′ txt txt′ : List ℕ} {s : Step} (n b : ℕ) → s ≡ Stop n b → From t tape txt s (Stop n b) tape′ txt′
+from-stop n b e = record { on = λ k j q. next-stop (sym q ∙ e); off = λ k c q. sym e ∙ q }
+
+-- a step that is a refusal stays it, whatever was to run
+pub from-held : {t : Trace} {tape tape′ txt txt′ : List ℕ} {s : Step} (n b : ℕ) → s ≡ Stop n b → From t tape txt s s tape′ txt′
+from-held n b e = record { on = λ k j q. next-stop (sym q ∙ e); off = λ k c q. q }
+
+pub halts-next : {s : Step} {n b : ℕ} (at from : ℕ) → s ≡ Next at from → Halts s n b (Stop n b)
+halts-next at from e = record { on = λ k j q. refl; off = λ k c q. next-stop (sym e ∙ q) }
+
+pub halts-stop : {s : Step} (n b k c : ℕ) → s ≡ Stop k c → Halts s n b (Stop k c)
+halts-stop n b k c e = record { on = λ j i q. next-stop (sym q ∙ e); off = λ j d q. sym e ∙ q }
+
+-- the first, then the second
+on-by : {t u : Trace} {tape tape₁ tape₂ txt txt₁ txt₂ : List ℕ} {at from : ℕ} (r : Step) {r′ : Step} → Ran t tape txt at from r tape₁ txt₁ → From u tape₁ txt₁ r r′ tape₂ txt₂
+    → Ran (t then u) tape txt at from r′ tape₂ txt₂
+on-by (Next n m) a b = then-next a (b .on n m refl)
+on-by (Stop n c) {r′} a b = let e : r′ ≡ Stop n c = b .off n c refl in rw e (then-stop _ a)
+
+pub chain : {t u : Trace} {tape tape₁ tape₂ txt txt₁ txt₂ : List ℕ} {s r r′ : Step} → From t tape txt s r tape₁ txt₁ → From u tape₁ txt₁ r r′ tape₂ txt₂ → From (t then u) tape txt s r′ tape₂ txt₂
+chain {r = r} a b = record { on = λ at from e. on-by r (a .on at from e) b; off = λ n c e. b .off n c (a .off n c e) }
+
+-- the same trace under another name
+pub from-as : {t t′ : Trace} {tape tape′ txt txt′ : List ℕ} {s r : Step} → t ≡ t′ → From t′ tape txt s r tape′ txt′ → From t tape txt s r tape′ txt′
+from-as e h = rw e h
+
+-- a refusal is the trace of one
+pub halted : {tape tape′ txt txt′ : List ℕ} {s r : Step} {n b : ℕ} → Halts s n b r → From (refuse n b) tape txt s r tape′ txt′
+halted {tape} {tape′} {txt} {txt′} {s} {r} {n} {b} h = record { on = λ at from e. let q : r ≡ Stop n b = h .on at from e in rw q (refused n b); off = h .off }
+
+-- ---- a loop: whatever runs `u` from here on, runs `t` from the loop's beginning on
+
+pub record Rest (t : Trace) (tape txt : List ℕ) (s : Step) (u : Trace) (tape₁ txt₁ : List ℕ) (s₁ : Step) : Type 0 where
+  pub finish : (r : Step) (tape₂ txt₂ : List ℕ) → From u tape₁ txt₁ s₁ r tape₂ txt₂ → From t tape txt s r tape₂ txt₂
+
+pub rest-all : {t u : Trace} {tape txt : List ℕ} {s : Step} → t ≡ u → Rest t tape txt s u tape txt s
+rest-all e = record { finish = λ r tape₂ txt₂ x. from-as e x }
+
+pub rest-next : {t u v w : Trace} {tape tape₁ tape₂ txt txt₁ txt₂ : List ℕ} {s s₁ r : Step} → Rest t tape txt s w tape₁ txt₁ s₁ → w ≡ u then v → From u tape₁ txt₁ s₁ r tape₂ txt₂ → Rest t tape txt s v tape₂ txt₂ r
+rest-next q e a = record { finish = λ r′ tape₃ txt₃ x. q .finish r′ tape₃ txt₃ (from-as e (chain a x)) }

@@ -1,0 +1,176 @@
+-- The equations of the walk: what it is where the code's tests have led. They are the only place that opens its definitions. Assumes nothing.
+use mathlib.Core.Path.{_≡_, refl, sym, ap, _∙_}
+use mathlib.Core.Bool.{Bool, true, false, cond}
+use mathlib.Core.List.{List}
+use Prim.Native.Nat.{ℕ, zero, suc, _+_, _*_, _-_, _/_, _≤_, _<_}
+use native.Mathlib.Omega.{arith}
+use native.Mathlib.Nat.{mul-comm, mul-assoc}
+use lib.ListN.{length}
+use lib.Dec.{leb, eqb}
+use borrow.Author.Tests.{le-leb, lt-leb, eq-eqb, ne-eqb, eqb-true, leb-false}
+use Rattle.typebook.specs.Book.{sizeOf, fieldsOf, countOf, dimensionsOf}
+use Rattle.resolvers.specs.Resolve.{lookUp, resolveField, fieldsCheck}
+use Rattle.resolvers.specs.declared.ResolvedField.{ResolvedField}
+use Rattle.resolvers.specs.declared.Resolved.{Resolved}
+use Rattle.resolvers.specs.declared.Resolved.the-variants as resolved
+use Rattle.resolvers.specs.declared.FieldAnswer.{FieldAnswer}
+use Rattle.resolvers.specs.declared.FieldAnswer.the-variants as answer
+use Rattle.resolvers.specs.declared.FieldsCheck.{FieldsCheck}
+use Rattle.resolvers.specs.declared.FieldsCheck.the-variants as check
+use Rattle.de.specs.declared.deserializer.Shape.{Shape}
+use Rattle.de.specs.declared.deserializer.Shape.the-variants as shape
+use Rattle.de.specs.Trace.{Trace, rec, one, refuse, _then_}
+use Rattle.de.specs.Walk.{Ctx, Item, whole, further, Child, cut, shapeAt, leafOf, checked, fieldValue, memberOf, membersFrom, membersOf, mapOf, productFrom, strideOf, isLast, elementItem, shapeCheck, elementCheck, elementsFrom, elementsOf, dimensionOf, bytesOf, arrayBy, arrayOf, shapeWalk, itemWalk, walk, Fills, FillsNext}
+
+-- ---- a value
+
+module _ (c : Ctx) (left : ℕ) (mem : List ℕ) where
+  pub walk-deep : (i : Item) → left ≡ 0 → walk c left i mem ≡ refuse 14 0
+  unfolding walk
+  walk-deep i e = rw e
+
+  pub walk-shape : (t : ℕ) (k : Shape) → (left ≡ 0 → ⊥) → k ≡ shapeAt c t → walk c left (whole t) mem ≡ shapeWalk (walk c (left - 1)) c t mem k
+  unfolding walk itemWalk
+  walk-shape t k n q =
+      let e : left ≡ suc (left - 1) = omega arith in
+      ap (λ (l : ℕ). walk c l (whole t) mem) e ∙ rw q
+
+  pub walk-further : (d t e : ℕ) → (left ≡ 0 → ⊥) → walk c left (further d t e) mem ≡ dimensionOf (walk c (left - 1)) c d t e mem
+  unfolding walk itemWalk
+  walk-further d t e n =
+      let q : left ≡ suc (left - 1) = omega arith in
+      ap (λ (l : ℕ). walk c l (further d t e) mem) q
+
+-- ---- a field, and the fields
+
+module _ (child : Child) (c : Ctx) (mem : List ℕ) where
+  module _ (f : ℕ) (a : FieldAnswer) (q : a ≡ resolveField (c .book) (c .width) f) where
+    pub member-lacks : (b : ℕ) → a ≡ answer.Lacks b → memberOf child c mem f ≡ one (rec 4 0 f 0) then refuse 7 b
+    unfolding memberOf fieldValue
+    member-lacks b e = rw (← q, e)
+
+    pub member-endless : a ≡ answer.Endless → memberOf child c mem f ≡ one (rec 4 0 f 0) then refuse 8 0
+    unfolding memberOf fieldValue
+    member-endless e = rw (← q, e)
+
+    module _ (x : ResolvedField) (e : a ≡ answer.Field x) where
+      pub member-over : length mem < x .offset + x .size → memberOf child c mem f ≡ one (rec 4 0 f 0) then refuse 10 0
+      unfolding memberOf fieldValue
+      member-over l = rw (← q, e, lt-leb (x .offset + x .size) (length mem) l)
+
+      pub member-in : x .offset + x .size ≤ length mem → memberOf child c mem f ≡ one (rec 4 0 f 0) then child (whole (x .resolved)) (cut (x .offset) (x .size) mem)
+      unfolding memberOf fieldValue
+      member-in l = rw (← q, e, le-leb (x .offset + x .size) (length mem) l)
+
+  pub members-all : (t n : ℕ) → membersFrom child c mem (t + 1) n ≡ membersFrom child c mem (t + 1 + 0) (n - 0)
+  members-all t n =
+      let e : n - 0 ≡ n = omega arith in
+      let k : t + 1 + 0 ≡ t + 1 = omega arith in
+      rw (e, k)
+
+  pub members-more : (t i n : ℕ) → i < n
+      → membersFrom child c mem (t + 1 + i) (n - i) ≡ memberOf child c mem (t + 1 + i) then membersFrom child c mem (t + 1 + (i + 1)) (n - (i + 1))
+  unfolding membersFrom
+  members-more t i n h =
+      let e : n - i ≡ suc (n - (i + 1)) = omega arith in
+      let k : t + 1 + i + 1 ≡ t + 1 + (i + 1) = omega arith in
+      rw (e, k)
+
+  pub members-none : (t i n : ℕ) → n ≤ i → membersFrom child c mem (t + 1 + i) (n - i) ≡ one (rec 5 0 0 0)
+  unfolding membersFrom
+  members-none t i n h = let e : n - i ≡ 0 = omega arith in rw e
+
+  pub members-of : (t n : ℕ) → n ≡ fieldsOf (c .book) t → membersOf child c t mem ≡ one (rec 3 0 n 0) then membersFrom child c mem (t + 1) n
+  unfolding membersOf
+  members-of t n e = rw e
+
+  module _ (t size : ℕ) (s : size ≡ sizeOf (c .book) t) where
+    pub map-odd : (length mem ≡ size → ⊥) → mapOf child c t mem ≡ refuse 10 0
+    unfolding mapOf
+    map-odd h = rw (← s, ne-eqb (length mem) size h)
+
+    module _ (h : length mem ≡ size) (k : FieldsCheck) (q : k ≡ fieldsCheck (c .book) (c .width) t) where
+      pub map-even : mapOf child c t mem ≡ checked k (membersOf child c t mem)
+      unfolding mapOf
+      map-even = rw (← s, eq-eqb (length mem) size h, q)
+
+  -- ---- an array
+
+  module _ (t size : ℕ) (s : size ≡ sizeOf (c .book) t) where
+    pub array-odd : (length mem ≡ size → ⊥) → arrayOf child c t mem ≡ refuse 10 0
+    unfolding arrayOf
+    array-odd h = rw (← s, ne-eqb (length mem) size h)
+
+    pub array-even : length mem ≡ size → (r : Resolved) → r ≡ lookUp (c .book) (c .width) t → arrayOf child c t mem ≡ arrayBy child c t mem r
+    unfolding arrayOf
+    array-even h r q = rw (← s, eq-eqb (length mem) size h, q)
+
+  pub elements-of : (d t e n : ℕ) → n ≡ countOf (c .book) t d
+      → elementsOf child c d t e mem ≡ one (rec 1 0 n 0) then elementsFrom child (elementItem c d t e) (strideOf (c .book) d t e) mem 0 n
+  unfolding elementsOf
+  elements-of d t e n q = rw q
+
+  pub dimension-by : (d t e : ℕ) (k : FieldsCheck) → k ≡ elementCheck c d t e → dimensionOf child c d t e mem ≡ checked k (elementsOf child c d t e mem)
+  unfolding dimensionOf
+  dimension-by d t e k q = rw q
+
+module _ (child : Child) (item : Item) (mem : List ℕ) (stride : ℕ) where
+  pub elements-all : (n : ℕ) → elementsFrom child item stride mem 0 n ≡ elementsFrom child item stride mem 0 (n - 0)
+  elements-all n = let q : n - 0 ≡ n = omega arith in rw q
+
+  pub elements-more : (from i n : ℕ) → i < n
+      → elementsFrom child item stride mem from (n - i) ≡ child item (cut from stride mem) then elementsFrom child item stride mem (from + stride) (n - (i + 1))
+  unfolding elementsFrom
+  elements-more from i n h = let q : n - i ≡ suc (n - (i + 1)) = omega arith in rw q
+
+  pub elements-none : (from i n : ℕ) → n ≤ i → elementsFrom child item stride mem from (n - i) ≡ one (rec 2 0 0 0)
+  unfolding elementsFrom
+  elements-none from i n h = let q : n - i ≡ 0 = omega arith in rw q
+
+module _ (c : Ctx) (d t e : ℕ) (b : Bool) (q : b ≡ isLast (c .book) d t) where
+  pub item-last : b ≡ true → elementItem c d t e ≡ whole e
+  unfolding elementItem
+  item-last h = rw (← q, h)
+
+  pub item-further : b ≡ false → elementItem c d t e ≡ further (d + 1) t e
+  unfolding elementItem
+  item-further h = rw (← q, h)
+
+  pub check-not-last : b ≡ false → check.Fine ≡ elementCheck c d t e
+  unfolding elementCheck
+  check-not-last h = rw (← q, h)
+
+  module _ (h : b ≡ true) (k : Shape) (s : k ≡ shapeAt c e) where
+    pub check-map : k ≡ shape.Map → (r : FieldsCheck) → r ≡ fieldsCheck (c .book) (c .width) e → r ≡ elementCheck c d t e
+    unfolding elementCheck shapeCheck
+    check-map z r x = rw (← q, h, ← s, z) x
+
+    pub check-array : k ≡ shape.Array → check.Fine ≡ elementCheck c d t e
+    unfolding elementCheck shapeCheck
+    check-array z = rw (← q, h, ← s, z)
+
+    pub check-leaf : k ≡ shape.Leaf → check.Fine ≡ elementCheck c d t e
+    unfolding elementCheck shapeCheck
+    check-leaf z = rw (← q, h, ← s, z)
+
+-- ---- the bytes of an array's elements
+
+swap : (a b p : ℕ) → a * (b * p) ≡ b * (a * p)
+swap a b p = sym (mul-assoc a b p) ∙ ap (λ (x : ℕ). x * p) (mul-comm a b) ∙ mul-assoc b a p
+
+-- the whole array is its first dimension
+pub fills-first : (book : List ℕ) (t e len : ℕ) (b : Bool) → b ≡ eqb (bytesOf book t e) len → b ≡ true → Fills book 0 t e len
+unfolding bytesOf
+fills-first book t e len b q h = record { fills = eqb-true _ _ (sym q ∙ h) }
+
+-- one index of a dimension that is not the last is the next dimension
+pub fills-further : (book : List ℕ) (d t e len : ℕ) (b : Bool) → b ≡ isLast book d t → b ≡ false → FillsNext book d t e len → Fills book (d + 1) t e len
+unfolding isLast strideOf productFrom
+fills-further book d t e len b q h f =
+    let l : d + 1 < dimensionsOf book t = leb-false (dimensionsOf book t) (d + 1) (sym q ∙ h) in
+    let k : dimensionsOf book t - (d + 1) ≡ suc (dimensionsOf book t - (d + 1 + 1)) = omega arith in
+    record {
+      fills =
+          swap (countOf book t (d + 1)) (sizeOf book e) (productFrom book t (d + 1 + 1) (dimensionsOf book t - (d + 1 + 1)))
+          ∙ (rw k at (f .fills));
+    }

@@ -1,0 +1,109 @@
+-- The whole read, from its last step. Assumes nothing.
+use mathlib.Core.Path.{_≡_, refl, sym, ap, _∙_}
+use mathlib.Core.Bool.{true}
+use mathlib.Core.List.{List}
+use Prim.Native.Nat.{ℕ, _≤_, _+_, _-_, _/_}
+use native.Mathlib.Omega.{arith}
+use borrow.Author.Tests.{ne-eqb}
+use lib.ListN.{length, take, drop, replicate}
+use Rattle.typebook.specs.Book.{isType}
+use Rattle.book_check.specs.Check.{ValidBook, checkRoot}
+use Rattle.book_check.specs.declared.RootCheck.{RootCheck}
+use Rattle.book_check.specs.declared.RootCheck.the-variants as root
+use Rattle.book_check.proofs.Valid.{root-valid}
+use Rattle.resolvers.proofs.Calls.{root-fits}
+use Rattle.resolvers.specs.Resolve.{resolveAlias, ResolvedIs}
+use Rattle.resolvers.specs.declared.Resolved.{Resolved}
+use Rattle.resolvers.specs.declared.Resolved.the-variants as resolved
+use Rattle.de.specs.declared.step.Step.{Step}
+use Rattle.de.specs.declared.step.Step.the-variants.{Next, Stop}
+use Rattle.de.specs.declared.deserializer.ReadAnswer.{ReadAnswer}
+use Rattle.de.specs.declared.deserializer.ReadAnswer.the-variants.{Done, NotFound, Refused}
+use Rattle.de.specs.Trace.{Trace, tapeBytes, textBytes, eventsOf, refuse, stepOf, Ran, From}
+use Rattle.de.specs.Walk.{Ctx, ctx, whole, walk}
+use Rattle.de.specs.Read.{rootBy, rootTrace, checkedTrace, readTrace, refusalOf, answerOf, bufferAfter, ReadIs, Finished}
+use Rattle.de.proofs.Runs.{refused, next-stop}
+
+module _ (t : Trace) (tape txt tape₁ txt₁ : List ℕ) (s : Step) (h : Ran t tape txt 0 0 s tape₁ txt₁) (same : length tape₁ ≡ length tape) (same-text : length txt₁ ≡ length txt)
+    {r : ReadAnswer} {tape₂ txt₂ : List ℕ} (f : Finished s tape₁ txt₁ r tape₂ txt₂) where
+  tape-by : (z : Step) → s ≡ z → tape₂ ≡ bufferAfter z (tapeBytes 0 (eventsOf t)) tape
+  tape-by (Next n m) e = f .on n m e .0 ∙ h .wrote n m e
+  tape-by (Stop n b) e = f .off n b e .0 ∙ ap (λ (k : ℕ). replicate k 0) same
+
+  text-by : (z : Step) → s ≡ z → txt₂ ≡ bufferAfter z (textBytes (eventsOf t)) txt
+  text-by (Next n m) e = f .on n m e .1 ∙ h .told n m e
+  text-by (Stop n b) e = f .off n b e .1 ∙ ap (λ (k : ℕ). replicate k 0) same-text
+
+  pub read-by : ReadIs t tape txt r tape₂ txt₂
+  read-by = record {
+    answer = f .answer ∙ ap answerOf (h .answer);
+    tape-is = tape-by (stepOf t (length tape) (length txt) 0 0) (h .answer);
+    text-is = text-by (stepOf t (length tape) (length txt) 0 0) (h .answer);
+  }
+
+-- a refusal before anything was emitted
+pub read-refused : (n b : ℕ) {tape txt tape₂ txt₂ : List ℕ} {r : ReadAnswer} → Finished (Stop n b) tape txt r tape₂ txt₂ → ReadIs (refuse n b) tape txt r tape₂ txt₂
+read-refused n b {tape} {txt} f = read-by (refuse n b) tape txt tape txt (Stop n b) (refused n b) refl refl f
+
+pub read-as : {t t′ : Trace} {tape txt tape₂ txt₂ : List ℕ} {r : ReadAnswer} → t ≡ t′ → ReadIs t′ tape txt r tape₂ txt₂ → ReadIs t tape txt r tape₂ txt₂
+read-as e h = rw e h
+
+-- ---- a checked book
+
+module _ (c : Ctx) (n : ℕ) (mem : List ℕ) (k : Resolved) (q : ResolvedIs (c .book) (resolveAlias (c .book) (c .width) n) k) {tape txt tape₂ txt₂ : List ℕ} {r : ReadAnswer} where
+  pub root-lacks : (b : ℕ) → k ≡ resolved.Lacks b → Finished (Stop 7 b) tape txt r tape₂ txt₂ → ReadIs (rootTrace c n mem) tape txt r tape₂ txt₂
+  unfolding rootTrace rootBy
+  root-lacks b e f = read-as (rw (← (q .is), e)) (read-refused 7 b f)
+
+  pub root-endless : k ≡ resolved.Endless → Finished (Stop 8 0) tape txt r tape₂ txt₂ → ReadIs (rootTrace c n mem) tape txt r tape₂ txt₂
+  unfolding rootTrace rootBy
+  root-endless e f = read-as (rw (← (q .is), e)) (read-refused 8 0 f)
+
+  pub root-base : (t : ℕ) → k ≡ resolved.Base t → (s : Step) {tape₁ txt₁ : List ℕ} → From (walk c 64 (whole t) mem) tape txt (Next 0 0) s tape₁ txt₁
+      → length tape₁ ≡ length tape → length txt₁ ≡ length txt → Finished s tape₁ txt₁ r tape₂ txt₂ → ReadIs (rootTrace c n mem) tape txt r tape₂ txt₂
+  unfolding rootTrace rootBy
+  root-base t e s {tape₁} {txt₁} h a b f = read-as (rw (← (q .is), e)) (read-by (walk c 64 (whole t) mem) tape txt tape₁ txt₁ s (h .on 0 0 refl) a b f)
+
+-- ---- any bytes
+
+module _ (buffer : List ℕ) (len width n : ℕ) (mem : List ℕ) (k : RootCheck) (q : k ≡ checkRoot buffer len n) {tape txt tape₂ txt₂ : List ℕ} {r : ReadAnswer} where
+  pub call-refused : (m : ℕ) → k ≡ root.Refused m → Finished (Stop m 0) tape txt r tape₂ txt₂ → ReadIs (readTrace buffer len width n mem) tape txt r tape₂ txt₂
+  unfolding readTrace checkedTrace
+  call-refused m e f = read-as (rw (← q, e)) (read-refused m 0 f)
+
+  pub call-root : (m : ℕ) → k ≡ root.Root m → ReadIs (rootTrace (ctx (take (len - 0) (drop 0 buffer)) width) m mem) tape txt r tape₂ txt₂ → ReadIs (readTrace buffer len width n mem) tape txt r tape₂ txt₂
+  unfolding readTrace checkedTrace
+  call-root m e f = let z : len - 0 ≡ len = omega arith in read-as (rw (← q, e)) (rw z at f)
+
+-- ---- the answer after the last step
+
+pub refusal-seven : (n b : ℕ) → n ≡ 7 → NotFound b ≡ refusalOf n b
+refusal-seven n b e = rw e
+
+pub refusal-other : (n b : ℕ) → (n ≡ 7 → ⊥) → Refused n ≡ refusalOf n b
+refusal-other n b h = rw (ne-eqb n 7 h)
+
+pub finish-next : (n m : ℕ) (s : Step) (tape txt : List ℕ) → s ≡ Next n m → Finished s tape txt (Done (n / 24) m) tape txt
+finish-next n m s tape txt e = record { answer = rw e; on = λ i j q. (refl, refl); off = λ i b q. next-stop (sym e ∙ q) }
+
+pub finish-stop : (n b : ℕ) (s : Step) (tape txt tape₁ txt₁ : List ℕ) (r : ReadAnswer) → s ≡ Stop n b → tape₁ ≡ replicate (length tape) 0 → txt₁ ≡ replicate (length txt) 0 → r ≡ refusalOf n b
+    → Finished s tape txt r tape₁ txt₁
+finish-stop n b s tape txt tape₁ txt₁ r e p q h = record { answer = rw e h; on = λ i j z. next-stop (sym z ∙ e); off = λ i c z. (p, q) }
+
+-- ---- what calls ask
+
+pub typed-root : {book : List ℕ} {a r : Resolved} {t : ℕ} → ResolvedIs book a r → r ≡ resolved.Base t → isType book t ≡ true
+typed-root {t = t} h e = h .typed t e
+
+module _ (buffer : List ℕ) (len n : ℕ) (k : RootCheck) (q : k ≡ checkRoot buffer len n) (m : ℕ) (e : k ≡ root.Root m) where
+  same-bytes : take (len - 0) (drop 0 buffer) ≡ take len buffer
+  same-bytes = let z : len - 0 ≡ len = omega arith in rw z
+
+  pub call-room : len ≤ length buffer
+  call-room = root-fits buffer len n m (sym q ∙ e)
+
+  pub call-book : ValidBook (take (len - 0) (drop 0 buffer))
+  call-book = rw same-bytes (root-valid buffer len n m (sym q ∙ e) .valid)
+
+  pub call-type : isType (take (len - 0) (drop 0 buffer)) m ≡ true
+  call-type = rw same-bytes (root-valid buffer len n m (sym q ∙ e) .kind)

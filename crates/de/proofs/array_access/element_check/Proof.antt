@@ -1,0 +1,56 @@
+use Rattle.de.proofs.Walks.{check-map, check-array, check-leaf, check-not-last}
+use borrow.Author.Needs.{needs}
+use Rattle.de.proofs.array_access.element_check.Statement.{statement}
+use Rattle.de.proofs.array_access.element_check.Tie as tie
+use Rattle.de.proofs.array_access.element_check.Reads as reads
+use Rattle.de.proofs.array_access.element_check.Lts as lts
+use Rattle.de.proofs.array_access.is_last.Reads as is-last-reads
+use Rattle.de.proofs.deserializer.shape_at.Reads as shape-at-reads
+use Rattle.resolvers.proofs.check_fields_in.Reads as check-fields-in-reads
+
+ruleset exits = (check-map, check-array, check-leaf, check-not-last)
+
+is-last-requires : tie.Need-is-last-requires
+is-last-requires c κs = search needs
+
+shape-at-requires : tie.Need-shape-at-requires
+shape-at-requires c κs = search needs
+
+enum-told : tie.Need-enum-told
+enum-told c = search needs
+
+check-fields-in-requires : tie.Need-check-fields-in-requires
+check-fields-in-requires c κs = search needs
+
+enum-told-2 : tie.Need-enum-told-2
+enum-told-2 c = search needs
+
+enum-told-3 : tie.Need-enum-told-3
+enum-told-3 c = search needs
+
+returns : tie.Need-returns
+returns c = search exits
+
+returns-2 : tie.Need-returns-2
+returns-2 c = search exits
+
+returns-3 : tie.Need-returns-3
+returns-3 c = search exits
+
+returns-4 : tie.Need-returns-4
+returns-4 c = search exits
+
+pub element-check-spec : {M : Type 1} → statement M
+element-check-spec =
+    tie.close
+    (tie.spec
+    is-last-requires
+    shape-at-requires
+    enum-told
+    check-fields-in-requires
+    enum-told-2
+    enum-told-3
+    returns
+    returns-2
+    returns-3
+    returns-4)

@@ -1,0 +1,27 @@
+use Rattle.de.proofs.Puts.{leaf-at}
+use borrow.Author.Needs.{needs}
+use Rattle.de.proofs.deserializer.leaf.Statement.{statement}
+use Rattle.de.proofs.deserializer.leaf.Tie as tie
+use Rattle.de.proofs.deserializer.leaf.Reads as reads
+use Rattle.de.proofs.deserializer.leaf.Lts as lts
+use Rattle.de.proofs.step.put_leaf.Reads as put-leaf-reads
+use Rattle.leaves.proofs.leaf.leaf_in.Reads as leaf-in-reads
+
+leaf-in-requires : tie.Need-leaf-in-requires
+leaf-in-requires c κs = search needs
+
+put-leaf-requires : tie.Need-put-leaf-requires
+put-leaf-requires c κs = search needs
+
+same-length : tie.Need-same-length
+same-length c = search needs
+
+same-length-2 : tie.Need-same-length-2
+same-length-2 c = search needs
+
+returns : tie.Need-returns
+returns c = search leaf-at
+
+pub leaf-spec : {M : Type 1} → statement M
+leaf-spec =
+    tie.close (tie.spec leaf-in-requires put-leaf-requires same-length same-length-2 returns)

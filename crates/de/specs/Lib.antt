@@ -1,0 +1,4 @@
+pub mod Trace
+pub mod Leaves
+pub mod Walk
+pub mod Read

@@ -1,0 +1,83 @@
+-- A trace: what a read emits, up to its end or its first refusal. It knows of no buffer.
+-- `Ran` says what a trace does to a tape and a text buffer, from some places on. Assumes nothing.
+use mathlib.Core.Path.{_≡_}
+use mathlib.Core.Bool.{Bool, true, false, cond, _&&_}
+use mathlib.Core.List.{List, [], _∷_, _++_}
+use Prim.Native.Nat.{ℕ, _+_}
+use lib.ListN.{length}
+use Rattle.utf_8.specs.Buffer.{splice, fitsIn}
+use Rattle.tape.specs.Record.{recordBytes}
+use Rattle.de.specs.declared.step.Step.{Step}
+use Rattle.de.specs.declared.step.Step.the-variants.{Next, Stop}
+
+-- the 24 bytes of a record
+abbrev pub bytesOf : ℕ → ℕ → ℕ → ℕ → List ℕ
+bytesOf kind width a b = recordBytes (record { kind = kind; width = width; a = a; b = b })
+
+-- a record of the tape, or a text, which has a record of its own
+pub data Event : Type 0 where
+  rec : ℕ → ℕ → ℕ → ℕ → Event
+  text : List ℕ → Event
+
+-- the bytes of the texts, one after the other
+unfoldable pub textBytes : List Event → List ℕ
+textBytes [] = []
+textBytes (rec k w a b ∷ es) = textBytes es
+textBytes (text xs ∷ es) = xs ++ textBytes es
+
+-- the bytes of the records, where the first text starts at `from`: a text's record has kind 11, its start and its length
+unfoldable pub tapeBytes : ℕ → List Event → List ℕ
+tapeBytes from [] = []
+tapeBytes from (rec k w a b ∷ es) = bytesOf k w a b ++ tapeBytes from es
+tapeBytes from (text xs ∷ es) = bytesOf 11 0 from (length xs) ++ tapeBytes (from + length xs) es
+
+pub data Trace : Type 0 where
+  done : List Event → Trace
+  stop : List Event → ℕ → ℕ → Trace
+
+-- what a trace emits
+unfoldable pub eventsOf : Trace → List Event
+eventsOf (done es) = es
+eventsOf (stop es n b) = es
+
+-- where a trace ends that starts at `at` on the tape and at `from` in the text; or its refusal, a number and a block
+unfoldable pub endOf : Trace → ℕ → ℕ → Step
+endOf (done es) at from = Next (at + length (tapeBytes from es)) (from + length (textBytes es))
+endOf (stop es n b) at from = Stop n b
+
+abbrev pub one : Event → Trace
+one e = done (e ∷ [])
+
+abbrev pub refuse : ℕ → ℕ → Trace
+refuse n b = stop [] n b
+
+-- the first, and if it is not refused the second
+infixr 5 _then_
+unfoldable pub _then_ : Trace → Trace → Trace
+done xs then done ys = done (xs ++ ys)
+done xs then stop ys n b = stop (xs ++ ys) n b
+stop xs n b then u = stop xs n b
+
+-- the records and the texts fit
+unfoldable pub fits : List Event → ℕ → ℕ → ℕ → ℕ → Bool
+fits es at from tapeRoom textRoom = fitsIn (tapeBytes from es) at tapeRoom && fitsIn (textBytes es) from textRoom
+
+-- the answer of a trace at two buffers: 15 if what it emits does not fit, else where it ends
+unfoldable pub stepOf : Trace → ℕ → ℕ → ℕ → ℕ → Step
+stepOf t tapeRoom textRoom at from = cond (fits (eventsOf t) at from tapeRoom textRoom) (endOf t at from) (Stop 15 0)
+
+-- what a function that runs a trace promises: the answer, and both buffers where it is not refused
+pub record Ran (t : Trace) (tape txt : List ℕ) (at from : ℕ) (r : Step) (tape′ txt′ : List ℕ) : Type 0 where
+  pub answer : r ≡ stepOf t (length tape) (length txt) at from
+  pub wrote : (n m : ℕ) → r ≡ Next n m → tape′ ≡ splice tape at (tapeBytes from (eventsOf t))
+  pub told : (n m : ℕ) → r ≡ Next n m → txt′ ≡ splice txt from (textBytes (eventsOf t))
+
+-- a trace that runs after a step: a refusal is handed on
+pub record From (t : Trace) (tape txt : List ℕ) (s r : Step) (tape′ txt′ : List ℕ) : Type 0 where
+  pub on : (at from : ℕ) → s ≡ Next at from → Ran t tape txt at from r tape′ txt′
+  pub off : (n b : ℕ) → s ≡ Stop n b → r ≡ Stop n b
+
+-- a refusal after a step
+pub record Halts (s : Step) (n b : ℕ) (r : Step) : Type 0 where
+  pub on : (at from : ℕ) → s ≡ Next at from → r ≡ Stop n b
+  pub off : (k c : ℕ) → s ≡ Stop k c → r ≡ Stop k c

@@ -1,0 +1,226 @@
+// An array: its dimensions in order, the last one's elements by their type.
+ghost use mathlib.Core.Path.{_≡_};
+ghost use mathlib.Core.Bool.{true};
+ghost use Prim.Native.Nat.{_*_, _≤_, min};
+ghost use lib.Dec.{eqb};
+ghost use lib.ListN.{length};
+ghost use Rattle.book_check.specs.Check.{ValidBook};
+ghost use Rattle.typebook.specs.Book.{isType};
+ghost use Rattle.de.specs.Trace.{From};
+ghost use Rattle.de.specs.Walk.{ctx, walk, arrayOf, dimensionOf, elementsOf, elementItem, elementCheck, isLast, bytesOf, Fills, FillsNext, StrideIs};
+use crate::deserializer::Shape;
+use crate::deserializer::shape_at;
+use crate::deserializer::value;
+use crate::step::Step;
+use crate::step::put;
+use crate::step::stop;
+use resolvers::FieldsCheck;
+use resolvers::Resolved;
+
+// No length reaches this, so a product that does needs not be known.
+const TOP: u64 = 0x8000_0000_0000_0000;
+
+// The product, or TOP where it is more.
+fn times(p: u64, b: u32) -> u64
+    requires { ⌜ p ≤ 0x8000_0000_0000_0000 ⌝ }
+    ensures { λ r. ⌜ r ≡ min (p * b) 0x8000_0000_0000_0000 ⌝ }
+{
+    if b == 0 {
+        return 0;
+    }
+    let m = b as u64;
+    if TOP / m < p {
+        return TOP;
+    }
+    p * m
+}
+
+// Whether the element's size times all counts is the number of bytes, exactly.
+pub fn product_is(book: &[u8], t: u32, e: u32, bytes: &[u8]) -> bool
+    ensures { λ r. ⌜ r ≡ eqb (bytesOf (now (book .entry)) t e) (length (now (bytes .entry))) ⌝ }
+{
+    let dims = typebook::block::dimensions(book, t);
+    let mut p = times(
+        typebook::block::count(book, t, 0) as u64,
+        typebook::block::size(book, e),
+    );
+    let mut d: u8 = 1;
+    while d < dims {
+        p = times(p, typebook::block::count(book, t, d));
+        d += 1;
+    }
+    p == bytes.len() as u64
+}
+
+pub fn is_last(book: &[u8], d: u8, t: u32) -> bool
+    ensures { λ r. ⌜ r ≡ isLast (now (book .entry)) d t ⌝ }
+{
+    typebook::block::dimensions(book, t) as u32 <= d as u32 + 1
+}
+
+// Array t, after its element's type was looked up.
+pub fn array(
+    s: Step,
+    book: &[u8],
+    index: &[u32],
+    width: u8,
+    t: u32,
+    bytes: &[u8],
+    left: usize,
+    tape: &mut [u8],
+    text: &mut [u8],
+) -> Step
+    requires { ⌜ ValidBook (now book) × (isType (now book) t ≡ true) ⌝ }
+    ensures { λ r. ⌜ From (arrayOf (walk (ctx (now (book .entry)) width) left) (ctx (now (book .entry)) width) t (now (bytes .entry))) (now (tape .entry)) (now (text .entry)) s r (now (tape .exit)) (now (text .exit)) ⌝ }
+{
+    if bytes.len() != typebook::block::size(book, t) as usize {
+        return stop(s, 10, 0);
+    }
+    let element = resolvers::look_up_in(book, index, width, t);
+    match element {
+        Resolved::Base(e) => {
+            if product_is(book, t, e, bytes) {
+                return dimension(s, book, index, width, 0, t, e, bytes, left, tape, text);
+            }
+            stop(s, 10, 0)
+        }
+        Resolved::Lacks(b) => stop(s, 7, b),
+        Resolved::Endless => stop(s, 8, 0),
+    }
+}
+
+// The fields of an element that has any are resolved in the last dimension, before the array record.
+pub fn element_check(book: &[u8], index: &[u32], width: u8, d: u8, t: u32, e: u32) -> FieldsCheck
+    requires { ⌜ ValidBook (now book) × (isType (now book) e ≡ true) ⌝ }
+    ensures { λ r. ⌜ r ≡ elementCheck (ctx (now (book .entry)) width) d t e ⌝ }
+{
+    if is_last(book, d, t) {
+        let form = shape_at(book, width, e);
+        match form {
+            Shape::Map => resolvers::check_fields_in(book, index, width, e),
+            Shape::Array => FieldsCheck::Fine,
+            Shape::Leaf => FieldsCheck::Fine,
+        }
+    } else {
+        FieldsCheck::Fine
+    }
+}
+
+// Dimension d of array t, whose elements are of type e.
+pub fn dimension(
+    s: Step,
+    book: &[u8],
+    index: &[u32],
+    width: u8,
+    d: u8,
+    t: u32,
+    e: u32,
+    bytes: &[u8],
+    left: usize,
+    tape: &mut [u8],
+    text: &mut [u8],
+) -> Step
+    requires { ⌜ ValidBook (now book) × (isType (now book) e ≡ true) × Fills (now book) d t e (length (now bytes)) ⌝ }
+    ensures { λ r. ⌜ From (dimensionOf (walk (ctx (now (book .entry)) width) left) (ctx (now (book .entry)) width) d t e (now (bytes .entry))) (now (tape .entry)) (now (text .entry)) s r (now (tape .exit)) (now (text .exit)) ⌝ }
+{
+    let fields = element_check(book, index, width, d, t, e);
+    match fields {
+        FieldsCheck::Fine => elements(s, book, index, width, d, t, e, bytes, left, tape, text),
+        FieldsCheck::Lacks(b) => stop(s, 7, b),
+        FieldsCheck::Endless => stop(s, 8, 0),
+    }
+}
+
+// The array record, the elements and the end record.
+pub fn elements(
+    s: Step,
+    book: &[u8],
+    index: &[u32],
+    width: u8,
+    d: u8,
+    t: u32,
+    e: u32,
+    bytes: &[u8],
+    left: usize,
+    tape: &mut [u8],
+    text: &mut [u8],
+) -> Step
+    requires { ⌜ ValidBook (now book) × (isType (now book) e ≡ true) × Fills (now book) d t e (length (now bytes)) ⌝ }
+    ensures { λ r. ⌜ From (elementsOf (walk (ctx (now (book .entry)) width) left) (ctx (now (book .entry)) width) d t e (now (bytes .entry))) (now (tape .entry)) (now (text .entry)) s r (now (tape .exit)) (now (text .exit)) ⌝ }
+{
+    let n = typebook::block::count(book, t, d) as usize;
+    let mut here = put(s, tape, text, 1, 0, n as u64, 0);
+    let stride = stride_of(n, bytes.len());
+    let mut from: usize = 0;
+    let mut i: usize = 0;
+    while i < n {
+        let Step::Next(_, _) = here else {
+            return here;
+        };
+        let to = from + stride;
+        here = element(
+            here,
+            book,
+            index,
+            width,
+            d,
+            t,
+            e,
+            &bytes[from..to],
+            left,
+            tape,
+            text,
+        );
+        from = to;
+        i += 1;
+    }
+    put(here, tape, text, 2, 0, 0, 0)
+}
+
+// The bytes of one of n equal parts of `len`.
+fn stride_of(n: usize, len: usize) -> usize
+    ensures { λ r. ⌜ StrideIs n len r ⌝ }
+{
+    if n == 0 {
+        return 0;
+    }
+    len / n
+}
+
+// What one index of dimension d holds: an element, or the next dimension one level deeper.
+pub fn element(
+    s: Step,
+    book: &[u8],
+    index: &[u32],
+    width: u8,
+    d: u8,
+    t: u32,
+    e: u32,
+    bytes: &[u8],
+    left: usize,
+    tape: &mut [u8],
+    text: &mut [u8],
+) -> Step
+    requires { ⌜ ValidBook (now book) × (isType (now book) e ≡ true) × FillsNext (now book) d t e (length (now bytes)) ⌝ }
+    ensures { λ r. ⌜ From (walk (ctx (now (book .entry)) width) left (elementItem (ctx (now (book .entry)) width) d t e) (now (bytes .entry))) (now (tape .entry)) (now (text .entry)) s r (now (tape .exit)) (now (text .exit)) ⌝ }
+{
+    if is_last(book, d, t) {
+        return value(s, book, index, width, e, bytes, left, tape, text);
+    }
+    if left == 0 {
+        return stop(s, 14, 0);
+    }
+    dimension(
+        s,
+        book,
+        index,
+        width,
+        d + 1,
+        t,
+        e,
+        bytes,
+        left - 1,
+        tape,
+        text,
+    )
+}

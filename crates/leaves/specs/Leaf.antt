@@ -1,0 +1,135 @@
+-- What the bytes of a type stand for that is neither struct nor array (document 01: deserializer.rs, refusals 10 to 13). Assumes nothing.
+use mathlib.Core.Bool.{Bool, true, false, cond, not}
+use mathlib.Core.List.{List, [], _∷_}
+use Prim.Native.Nat.{ℕ, zero, suc, _+_}
+use lib.ListN.{length, getD}
+use lib.Dec.{eqb}
+use Rattle.number.specs.TypeId.{idOf}
+use Rattle.number.specs.Integer.{readInteger}
+use Rattle.number.specs.Float.{readReal}
+use Rattle.number.specs.declared.type_id.AdsTypeId.the-variants.{UInt16, UInt32, UInt64}
+use Rattle.number.specs.declared.integer.Integer.{Integer}
+use Rattle.number.specs.declared.integer.Integer.the-variants as integer
+use Rattle.number.specs.declared.integer.IntegerRead.{IntegerRead}
+use Rattle.number.specs.declared.integer.IntegerRead.the-variants as read
+use Rattle.number.specs.declared.float.Real.{Real}
+use Rattle.number.specs.declared.float.Real.the-variants as real
+use Rattle.number.specs.declared.float.RealRead.{RealRead}
+use Rattle.number.specs.declared.float.RealRead.the-variants as realRead
+use Rattle.utf_8.specs.declared.TextEnd.{TextEnd}
+use Rattle.utf_8.specs.declared.TextEnd.the-variants.{Terminated, Unterminated}
+use Rattle.windows_1252.specs.Text.{stringEnd}
+use Rattle.utf_16.specs.WString.{wstringEnd}
+use Rattle.typebook.specs.Book.{sizeOf, typeIdOf, fieldsOf, entriesOf, valueOf, sameName}
+use Rattle.typebook.specs.declared.type_provider.Found.{Found}
+use Rattle.typebook.specs.declared.type_provider.Found.the-variants.{At, Nothing}
+use Rattle.type_category.specs.Category.{categoryOf}
+use Rattle.type_category.specs.declared.type_category.AdsTypeCategory.{AdsTypeCategory}
+use Rattle.type_category.specs.declared.type_category.AdsTypeCategory.the-variants as category
+use Rattle.leaves.specs.declared.leaf.LeafValue.{LeafValue}
+use Rattle.leaves.specs.declared.leaf.LeafValue.the-variants as leaf
+use Rattle.leaves.specs.declared.leaf.LeafKind.{LeafKind}
+use Rattle.leaves.specs.declared.leaf.LeafKind.the-variants as kind
+
+-- how the categories are read; a struct, union, function block or array is no leaf, an alias was resolved, programs and functions never arise
+abbrev pub kindOfLeaf : AdsTypeCategory → LeafKind
+kindOfLeaf category.None = kind.Unit
+kindOfLeaf category.Primitive = kind.Number
+kindOfLeaf category.Alias = kind.None
+kindOfLeaf category.Enum = kind.Enum
+kindOfLeaf category.Array = kind.None
+kindOfLeaf category.Struct = kind.None
+kindOfLeaf category.FunctionBlock = kind.None
+kindOfLeaf category.Program = kind.None
+kindOfLeaf category.Function = kind.None
+kindOfLeaf category.SubRange = kind.Number
+kindOfLeaf category.String = kind.Text
+kindOfLeaf category.Bitset = kind.Number
+kindOfLeaf category.Pointer = kind.Pointer
+kindOfLeaf category.Union = kind.None
+kindOfLeaf category.Reference = kind.Pointer
+kindOfLeaf category.Interface = kind.Pointer
+
+-- a bool is one byte, and anything but 0 is true
+unfoldable pub boolLeaf : List ℕ → LeafValue
+boolLeaf mem = cond (eqb (length mem) 1) (leaf.Bool (not (eqb (getD mem 0 0) 0))) (leaf.Refused 10)
+
+abbrev pub realLeaf : Real → LeafValue
+realLeaf (real.Single x) = leaf.Single x
+realLeaf (real.Double x) = leaf.Double x
+realLeaf (real.NanSingle n) = leaf.NanSingle n
+realLeaf (real.NanDouble n) = leaf.NanDouble n
+
+abbrev pub valueLeaf : Integer → LeafValue
+valueLeaf (integer.Signed w b) = leaf.Signed w b
+valueLeaf (integer.Unsigned w n) = leaf.Unsigned w n
+
+-- 11 for an id that is no integer's, 10 for another size
+abbrev pub integerLeaf : IntegerRead → LeafValue
+integerLeaf (read.Value v) = valueLeaf v
+integerLeaf read.Size = leaf.Refused 10
+integerLeaf read.Unsupported = leaf.Refused 11
+
+abbrev pub realOr : RealRead → LeafValue → LeafValue
+realOr (realRead.Value v) other = realLeaf v
+realOr realRead.Size other = leaf.Refused 10
+realOr realRead.Unsupported other = other
+
+-- by the type's id alone: Bit (33), a real, an integer, else 11
+unfoldable pub numberLeaf : List ℕ → ℕ → List ℕ → LeafValue
+numberLeaf book t mem =
+    cond (eqb (typeIdOf book t) 33) (boolLeaf mem)
+    (realOr (readReal (idOf (typeIdOf book t)) mem) (integerLeaf (readInteger (idOf (typeIdOf book t)) mem)))
+
+-- an unsigned number of the pointer width, which is 2, 4 or 8, else 13
+unfoldable pub pointerLeaf : ℕ → List ℕ → LeafValue
+pointerLeaf width mem =
+    cond (eqb width 2) (integerLeaf (readInteger UInt16 mem))
+    (cond (eqb width 4) (integerLeaf (readInteger UInt32 mem))
+    (cond (eqb width 8) (integerLeaf (readInteger UInt64 mem)) (leaf.Refused 13)))
+
+-- the number of bytes before a text's end, whether or not a terminator was found
+abbrev pub endOf : TextEnd → ℕ
+endOf (Terminated n) = n
+endOf (Unterminated n) = n
+
+-- 10 unless the bytes are as many as the type says; id 31 is a WSTRING
+unfoldable pub textLeaf : List ℕ → ℕ → List ℕ → LeafValue
+textLeaf book t mem =
+    cond (eqb (length mem) (sizeOf book t))
+    (cond (eqb (typeIdOf book t) 31) (leaf.WideText (endOf (wstringEnd mem))) (leaf.Text (endOf (stringEnd mem))))
+    (leaf.Refused 10)
+
+-- the first of the k entries from block n on whose value is these bytes
+unfoldable pub entryFrom : List ℕ → List ℕ → ℕ → ℕ → Found
+entryFrom book mem n zero = Nothing
+entryFrom book mem n (suc k) = cond (sameName (valueOf book n) mem) (At n) (entryFrom book mem (n + 1) k)
+
+-- bytes that no entry has: the integer reader's 11 or 10, else 12
+abbrev pub unlisted : IntegerRead → LeafValue
+unlisted (read.Value v) = leaf.Refused 12
+unlisted read.Size = leaf.Refused 10
+unlisted read.Unsupported = leaf.Refused 11
+
+abbrev pub entryOr : Found → LeafValue → LeafValue
+entryOr (At n) other = leaf.Entry n
+entryOr Nothing other = other
+
+-- 10 unless the bytes are as many as the type says; then the first equal entry
+unfoldable pub enumLeaf : List ℕ → ℕ → List ℕ → LeafValue
+enumLeaf book t mem =
+    cond (eqb (length mem) (sizeOf book t))
+    (entryOr (entryFrom book mem (t + 1 + fieldsOf book t) (entriesOf book t)) (unlisted (readInteger (idOf (typeIdOf book t)) mem)))
+    (leaf.Refused 10)
+
+unfoldable pub leafBy : List ℕ → ℕ → ℕ → List ℕ → LeafKind → LeafValue
+leafBy book width t mem kind.Number = numberLeaf book t mem
+leafBy book width t mem kind.Text = textLeaf book t mem
+leafBy book width t mem kind.Enum = enumLeaf book t mem
+leafBy book width t mem kind.Pointer = pointerLeaf width mem
+leafBy book width t mem kind.Unit = leaf.Unit
+leafBy book width t mem kind.None = leaf.Refused 11
+
+-- the value of resolved type t in some bytes
+unfoldable pub leafAt : List ℕ → ℕ → ℕ → List ℕ → LeafValue
+leafAt book width t mem = leafBy book width t mem (kindOfLeaf (categoryOf book width t))

@@ -1,0 +1,52 @@
+-- `resolve_root` meets its contract. Assumes nothing.
+use Rattle.resolvers.proofs.Calls.{resolution-base, resolution-lacks, resolution-endless}
+use borrow.Author.Needs.{needs}
+use Rattle.resolvers.proofs.resolve_root.Statement.{statement}
+use Rattle.resolvers.proofs.resolve_root.Tie as tie
+
+ruleset exits = (resolution-base, resolution-lacks, resolution-endless)
+
+slice-aggregate-fill-index : tie.Need-slice-aggregate-fill-index
+slice-aggregate-fill-index c = search needs
+
+fill-index-requires : tie.Need-fill-index-requires
+fill-index-requires c κs = search needs
+
+slice-aggregate-follow : tie.Need-slice-aggregate-follow
+slice-aggregate-follow c = search needs
+
+follow-requires : tie.Need-follow-requires
+follow-requires c κs = search needs
+
+enum-known-resolved : tie.Need-enum-known-resolved
+enum-known-resolved c = search needs
+
+enum-known-resolved-2 : tie.Need-enum-known-resolved-2
+enum-known-resolved-2 c = search needs
+
+enum-told : tie.Need-enum-told
+enum-told c = search needs
+
+returns : tie.Need-returns
+returns c = search exits
+
+returns-2 : tie.Need-returns-2
+returns-2 c = search exits
+
+returns-3 : tie.Need-returns-3
+returns-3 c = search exits
+
+pub resolve-root-spec : {M : Type 1} → statement M
+resolve-root-spec =
+    tie.close
+    (tie.spec
+    slice-aggregate-fill-index
+    fill-index-requires
+    slice-aggregate-follow
+    follow-requires
+    enum-known-resolved
+    enum-known-resolved-2
+    enum-told
+    returns
+    returns-2
+    returns-3)

@@ -1,0 +1,3 @@
+pub mod Resolve
+pub mod Calls
+pub mod Hops

@@ -1,0 +1,122 @@
+-- Chains of aliases and references, and the types of fields, by look-ups in a type book (document 01, "resolvers.rs"; refusals 7 and 8).
+-- Assumes nothing.
+use mathlib.Core.Path.{_≡_}
+use mathlib.Core.Bool.{Bool, true, false, cond}
+use mathlib.Core.List.{List}
+use Prim.Native.Nat.{ℕ, zero, suc, _+_}
+use Rattle.typebook.specs.declared.type_provider.Found.{Found}
+use Rattle.typebook.specs.declared.type_provider.Found.the-variants.{At, Nothing}
+use Rattle.typebook.specs.Book.{isType, offsetOf, sizeOf, fieldsOf, typeNameOf}
+use Rattle.typebook.specs.Find.{find}
+use Rattle.type_category.specs.declared.type_category.AdsTypeCategory.{AdsTypeCategory}
+use Rattle.type_category.specs.declared.type_category.AdsTypeCategory.the-variants as category
+use Rattle.type_category.specs.Category.{categoryOf}
+use Rattle.resolvers.specs.declared.Resolved.{Resolved}
+use Rattle.resolvers.specs.declared.Resolved.the-variants.{Base, Lacks, Endless}
+use Rattle.resolvers.specs.declared.ResolvedField.{ResolvedField}
+use Rattle.resolvers.specs.declared.FieldAnswer.{FieldAnswer}
+use Rattle.resolvers.specs.declared.FieldAnswer.the-variants as answer
+use Rattle.resolvers.specs.declared.FieldsCheck.{FieldsCheck}
+use Rattle.resolvers.specs.declared.FieldsCheck.the-variants as check
+
+-- document 01's number of what a chain comes to: 0 where nothing is refused, 7 with the block that `Lacks` carries, 8
+abbrev pub resolvedRefusal : Resolved → ℕ
+resolvedRefusal (Base u) = 0
+resolvedRefusal (Lacks c) = 7
+resolvedRefusal Endless = 8
+
+-- ---- chains
+
+-- a chain goes on from an alias, and from a reference where references are followed too
+abbrev pub goesOn : Bool → AdsTypeCategory → Bool
+goesOn references category.Alias = true
+goesOn references category.Reference = references
+goesOn references category.None = false
+goesOn references category.Primitive = false
+goesOn references category.Enum = false
+goesOn references category.Array = false
+goesOn references category.Struct = false
+goesOn references category.FunctionBlock = false
+goesOn references category.Program = false
+goesOn references category.Function = false
+goesOn references category.SubRange = false
+goesOn references category.String = false
+goesOn references category.Bitset = false
+goesOn references category.Pointer = false
+goesOn references category.Union = false
+goesOn references category.Interface = false
+
+-- a chain goes on from block n
+unfoldable pub isFollowed : Bool → List ℕ → ℕ → ℕ → Bool
+isFollowed references book width n = goesOn references (categoryOf book width n)
+
+-- on to the block that the type name of block b was found at, or 7 with block b
+unfoldable pub onward : (ℕ → Resolved) → ℕ → Found → Resolved
+onward go b (At u) = go u
+onward go b Nothing = Lacks b
+
+-- the block at which the chain from block t ends, in at most k look-ups, where `goes` says from which blocks it goes on
+unfoldable pub follow : (ℕ → Bool) → List ℕ → ℕ → ℕ → Resolved
+follow goes book zero t = Endless
+follow goes book (suc k) t = cond (goes t) (onward (follow goes book k) t (find book (typeNameOf book t))) (Base t)
+
+-- 32 look-ups are made before 8
+abbrev pub resolveType : Bool → List ℕ → ℕ → ℕ → Resolved
+resolveType references book width t = follow (isFollowed references book width) book 32 t
+
+-- type block t, with aliases resolved
+abbrev pub resolveAlias : List ℕ → ℕ → ℕ → Resolved
+resolveAlias book width t = resolveType false book width t
+
+-- type block t, with aliases and references resolved
+abbrev pub resolveIndirection : List ℕ → ℕ → ℕ → Resolved
+resolveIndirection book width t = resolveType true book width t
+
+-- the type that block b names, as a field or as an array, with aliases resolved
+unfoldable pub lookUp : List ℕ → ℕ → ℕ → Resolved
+lookUp book width b = onward (resolveAlias book width) b (find book (typeNameOf book b))
+
+-- an answer, which is a type block where it is a block
+pub record ResolvedIs (book : List ℕ) (answer r : Resolved) : Type 0 where
+  pub is : r ≡ answer
+  pub typed : (u : ℕ) → r ≡ Base u → isType book u ≡ true
+
+pub record LookedUp (book : List ℕ) (width b : ℕ) (r : Resolved) : Type 0 where
+  pub is : r ≡ lookUp book width b
+  pub typed : (u : ℕ) → r ≡ Base u → isType book u ≡ true
+
+-- ---- fields
+
+-- field block f, whose type name was found at block n, by what that block comes to
+unfoldable pub fieldOf : List ℕ → ℕ → ℕ → Resolved → FieldAnswer
+fieldOf book f n (Base u) =
+    answer.Field (record { offset = offsetOf book f; size = sizeOf book f; named = n; resolved = u; field = f })
+fieldOf book f n (Lacks c) = answer.Lacks c
+fieldOf book f n Endless = answer.Endless
+
+unfoldable pub fieldFound : List ℕ → ℕ → ℕ → Found → FieldAnswer
+fieldFound book width f (At n) = fieldOf book f n (resolveAlias book width n)
+fieldFound book width f Nothing = answer.Lacks f
+
+-- field block f: its offset and size as they stand, and its type, with aliases resolved
+unfoldable pub resolveField : List ℕ → ℕ → ℕ → FieldAnswer
+resolveField book width f = fieldFound book width f (find book (typeNameOf book f))
+
+pub record FieldResolved (book : List ℕ) (width f : ℕ) (r : FieldAnswer) : Type 0 where
+  pub is : r ≡ resolveField book width f
+  pub typed : (x : ResolvedField) → r ≡ answer.Field x → isType book (x .resolved) ≡ true
+
+-- a field's refusal comes before what the fields after it give
+unfoldable pub fieldThen : FieldsCheck → FieldAnswer → FieldsCheck
+fieldThen rest (answer.Field x) = rest
+fieldThen rest (answer.Lacks c) = check.Lacks c
+fieldThen rest answer.Endless = check.Endless
+
+-- the first refusal of the k field blocks from block f on
+unfoldable pub fieldsFrom : List ℕ → ℕ → ℕ → ℕ → FieldsCheck
+fieldsFrom book width f zero = check.Fine
+fieldsFrom book width f (suc k) = fieldThen (fieldsFrom book width (f + 1) k) (resolveField book width f)
+
+-- the first refusal of the fields of type block t
+unfoldable pub fieldsCheck : List ℕ → ℕ → ℕ → FieldsCheck
+fieldsCheck book width t = fieldsFrom book width (t + 1) (fieldsOf book t)

@@ -1,0 +1,11 @@
+-- Laws that the functions' proofs cite, and those on the walk that the crates above cite.
+mod Places
+mod Stacks
+mod Bits
+mod Turns
+mod Lists
+mod Rmws
+mod Ends
+pub mod Goes
+pub mod Reach
+pub mod Missings

@@ -1,0 +1,94 @@
+-- `step` meets its contract. Assumes nothing.
+use Rattle.resolvers.proofs.Chains.{found-typed}
+use Rattle.walks.proofs.Places.{found-below}
+use Rattle.walks.proofs.Turns.{step-marked, step-full, step-new, step-listed, step-full′, step-lacking}
+use borrow.Author.Needs.{needs}
+use Rattle.walks.proofs.step.Statement.{statement}
+use Rattle.walks.proofs.step.Tie as tie
+
+ruleset exits = (step-marked, step-full, step-new, step-listed, step-full′, step-lacking)
+
+take-requires : tie.Need-take-requires
+take-requires c κs = search needs
+
+type-name-requires : tie.Need-type-name-requires
+type-name-requires c κs = search needs
+
+find-by-requires : tie.Need-find-by-requires
+find-by-requires c κs = search needs
+
+enum-known-found : tie.Need-enum-known-found
+enum-known-found c = search needs
+
+marked-requires : tie.Need-marked-requires
+marked-requires c κs = (search found-below, search needs)
+
+same-length : tie.Need-same-length
+same-length c = search needs
+
+returns : tie.Need-returns
+returns c = search exits
+
+same-length-2 : tie.Need-same-length-2
+same-length-2 c = search needs
+
+returns-2 : tie.Need-returns-2
+returns-2 c = search exits
+
+settle-requires : tie.Need-settle-requires
+settle-requires c κs = (search needs, search found-typed, search needs, search needs)
+
+enum-told : tie.Need-enum-told
+enum-told c = search needs
+
+in-list-requires : tie.Need-in-list-requires
+in-list-requires c κs = search needs
+
+same-length-3 : tie.Need-same-length-3
+same-length-3 c = search needs
+
+returns-3 : tie.Need-returns-3
+returns-3 c = search exits
+
+same-length-4 : tie.Need-same-length-4
+same-length-4 c = search needs
+
+returns-4 : tie.Need-returns-4
+returns-4 c = search exits
+
+same-length-5 : tie.Need-same-length-5
+same-length-5 c = search needs
+
+returns-5 : tie.Need-returns-5
+returns-5 c = search exits
+
+same-length-6 : tie.Need-same-length-6
+same-length-6 c = search needs
+
+returns-6 : tie.Need-returns-6
+returns-6 c = search exits
+
+pub step-spec : {M : Type 1} → statement M
+step-spec =
+    tie.close
+    (tie.spec
+    take-requires
+    type-name-requires
+    find-by-requires
+    enum-known-found
+    marked-requires
+    same-length
+    returns
+    same-length-2
+    returns-2
+    settle-requires
+    enum-told
+    in-list-requires
+    same-length-3
+    returns-3
+    same-length-4
+    returns-4
+    same-length-5
+    returns-5
+    same-length-6
+    returns-6)

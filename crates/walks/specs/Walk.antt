@@ -1,0 +1,107 @@
+-- The walk of the types that a type is made of (document 01, "resolvers.rs"), last in, first out. It knows of no answer and no buffer.
+-- Assumes nothing.
+use mathlib.Core.Bool.{Bool, false, cond, _||_}
+use mathlib.Core.List.{List, [], _∷_, _++_}
+use Prim.Native.Nat.{ℕ, zero, suc, _+_}
+use Rattle.typebook.specs.declared.type_provider.Found.{Found}
+use Rattle.typebook.specs.Book.{fieldsOf, nameOf, typeNameOf, sameName}
+use Rattle.typebook.specs.Find.{find}
+use Rattle.type_category.specs.declared.type_category.AdsTypeCategory.{AdsTypeCategory}
+use Rattle.type_category.specs.declared.type_category.AdsTypeCategory.the-variants as category
+use Rattle.type_category.specs.Category.{categoryOf}
+use Rattle.resolvers.specs.declared.Resolved.{Resolved}
+use Rattle.resolvers.specs.declared.Resolved.the-variants.{Base, Lacks, Endless}
+use Rattle.resolvers.specs.Resolve.{onward, resolveAlias}
+use Rattle.walks.specs.declared.Parts.{Parts}
+use Rattle.walks.specs.declared.Parts.the-variants.{Element, Fields, Nothing}
+
+-- ---- what a type is made of
+
+-- an array is made of its element type; a struct, a union or a function block of the types of its fields
+abbrev pub partsKind : AdsTypeCategory → Parts
+partsKind category.Array = Element
+partsKind category.Struct = Fields
+partsKind category.Union = Fields
+partsKind category.FunctionBlock = Fields
+partsKind category.None = Nothing
+partsKind category.Primitive = Nothing
+partsKind category.Alias = Nothing
+partsKind category.Enum = Nothing
+partsKind category.Program = Nothing
+partsKind category.Function = Nothing
+partsKind category.SubRange = Nothing
+partsKind category.String = Nothing
+partsKind category.Bitset = Nothing
+partsKind category.Pointer = Nothing
+partsKind category.Reference = Nothing
+partsKind category.Interface = Nothing
+
+-- the k blocks after block t, the last one first
+unfoldable pub after : ℕ → ℕ → List ℕ
+after t zero = []
+after t (suc k) = (t + suc k) ∷ after t k
+
+-- the blocks that name what type block t is made of, by the kind of its parts
+unfoldable pub partsIn : List ℕ → ℕ → Parts → List ℕ
+partsIn book t Element = t ∷ []
+partsIn book t Fields = after t (fieldsOf book t)
+partsIn book t Nothing = []
+
+-- the blocks whose type names are those that type block t is made of, in the order they are taken: an array's own block, or field blocks
+unfoldable pub partsOf : List ℕ → ℕ → ℕ → List ℕ
+partsOf book width t = partsIn book t (partsKind (categoryOf book width t))
+
+-- what a name that block b names comes to, by what the look-up of that name found: a type with its aliases resolved, or 7 or 8
+abbrev pub comesTo : List ℕ → ℕ → ℕ → Found → Resolved
+comesTo book width b f = onward (resolveAlias book width) b f
+
+-- ---- the walk
+
+-- the names met, in order: the block that names it, the name, what it comes to. The end: no name is left, or one too many came
+pub data Walk : Type 0 where
+  over : Walk
+  full : ℕ → List ℕ → Walk
+  met : ℕ → List ℕ → Resolved → Walk → Walk
+
+-- the name was visited
+unfoldable pub has : List (List ℕ) → List ℕ → Bool
+has [] x = false
+has (y ∷ ys) x = sameName y x || has ys x
+
+-- the stack from its first name that was not visited on
+unfoldable pub skip : List ℕ → List (List ℕ) → List ℕ → List ℕ
+skip book v [] = []
+skip book v (b ∷ s) = cond (has v (typeNameOf book b)) (skip book v s) (b ∷ s)
+
+-- what is taken next after a name
+unfoldable pub push : List ℕ → ℕ → Resolved → List ℕ → List ℕ
+push book width (Base t) s = partsOf book width t ++ s
+push book width (Lacks b) s = s
+push book width Endless s = s
+
+-- the rest of a walk, by the names visited and the stack
+abbrev pub Go : Type 0
+Go = List (List ℕ) → List ℕ → Walk
+
+-- block b names x, which is new: it is met, and the walk goes on
+unfoldable pub meet : Go → List ℕ → ℕ → List (List ℕ) → List ℕ → ℕ → List ℕ → Walk
+meet go book width v s b x = met b x (comesTo book width b (find book x)) (go (x ∷ v) (push book width (comesTo book width b (find book x)) s))
+
+-- the first name on the stack, which is new, is met; or none is left
+unfoldable pub turn : Go → List ℕ → ℕ → List (List ℕ) → List ℕ → Walk
+turn go book width v [] = over
+turn go book width v (b ∷ s) = meet go book width v s b (typeNameOf book b)
+
+-- the first name on the stack, which is new, is one too many; or none is left
+unfoldable pub last : List ℕ → List ℕ → Walk
+last book [] = over
+last book (b ∷ s) = full b (typeNameOf book b)
+
+-- `left` names may still be met
+unfoldable pub walk : List ℕ → ℕ → ℕ → Go
+walk book width zero v s = last book (skip book v s)
+walk book width (suc left) v s = turn (walk book width left) book width v (skip book v s)
+
+-- 4,096 names at most, the root's own first
+unfoldable pub walkOf : List ℕ → ℕ → ℕ → Walk
+walkOf book width root = meet (walk book width 4095) book width [] [] root (nameOf book root)

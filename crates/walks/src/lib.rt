@@ -1,0 +1,505 @@
+// The walk of the types that a type is made of (the Rust's resolvers.rs): whether the memory of a value must be read before it is
+// written, and which types the book lacks. The functions whose names end in `_in` take a book that was checked once; the others
+// check it.
+ghost use mathlib.Core.Path.{_≡_};
+ghost use mathlib.Core.Bool.{true, _&&_};
+ghost use Prim.Native.Nat.{_≤_, _<_, _+_};
+ghost use lib.ListN.{length, take as first, replicate};
+ghost use Rattle.typebook.specs.Book.{isType};
+ghost use Rattle.book_check.specs.Check.{ValidBook};
+ghost use Rattle.walks.specs.Walk.{partsKind};
+ghost use Rattle.walks.specs.Reads.{keepsState};
+ghost use Rattle.walks.specs.State.{markedIn, isPart, namesIt, hasRef, Took, Marked, Pushed, Settles, Stepped, IsDue, Applied, Decided, Started};
+ghost use Rattle.walks.specs.Calls.{scratchFits, listFits, rmwAnswer, Walked, RmwIn, RmwIs, MissingIn, MissingIs};
+use book_check::RootCheck;
+use resolvers::Resolved;
+use type_category::type_category::AdsTypeCategory;
+use typebook::block;
+use typebook::type_provider;
+use typebook::type_provider::Found;
+
+// The maximum number of distinct type names to visit before a corrupted type table is assumed: this guards against very wide type
+// graphs only, since cycles end at the visited names.
+const MAX_TYPES_VISITED: usize = 4096;
+
+// The numbers of scratch that a walk takes: a stack of at most one entry for each name visited, then a bit for each block of
+// 65,536, and room to spare.
+const SCRATCH: usize = 16384;
+
+// What `requires_read_modify_write` answers.
+pub enum Rmw {
+    Yes,
+    No,
+    // 7, with the block whose type name is not in the book.
+    NotFound(u32),
+    // Any other refusal, by document 01's number.
+    Refused(u8),
+}
+
+// What `missing_types` answers.
+pub enum Missing {
+    // How many blocks are listed; whether the walk is whole: no chain was too long, and no name was one too many; how many distinct
+    // names were met.
+    Listed(usize, bool, usize),
+    // A refusal, by document 01's number.
+    Refused(u8),
+}
+
+// What a type is made of: the type that an array names, the types of fields, or nothing that is walked.
+enum Parts {
+    Element,
+    Fields,
+    Nothing,
+}
+
+// A block that was taken off the stack, and the entries that are left.
+struct Taken {
+    block: u32,
+    depth: usize,
+}
+
+// What one turn of a walk finds; the last number is the entries on the stack after it.
+enum Event {
+    // The name was visited before.
+    Old(usize),
+    // The type name of this block is not in the book.
+    Lacking(u32, usize),
+    // The name is new, and comes to this type.
+    New(u32, usize),
+    // Its alias chain is too long.
+    Long(usize),
+    // It would be one name too many.
+    Full,
+}
+
+// The state of `missing_walk` after an event: names left, entries on the stack, blocks listed, whether still whole.
+enum Turn {
+    More(usize, usize, usize, bool),
+    Full,
+}
+
+// The state of `rmw_walk` after an event: names left and entries on the stack, or the answer.
+enum TurnRmw {
+    More(usize, usize),
+    Is(Rmw),
+}
+
+// ---- the scratch: a stack in 0 to 4,095, a bit for each block in 4,096 to 6,143
+
+fn marked(scratch: &[u32], t: u32) -> bool
+    requires { ⌜ (t < 65536) × (16384 ≤ length (now scratch)) ⌝ }
+    ensures { λ r. ⌜ r ≡ markedIn (now (scratch .entry)) t ⌝ }
+{
+    let i = MAX_TYPES_VISITED + (t / 32) as usize;
+    (scratch[i] >> (t % 32)) % 2 == 1
+}
+
+fn mark(scratch: &mut [u32], t: u32)
+    requires { ⌜ (t < 65536) × (16384 ≤ length (now scratch)) ⌝ }
+    ensures { λ _. ⌜ Marked (now (scratch .entry)) t (now (scratch .exit)) ⌝ }
+{
+    let i = MAX_TYPES_VISITED + (t / 32) as usize;
+    scratch[i] = scratch[i] | (1 << (t % 32));
+}
+
+// Takes the top block off the stack. An entry t * 65536 + k stands for the k blocks after block t, the last one taken first; with
+// k = 0 for block t itself. So a type of many fields takes one entry.
+fn take(scratch: &mut [u32], depth: usize) -> Taken
+    requires { ⌜ (0 < depth) × (depth ≤ 4096) × (16384 ≤ length (now scratch)) ⌝ }
+    ensures { λ r. ⌜ Took (now (scratch .entry)) depth r (now (scratch .exit)) ⌝ }
+{
+    let d = depth - 1;
+    let e = scratch[d];
+    let t = e / 65536;
+    let k = e % 65536;
+    if k == 0 {
+        return Taken { block: t, depth: d };
+    }
+    if k == 1 {
+        return Taken {
+            block: t + 1,
+            depth: d,
+        };
+    }
+    scratch[d] = e - 1;
+    Taken {
+        block: t + k,
+        depth,
+    }
+}
+
+// Sets the whole scratch to 0.
+fn clear(scratch: &mut [u32])
+    ensures { λ _. ⌜ now (scratch .exit) ≡ replicate (length (now (scratch .entry))) 0 ⌝ }
+{
+    let mut i = 0;
+    while i < scratch.len() {
+        scratch[i] = 0;
+        i += 1;
+    }
+}
+
+// ---- one turn of the walk
+
+fn parts_of(category: AdsTypeCategory) -> Parts
+    ensures { λ r. ⌜ r ≡ partsKind category ⌝ }
+{
+    match category {
+        AdsTypeCategory::Array => Parts::Element,
+        AdsTypeCategory::Struct => Parts::Fields,
+        AdsTypeCategory::Union => Parts::Fields,
+        AdsTypeCategory::FunctionBlock => Parts::Fields,
+        AdsTypeCategory::None => Parts::Nothing,
+        AdsTypeCategory::Primitive => Parts::Nothing,
+        AdsTypeCategory::Alias => Parts::Nothing,
+        AdsTypeCategory::Enum => Parts::Nothing,
+        AdsTypeCategory::Program => Parts::Nothing,
+        AdsTypeCategory::Function => Parts::Nothing,
+        AdsTypeCategory::SubRange => Parts::Nothing,
+        AdsTypeCategory::String => Parts::Nothing,
+        AdsTypeCategory::Bitset => Parts::Nothing,
+        AdsTypeCategory::Pointer => Parts::Nothing,
+        AdsTypeCategory::Reference => Parts::Nothing,
+        AdsTypeCategory::Interface => Parts::Nothing,
+    }
+}
+
+// Lays the parts of type t on the stack.
+fn push(book: &[u8], width: u8, scratch: &mut [u32], depth: usize, t: u32) -> usize
+    requires { ⌜ ValidBook (now book) × (isType (now book) t ≡ true) × (depth < 4096) × (16384 ≤ length (now scratch)) ⌝ }
+    ensures { λ r. ⌜ Pushed (now (book .entry)) width (now (scratch .entry)) depth t r (now (scratch .exit)) ⌝ }
+{
+    let kind = parts_of(AdsTypeCategory::determine(book, width, t));
+    match kind {
+        Parts::Element => {
+            scratch[depth] = t * 65536;
+            depth + 1
+        }
+        Parts::Fields => {
+            let n = block::fields(book, t);
+            if n == 0 {
+                return depth;
+            }
+            scratch[depth] = t * 65536 + n;
+            depth + 1
+        }
+        Parts::Nothing => depth,
+    }
+}
+
+// Marks type block t visited, and lays on the parts of what it comes to. The alias's target is not marked: it may be met by its
+// own name later.
+fn settle(book: &[u8], index: &[u32], width: u8, scratch: &mut [u32], depth: usize, t: u32) -> Event
+    requires { ⌜ ValidBook (now book) × (isType (now book) t ≡ true) × (depth < 4096) × (16384 ≤ length (now scratch)) ⌝ }
+    ensures { λ r. ⌜ Settles (now (book .entry)) width (now (scratch .entry)) depth t r (now (scratch .exit)) ⌝ }
+{
+    mark(scratch, t);
+    let resolved = resolvers::resolve_alias_in(book, index, width, t);
+    match resolved {
+        Resolved::Base(u) => Event::New(u, push(book, width, scratch, depth, u)),
+        Resolved::Lacks(c) => Event::Lacking(c, depth),
+        Resolved::Endless => Event::Long(depth),
+    }
+}
+
+// Whether block b names a type as a field or as an array, and is no alias: aliases have no dimensions.
+fn is_part(book: &[u8], b: u32) -> bool
+    ensures { λ r. ⌜ r ≡ isPart (now (book .entry)) b ⌝ }
+{
+    if block::is_type(book, b) {
+        return block::dimensions(book, b) > 0;
+    }
+    true
+}
+
+fn names_it(book: &[u8], b: u32, name: &[u8]) -> bool
+    ensures { λ r. ⌜ r ≡ namesIt (now (book .entry)) b (now (name .entry)) ⌝ }
+{
+    if block::same_name(block::type_name(book, b), name) {
+        return is_part(book, b);
+    }
+    false
+}
+
+// Whether one of the first n listed blocks names it: a name that the book lacks was visited.
+fn in_list(book: &[u8], list: &[u32], n: usize, name: &[u8]) -> bool
+    requires { ⌜ n ≤ length (now list) ⌝ }
+    ensures { λ r. ⌜ r ≡ hasRef (now (book .entry)) (first n (now (list .entry))) (now (name .entry)) ⌝ }
+{
+    let mut i = 0;
+    while i < n {
+        if names_it(book, list[i], name) {
+            return true;
+        }
+        i += 1;
+    }
+    false
+}
+
+// One turn: the top block's name is new, or was visited.
+fn step(
+    book: &[u8],
+    index: &[u32],
+    width: u8,
+    scratch: &mut [u32],
+    list: &[u32],
+    n: usize,
+    left: usize,
+    depth: usize,
+) -> Event
+    requires { ⌜ ValidBook (now book) × (16384 ≤ length (now scratch)) × (n ≤ length (now list)) × (0 < depth) × (depth + left ≤ 4096) ⌝ }
+    ensures { λ r. ⌜ Stepped (now (book .entry)) width (now (scratch .entry)) (first n (now (list .entry))) left depth r (now (scratch .exit)) ⌝ }
+{
+    let taken = take(scratch, depth);
+    let b = taken.block;
+    let d = taken.depth;
+    let name = block::type_name(book, b);
+    let found = type_provider::find_by(book, index, name);
+    match found {
+        Found::At(t) => {
+            if marked(scratch, t) {
+                return Event::Old(d);
+            }
+            if left == 0 {
+                return Event::Full;
+            }
+            settle(book, index, width, scratch, d, t)
+        }
+        Found::Nothing => {
+            if in_list(book, list, n, name) {
+                return Event::Old(d);
+            }
+            if left == 0 {
+                return Event::Full;
+            }
+            Event::Lacking(b, d)
+        }
+    }
+}
+
+// The first event: the root's own name, which finds the root block in a valid book.
+fn start(book: &[u8], index: &[u32], width: u8, root: u32, scratch: &mut [u32]) -> Event
+    requires { ⌜ ValidBook (now book) × (isType (now book) root ≡ true) × (16384 ≤ length (now scratch)) × (now scratch ≡ replicate (length (now scratch)) 0) ⌝ }
+    ensures { λ r. ⌜ Started (now (book .entry)) width root r (now (scratch .exit)) ⌝ }
+{
+    settle(book, index, width, scratch, 0, root)
+}
+
+// ---- missing_types
+
+// What an event is for the missing list.
+fn apply(e: Event, list: &mut [u32], left: usize, n: usize, ok: bool) -> Turn
+    requires { ⌜ IsDue left e × (4096 ≤ length (now list)) × (n + left ≤ 4096) ⌝ }
+    ensures { λ r. ⌜ Applied e (now (list .entry)) left n ok r (now (list .exit)) ⌝ }
+{
+    match e {
+        Event::Old(d) => Turn::More(left, d, n, ok),
+        Event::New(_, d) => Turn::More(left - 1, d, n, ok),
+        Event::Lacking(b, d) => {
+            list[n] = b;
+            Turn::More(left - 1, d, n + 1, ok)
+        }
+        Event::Long(d) => Turn::More(left - 1, d, n, false),
+        Event::Full => Turn::Full,
+    }
+}
+
+// The walk for the missing list, over a scratch of zeros.
+fn missing_walk(
+    book: &[u8],
+    index: &[u32],
+    width: u8,
+    root: u32,
+    scratch: &mut [u32],
+    list: &mut [u32],
+) -> Missing
+    requires { ⌜ ValidBook (now book) × (isType (now book) root ≡ true) × (16384 ≤ length (now scratch)) × (4096 ≤ length (now list)) × (now scratch ≡ replicate (length (now scratch)) 0) ⌝ }
+    ensures { λ r. ⌜ Walked (now (book .entry)) width root (now (list .entry)) r (now (list .exit)) ⌝ }
+{
+    let mut e = start(book, index, width, root, scratch);
+    let mut left = MAX_TYPES_VISITED;
+    let mut n: usize = 0;
+    let mut ok = true;
+    loop {
+        let turn = apply(e, list, left, n, ok);
+        let Turn::More(l, d, k, o) = turn else {
+            return Missing::Listed(n, false, MAX_TYPES_VISITED + 1);
+        };
+        if d == 0 {
+            return Missing::Listed(k, o, MAX_TYPES_VISITED - l);
+        }
+        left = l;
+        n = k;
+        ok = o;
+        e = step(book, index, width, scratch, list, n, left, d);
+    }
+}
+
+// `missing_types` for a book that was checked, with an index of its names.
+pub fn missing_types_in(
+    book: &[u8],
+    index: &[u32],
+    width: u8,
+    root: u32,
+    scratch: &mut [u32],
+    list: &mut [u32],
+) -> Missing
+    requires { ⌜ ValidBook (now book) × (isType (now book) root ≡ true) × (16384 ≤ length (now scratch)) × (4096 ≤ length (now list)) ⌝ }
+    ensures { λ r. ⌜ MissingIn true (now (book .entry)) width root (now (scratch .entry)) (now (list .entry)) r (now (scratch .exit)) (now (list .exit)) ⌝ }
+{
+    clear(scratch);
+    let answer = missing_walk(book, index, width, root, scratch, list);
+    clear(scratch);
+    answer
+}
+
+fn missing_at(book: &[u8], width: u8, root: u32, scratch: &mut [u32], list: &mut [u32]) -> Missing
+    requires { ⌜ ValidBook (now book) × (isType (now book) root ≡ true) ⌝ }
+    ensures { λ r. ⌜ MissingIn (scratchFits (now (scratch .entry)) && listFits (now (list .entry))) (now (book .entry)) width root (now (scratch .entry)) (now (list .entry)) r (now (scratch .exit)) (now (list .exit)) ⌝ }
+{
+    if scratch.len() < SCRATCH {
+        return Missing::Refused(6);
+    }
+    if list.len() < MAX_TYPES_VISITED {
+        return Missing::Refused(6);
+    }
+    let mut index = [0u32; 16384];
+    type_provider::fill_index(book, &mut index);
+    missing_types_in(book, &index, width, root, scratch, list)
+}
+
+// Lists every type that the root is made of and the book lacks, each by the block that names it, in the order found: without an
+// error at the first, so that all can be fetched in one request. The book fills the first `len` bytes of the buffer.
+pub fn missing_types(
+    buffer: &[u8],
+    len: usize,
+    width: u8,
+    root: u64,
+    scratch: &mut [u32],
+    list: &mut [u32],
+) -> Missing
+    ensures { λ r. ⌜ MissingIs (now (buffer .entry)) len width root (now (scratch .entry)) (now (list .entry)) r (now (scratch .exit)) (now (list .exit)) ⌝ }
+{
+    let check = book_check::check_root(buffer, len, root);
+    match check {
+        RootCheck::Root(t) => missing_at(&buffer[..len], width, t, scratch, list),
+        RootCheck::Refused(n) => Missing::Refused(n),
+    }
+}
+
+// ---- requires_read_modify_write
+
+// Function blocks and programs keep state that no field shows, as the pointer to their methods: to write zeros there would destroy
+// it.
+fn keeps_state(category: AdsTypeCategory) -> bool
+    ensures { λ r. ⌜ r ≡ keepsState category ⌝ }
+{
+    match category {
+        AdsTypeCategory::FunctionBlock => true,
+        AdsTypeCategory::Program => true,
+        AdsTypeCategory::None => false,
+        AdsTypeCategory::Primitive => false,
+        AdsTypeCategory::Alias => false,
+        AdsTypeCategory::Enum => false,
+        AdsTypeCategory::Array => false,
+        AdsTypeCategory::Struct => false,
+        AdsTypeCategory::Function => false,
+        AdsTypeCategory::SubRange => false,
+        AdsTypeCategory::String => false,
+        AdsTypeCategory::Bitset => false,
+        AdsTypeCategory::Pointer => false,
+        AdsTypeCategory::Union => false,
+        AdsTypeCategory::Reference => false,
+        AdsTypeCategory::Interface => false,
+    }
+}
+
+// What an event is for read-modify-write.
+fn decide(book: &[u8], width: u8, e: Event, left: usize) -> TurnRmw
+    requires { ⌜ IsDue left e ⌝ }
+    ensures { λ r. ⌜ Decided (now (book .entry)) width e left r ⌝ }
+{
+    match e {
+        Event::Old(d) => TurnRmw::More(left, d),
+        Event::New(t, d) => {
+            if keeps_state(AdsTypeCategory::determine(book, width, t)) {
+                return TurnRmw::Is(Rmw::Yes);
+            }
+            TurnRmw::More(left - 1, d)
+        }
+        Event::Lacking(b, _) => TurnRmw::Is(Rmw::NotFound(b)),
+        Event::Long(_) => TurnRmw::Is(Rmw::Refused(8)),
+        Event::Full => TurnRmw::Is(Rmw::Refused(9)),
+    }
+}
+
+// The walk for read-modify-write, over a scratch of zeros. It ends at the first name that the book lacks, so it keeps no list.
+fn rmw_walk(book: &[u8], index: &[u32], width: u8, root: u32, scratch: &mut [u32]) -> Rmw
+    requires { ⌜ ValidBook (now book) × (isType (now book) root ≡ true) × (16384 ≤ length (now scratch)) × (now scratch ≡ replicate (length (now scratch)) 0) ⌝ }
+    ensures { λ r. ⌜ r ≡ rmwAnswer true (now (book .entry)) width root ⌝ }
+{
+    let none: [u32; 1] = [0];
+    let e = start(book, index, width, root, scratch);
+    let mut here = decide(book, width, e, MAX_TYPES_VISITED);
+    loop {
+        match here {
+            TurnRmw::Is(answer) => {
+                return answer;
+            }
+            TurnRmw::More(left, depth) => {
+                if depth == 0 {
+                    return Rmw::No;
+                }
+                let e = step(book, index, width, scratch, &none, 0, left, depth);
+                here = decide(book, width, e, left);
+            }
+        }
+    }
+}
+
+// `requires_read_modify_write` for a book that was checked, with an index of its names.
+pub fn requires_read_modify_write_in(
+    book: &[u8],
+    index: &[u32],
+    width: u8,
+    root: u32,
+    scratch: &mut [u32],
+) -> Rmw
+    requires { ⌜ ValidBook (now book) × (isType (now book) root ≡ true) × (16384 ≤ length (now scratch)) ⌝ }
+    ensures { λ r. ⌜ RmwIn true (now (book .entry)) width root (now (scratch .entry)) r (now (scratch .exit)) ⌝ }
+{
+    clear(scratch);
+    let answer = rmw_walk(book, index, width, root, scratch);
+    clear(scratch);
+    answer
+}
+
+fn rmw_at(book: &[u8], width: u8, root: u32, scratch: &mut [u32]) -> Rmw
+    requires { ⌜ ValidBook (now book) × (isType (now book) root ≡ true) ⌝ }
+    ensures { λ r. ⌜ RmwIn (scratchFits (now (scratch .entry))) (now (book .entry)) width root (now (scratch .entry)) r (now (scratch .exit)) ⌝ }
+{
+    if scratch.len() < SCRATCH {
+        return Rmw::Refused(6);
+    }
+    let mut index = [0u32; 16384];
+    type_provider::fill_index(book, &mut index);
+    requires_read_modify_write_in(book, &index, width, root, scratch)
+}
+
+// Whether the memory of a value of the root's type must be read, changed and written back: it is, or is made of, a function block.
+// The book fills the first `len` bytes of the buffer.
+pub fn requires_read_modify_write(
+    buffer: &[u8],
+    len: usize,
+    width: u8,
+    root: u64,
+    scratch: &mut [u32],
+) -> Rmw
+    ensures { λ r. ⌜ RmwIs (now (buffer .entry)) len width root (now (scratch .entry)) r (now (scratch .exit)) ⌝ }
+{
+    let check = book_check::check_root(buffer, len, root);
+    match check {
+        RootCheck::Root(t) => rmw_at(&buffer[..len], width, t, scratch),
+        RootCheck::Refused(n) => Rmw::Refused(n),
+    }
+}
