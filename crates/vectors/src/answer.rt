@@ -19,6 +19,16 @@ pub fn put_bytes(answer: &mut [u8], at: usize, bytes: &[u8]) -> usize {
     to
 }
 
+pub fn put_zeros(answer: &mut [u8], at: usize, n: u8) -> usize {
+    let mut to = at;
+    let mut i = 0;
+    while i < n {
+        to = put_byte(answer, to, 0);
+        i += 1;
+    }
+    to
+}
+
 // A number's bytes, low byte first.
 pub fn put_u32(answer: &mut [u8], at: usize, value: u32) -> usize {
     let mut bytes = [0u8; 4];

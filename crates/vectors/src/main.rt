@@ -1,6 +1,7 @@
 // Replays recorded answers against the port: for each file of data/ one line with the number of its cases and of those
 // that differ. tools/case_file.py has the form of the files, docs/DIFFERENCES.md says how each was made.
 mod answer;
+mod books;
 mod encodings;
 mod input;
 mod numbers;
@@ -13,4 +14,6 @@ fn main() {
     replay::file(b"utf-16");
     replay::file(b"utf-8");
     replay::file(b"numbers");
+    replay::file(b"checks");
+    replay::file(b"categories");
 }

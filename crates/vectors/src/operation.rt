@@ -1,17 +1,37 @@
 // The operations by their numbers. tools/case_file.py lists them with their inputs and answers.
+use crate::books;
 use crate::encodings;
+use crate::input::u32_at;
 use crate::numbers;
 
-// Puts the answer of an operation at the start of `answer` and returns its length. An operation that is not there has
-// an empty answer, which no case records.
-pub fn run(operation: u8, input: &[u8], out: &mut [u8], answer: &mut [u8]) -> usize {
+// The operation that makes the kept book: its answer is the book's length.
+const KEEP: u8 = 64;
+
+// Puts the answer of an operation at the start of `answer` and returns its length. `book` keeps a type book of `len` bytes
+// from case to case. An operation that is not there has an empty answer, which no case records.
+pub fn run(
+    operation: u8,
+    input: &[u8],
+    book: &mut [u8],
+    len: usize,
+    out: &mut [u8],
+    answer: &mut [u8],
+) -> usize {
     if operation < 32 {
         return run_encoding(operation, input, out, answer);
     }
     if operation < 64 {
         return run_number(operation, input, out, answer);
     }
-    0
+    run_book(operation, input, book, len, answer)
+}
+
+// The length of the kept book after an operation.
+pub fn book_after(operation: u8, len: usize, answer: &[u8]) -> usize {
+    if operation == KEEP {
+        return u32_at(answer, 0) as usize;
+    }
+    len
 }
 
 fn run_encoding(operation: u8, input: &[u8], out: &mut [u8], answer: &mut [u8]) -> usize {
@@ -46,6 +66,16 @@ fn run_number(operation: u8, input: &[u8], out: &mut [u8], answer: &mut [u8]) ->
         37 => numbers::integer_write(input, out, answer),
         38 => numbers::real_read(input, answer),
         39 => numbers::real_write(input, out, answer),
+        _ => 0,
+    }
+}
+
+fn run_book(operation: u8, input: &[u8], book: &mut [u8], len: usize, answer: &mut [u8]) -> usize {
+    match operation {
+        64 => books::keep(input, book, len, answer),
+        65 => books::check_root(input, book, len, answer),
+        66 => books::changed(input, book, len, answer),
+        67 => books::determine(input, book, len, answer),
         _ => 0,
     }
 }

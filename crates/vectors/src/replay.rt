@@ -1,5 +1,7 @@
 // Replays a file of recorded cases, page by page.
+ghost use mathlib.Core.Path.{_≡_};
 ghost use Prim.Native.Nat.{_<_};
+ghost use lib.ListN.{length};
 use crate::input::byte_at;
 use crate::input::first;
 use crate::input::from;
@@ -13,6 +15,9 @@ const FILL: u8 = 0xa5;
 
 // The length of a case's fields before its input: operation, length of the lent buffer, length of the input.
 const HEAD: usize = 5;
+
+// Room for the longest recorded book, of 512 blocks.
+const BOOK: usize = 262144;
 
 // Reads the next page into `page` and returns its length: 0 at the end of the file, and where a page is cut short or
 // longer than the buffer.
@@ -30,6 +35,13 @@ fn read_page(fd: i32, page: &mut [u8]) -> usize {
     0
 }
 
+// Zeros for the book that is kept. The length is what lending the array as a slice needs.
+fn book_buffer() -> [u8; BOOK]
+    ensures { λ r. ⌜ 262144 ≡ length r ⌝ }
+{
+    [0; BOOK]
+}
+
 fn fill(out: &mut [u8]) {
     let mut i = 0;
     while i < out.len() {
@@ -39,17 +51,31 @@ fn fill(out: &mut [u8]) {
 }
 
 // Runs a case's operation on a filled buffer and compares the answer with the recorded one.
-fn same_answer(case: &[u8], recorded: &[u8], out: &mut [u8], answer: &mut [u8]) -> bool {
+fn same_answer(
+    case: &[u8],
+    recorded: &[u8],
+    book: &mut [u8],
+    len: usize,
+    out: &mut [u8],
+    answer: &mut [u8],
+) -> bool {
     fill(out);
-    let n = operation::run(byte_at(case, 0), from(case, HEAD), out, answer);
+    let n = operation::run(byte_at(case, 0), from(case, HEAD), book, len, out, answer);
     check::same(recorded, first(answer, n))
 }
 
 // The same with a buffer of the length that the case asks for.
-fn agrees(case: &[u8], recorded: &[u8], work: &mut [u8], answer: &mut [u8]) -> bool {
+fn agrees(
+    case: &[u8],
+    recorded: &[u8],
+    book: &mut [u8],
+    len: usize,
+    work: &mut [u8],
+    answer: &mut [u8],
+) -> bool {
     let room = u16_at(case, 1);
     if room <= work.len() {
-        return same_answer(case, recorded, &mut work[0..room], answer);
+        return same_answer(case, recorded, book, len, &mut work[0..room], answer);
     }
     false
 }
@@ -76,24 +102,32 @@ fn length_of(rest: &[u8]) -> usize
 fn run_case(
     case: &[u8],
     recorded: &[u8],
+    book: &mut [u8],
     work: &mut [u8],
     answer: &mut [u8],
     tally: Tally,
 ) -> Tally {
-    if agrees(case, recorded, work, answer) {
-        return tally.agreed();
+    let len = tally.book;
+    if agrees(case, recorded, book, len, work, answer) {
+        return tally.agreed(operation::book_after(byte_at(case, 0), len, answer));
     }
     report::difference(case, recorded, tally);
-    tally.differed()
+    tally.differed(operation::book_after(byte_at(case, 0), len, answer))
 }
 
 // All the cases of a page.
-fn run_page(page: &[u8], work: &mut [u8], answer: &mut [u8], start: Tally) -> Tally {
+fn run_page(
+    page: &[u8],
+    book: &mut [u8],
+    work: &mut [u8],
+    answer: &mut [u8],
+    start: Tally,
+) -> Tally {
     let mut tally = start;
     let mut at = 0;
     while at < page.len() {
         let rest = from(page, at);
-        tally = run_case(case_of(rest), recorded_of(rest), work, answer, tally);
+        tally = run_case(case_of(rest), recorded_of(rest), book, work, answer, tally);
         at += length_of(rest);
     }
     tally
@@ -101,7 +135,13 @@ fn run_page(page: &[u8], work: &mut [u8], answer: &mut [u8], start: Tally) -> Ta
 
 // All the pages of an open file. Nothing says that a file ends, so the loop counts its turns down from a number that no
 // file uses up.
-fn run_pages(fd: i32, page: &mut [u8], work: &mut [u8], answer: &mut [u8]) -> Tally {
+fn run_pages(
+    fd: i32,
+    page: &mut [u8],
+    book: &mut [u8],
+    work: &mut [u8],
+    answer: &mut [u8],
+) -> Tally {
     let mut tally = Tally::new();
     let mut turns = u32::MAX;
     while turns > 0 {
@@ -109,7 +149,7 @@ fn run_pages(fd: i32, page: &mut [u8], work: &mut [u8], answer: &mut [u8]) -> Ta
         if n == 0 {
             break;
         }
-        tally = run_page(first(page, n), work, answer, tally);
+        tally = run_page(first(page, n), book, work, answer, tally);
         turns -= 1;
     }
     tally
@@ -123,9 +163,10 @@ pub fn file(name: &[u8]) {
         return;
     }
     let mut page = io::large_buffer();
+    let mut book = book_buffer();
     let mut work = io::large_buffer();
     let mut answer = io::large_buffer();
-    let tally = run_pages(fd, &mut page, &mut work, &mut answer);
+    let tally = run_pages(fd, &mut page, &mut book, &mut work, &mut answer);
     libc::close(fd);
     report::total(name, tally);
 }

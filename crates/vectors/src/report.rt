@@ -7,6 +7,8 @@ use libc::STDOUT_FILENO;
 pub struct Tally {
     pub cases: u64,
     pub differences: u64,
+    // The length of the book that is kept from case to case.
+    pub book: usize,
 }
 
 fn one_more(n: u64) -> u64 {
@@ -21,20 +23,23 @@ impl Tally {
         Tally {
             cases: 0,
             differences: 0,
+            book: 0,
         }
     }
 
-    pub fn agreed(self) -> Tally {
+    pub fn agreed(self, book: usize) -> Tally {
         Tally {
             cases: one_more(self.cases),
             differences: self.differences,
+            book,
         }
     }
 
-    pub fn differed(self) -> Tally {
+    pub fn differed(self, book: usize) -> Tally {
         Tally {
             cases: one_more(self.cases),
             differences: one_more(self.differences),
+            book,
         }
     }
 }

@@ -9,10 +9,10 @@ use Rattle.vectors.proofs.replay.run_page.Statement.{statement}
 use Rattle.vectors.proofs.replay.run_page.Tie as tie
 
 abbrev Inv-loop : tie.InvT-loop
-Inv-loop page work₀ answer₀ tally₀ at₀ work answer tally at = (length work ≡ length work₀) × (length answer ≡ length answer₀)
+Inv-loop page book₀ work₀ answer₀ tally₀ at₀ book work answer tally at = (length book ≡ length book₀) × (length work ≡ length work₀) × (length answer ≡ length answer₀)
 
 abbrev μ-loop : tie.MeasureT-loop
-μ-loop page work₀ answer₀ tally₀ at₀ work answer tally at = length page - at
+μ-loop page book₀ work₀ answer₀ tally₀ at₀ book work answer tally at = length page - at
 
 loop-holds : tie.Need-loop-holds Inv-loop μ-loop
 loop-holds c = search needs
@@ -47,6 +47,9 @@ same-length c = search needs
 same-length-2 : tie.Need-same-length-2 Inv-loop μ-loop
 same-length-2 c = search needs
 
+same-length-3 : tie.Need-same-length-3 Inv-loop μ-loop
+same-length-3 c = search needs
+
 returns : tie.Need-returns Inv-loop μ-loop
 returns c = search needs
 
@@ -67,4 +70,5 @@ run-page-spec =
     loop-again
     same-length
     same-length-2
+    same-length-3
     returns)

@@ -7,10 +7,10 @@ use Rattle.vectors.proofs.replay.run_pages.Statement.{statement}
 use Rattle.vectors.proofs.replay.run_pages.Tie as tie
 
 abbrev Inv-loop : tie.InvT-loop
-Inv-loop fd page₀ work₀ answer₀ tally₀ turns₀ page work answer tally turns = (length page ≡ length page₀) × (length work ≡ length work₀) × (length answer ≡ length answer₀)
+Inv-loop fd page₀ book₀ work₀ answer₀ tally₀ turns₀ page book work answer tally turns = (length page ≡ length page₀) × (length book ≡ length book₀) × (length work ≡ length work₀) × (length answer ≡ length answer₀)
 
 abbrev μ-loop : tie.MeasureT-loop
-μ-loop fd page₀ work₀ answer₀ tally₀ turns₀ page work answer tally turns = turns
+μ-loop fd page₀ book₀ work₀ answer₀ tally₀ turns₀ page book work answer tally turns = turns
 
 new-requires : tie.Need-new-requires Inv-loop μ-loop
 new-requires c κs = search needs
@@ -45,17 +45,23 @@ same-length-2 c = search needs
 same-length-3 : tie.Need-same-length-3 Inv-loop μ-loop
 same-length-3 c = search needs
 
-returns : tie.Need-returns Inv-loop μ-loop
-returns c = search needs
-
 same-length-4 : tie.Need-same-length-4 Inv-loop μ-loop
 same-length-4 c = search needs
+
+returns : tie.Need-returns Inv-loop μ-loop
+returns c = search needs
 
 same-length-5 : tie.Need-same-length-5 Inv-loop μ-loop
 same-length-5 c = search needs
 
 same-length-6 : tie.Need-same-length-6 Inv-loop μ-loop
 same-length-6 c = search needs
+
+same-length-7 : tie.Need-same-length-7 Inv-loop μ-loop
+same-length-7 c = search needs
+
+same-length-8 : tie.Need-same-length-8 Inv-loop μ-loop
+same-length-8 c = search needs
 
 returns-2 : tie.Need-returns-2 Inv-loop μ-loop
 returns-2 c = search needs
@@ -77,8 +83,10 @@ run-pages-spec =
     same-length
     same-length-2
     same-length-3
-    returns
     same-length-4
+    returns
     same-length-5
     same-length-6
+    same-length-7
+    same-length-8
     returns-2)
