@@ -1,0 +1,22 @@
+-- Answers as numbers. Assumes nothing.
+use mathlib.Core.Path.{_≡_, refl, sym, ap, _∙_}
+use mathlib.Core.Bool.{Bool, true, false, cond}
+use mathlib.Core.List.{List}
+use Prim.Native.Nat.{ℕ, _+_}
+use lib.ListN.{length}
+use Rattle.utf_8.specs.Buffer.{fitsIn, Wrote}
+use Rattle.utf_8.specs.declared.Put.{Put}
+use Rattle.utf_8.specs.declared.Put.the-variants.{Next, Full}
+use Rattle.typebook.specs.Find.{FoundBy}
+use Rattle.typebook.specs.declared.type_provider.Found.{Found}
+use Rattle.gateway.specs.Numbers.{placeNumber, foundNumber, WroteAs, FoundAs}
+
+by : (b : Bool) (n : ℕ) → placeNumber (cond b (Next n) Full) ≡ cond b n 0xffff_ffff_ffff_ffff
+by true n = refl
+by false n = refl
+
+pub wrote-number : {xs out out′ : List ℕ} {at : ℕ} {p : Put} {r : ℕ} → Wrote xs out at p out′ → r ≡ placeNumber p → WroteAs xs out at r out′
+wrote-number {xs} {out} {out′} {at} {p} {r} w e = record { answer = e ∙ ap placeNumber (w .answer) ∙ by (fitsIn xs at (length out)) (at + length xs); buffer = w .buffer }
+
+pub found-number : {book name : List ℕ} {f : Found} {r : ℕ} → FoundBy book name f → r ≡ foundNumber f → FoundAs book name r
+found-number {f = f} w e = record { found = f; by = w; number = e }
