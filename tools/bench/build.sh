@@ -11,7 +11,7 @@ folder=$(mkdir -p "$2" && cd "$2" && pwd)
 where=$(dpkg -L librust-encoding-rs-dev | sed -n 's#^\(.*/cargo/registry\)/.*#\1#p' | head -n 1)
 project=$folder/project
 mkdir -p "$project/src"
-cp "$source/main.rs" "$project/src/main.rs"
+cp "$source/main.rs" "$source/book.rs" "$project/src/"
 cat >"$project/Cargo.toml" <<'TOML'
 [package]
 name = "bench"

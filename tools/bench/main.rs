@@ -1,7 +1,10 @@
-//! Times the port's encodings against encoding_rs and the Rust that the port replaces, on texts of about a megabyte.
+//! Times the port's encodings against encoding_rs and the Rust that the port replaces, on texts of about a megabyte, and the
+//! checks and look-ups of a type book (book.rs).
 //!
 //! Each line has the median of the rounds, in megabytes of input a second, of both, and the port's speed as a part of the
 //! Rust's (1.00: equal, above: faster). Both write into a buffer that is there before; the two take turns.
+
+mod book;
 
 use encoding_rs::{CoderResult, Encoding, UTF_16LE, WINDOWS_1252};
 use std::hint::black_box;
@@ -135,4 +138,5 @@ fn main() {
         compare(&format!("utf_16::encode, {name}"), text.as_bytes(), port_utf_16_encode, rust_utf_16_encode);
         compare(&format!("utf_8::well_formed, {name}"), text.as_bytes(), port_utf_8_well_formed, rust_utf_8_well_formed);
     }
+    book::run();
 }
