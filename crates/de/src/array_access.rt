@@ -36,7 +36,7 @@ fn times(p: u64, b: u32) -> u64
 }
 
 // Whether the element's size times all counts is the number of bytes, exactly.
-pub fn product_is(book: &[u8], t: u32, e: u32, bytes: &[u8]) -> bool
+pub(crate) fn product_is(book: &[u8], t: u32, e: u32, bytes: &[u8]) -> bool
     ensures { λ r. ⌜ r ≡ eqb (bytesOf (now (book .entry)) t e) (length (now (bytes .entry))) ⌝ }
 {
     let dims = typebook::block::dimensions(book, t);
@@ -52,14 +52,14 @@ pub fn product_is(book: &[u8], t: u32, e: u32, bytes: &[u8]) -> bool
     p == bytes.len() as u64
 }
 
-pub fn is_last(book: &[u8], d: u8, t: u32) -> bool
+pub(crate) fn is_last(book: &[u8], d: u8, t: u32) -> bool
     ensures { λ r. ⌜ r ≡ isLast (now (book .entry)) d t ⌝ }
 {
     typebook::block::dimensions(book, t) as u32 <= d as u32 + 1
 }
 
 // Array t, after its element's type was looked up.
-pub fn array(
+pub(crate) fn array(
     s: Step,
     book: &[u8],
     index: &[u32],
@@ -90,7 +90,14 @@ pub fn array(
 }
 
 // The fields of an element that has any are resolved in the last dimension, before the array record.
-pub fn element_check(book: &[u8], index: &[u32], width: u8, d: u8, t: u32, e: u32) -> FieldsCheck
+pub(crate) fn element_check(
+    book: &[u8],
+    index: &[u32],
+    width: u8,
+    d: u8,
+    t: u32,
+    e: u32,
+) -> FieldsCheck
     requires { ⌜ ValidBook (now book) × (isType (now book) e ≡ true) ⌝ }
     ensures { λ r. ⌜ r ≡ elementCheck (ctx (now (book .entry)) width) d t e ⌝ }
 {
@@ -107,7 +114,7 @@ pub fn element_check(book: &[u8], index: &[u32], width: u8, d: u8, t: u32, e: u3
 }
 
 // Dimension d of array t, whose elements are of type e.
-pub fn dimension(
+pub(crate) fn dimension(
     s: Step,
     book: &[u8],
     index: &[u32],
@@ -132,7 +139,7 @@ pub fn dimension(
 }
 
 // The array record, the elements and the end record.
-pub fn elements(
+pub(crate) fn elements(
     s: Step,
     book: &[u8],
     index: &[u32],
@@ -188,7 +195,7 @@ fn stride_of(n: usize, len: usize) -> usize
 }
 
 // What one index of dimension d holds: an element, or the next dimension one level deeper.
-pub fn element(
+pub(crate) fn element(
     s: Step,
     book: &[u8],
     index: &[u32],

@@ -22,7 +22,7 @@ pub enum Shape {
     Leaf,
 }
 
-pub fn shape_of(category: AdsTypeCategory) -> Shape
+pub(crate) fn shape_of(category: AdsTypeCategory) -> Shape
     ensures { λ r. ⌜ r ≡ shapeOf category ⌝ }
 {
     match category {
@@ -45,14 +45,14 @@ pub fn shape_of(category: AdsTypeCategory) -> Shape
     }
 }
 
-pub fn shape_at(book: &[u8], width: u8, t: u32) -> Shape
+pub(crate) fn shape_at(book: &[u8], width: u8, t: u32) -> Shape
     ensures { λ r. ⌜ r ≡ shapeAt (ctx (now (book .entry)) width) t ⌝ }
 {
     shape_of(AdsTypeCategory::determine(book, width, t))
 }
 
 // The value of a type that is neither struct nor array.
-pub fn leaf(
+pub(crate) fn leaf(
     s: Step,
     book: &[u8],
     width: u8,
@@ -74,7 +74,7 @@ pub fn leaf(
 }
 
 // The value of resolved type t in `bytes`, with `left` levels left.
-pub fn value(
+pub(crate) fn value(
     s: Step,
     book: &[u8],
     index: &[u32],

@@ -14,7 +14,7 @@ use resolvers::FieldAnswer;
 use resolvers::FieldsCheck;
 
 // The fields of type block t, after all of them were resolved once.
-pub fn map(
+pub(crate) fn map(
     s: Step,
     book: &[u8],
     index: &[u32],
@@ -40,7 +40,7 @@ pub fn map(
 }
 
 // The map record, the fields and the end record.
-pub fn members(
+pub(crate) fn members(
     s: Step,
     book: &[u8],
     index: &[u32],
@@ -68,7 +68,7 @@ pub fn members(
 }
 
 // Field block f: its key, then its value.
-pub fn member(
+pub(crate) fn member(
     s: Step,
     book: &[u8],
     index: &[u32],

@@ -5,7 +5,7 @@ ghost use Rattle.leaves.specs.Leaf.{entryFrom};
 use typebook::type_provider::Found;
 
 // The first of the k entry blocks from block n on whose value is these bytes, length and all.
-pub fn find_entry(book: &[u8], bytes: &[u8], n: u32, k: u32) -> Found
+pub(crate) fn find_entry(book: &[u8], bytes: &[u8], n: u32, k: u32) -> Found
     requires { ⌜ n + k < 65537 ⌝ }
     ensures { λ r. ⌜ r ≡ entryFrom (now (book .entry)) (now (bytes .entry)) n k ⌝ }
 {

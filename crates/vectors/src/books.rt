@@ -56,7 +56,7 @@ fn unpack(packed: &[u8], book: &mut [u8], start: usize) -> usize {
 }
 
 // A new book, or more of the one that is kept.
-pub fn keep(input: &[u8], book: &mut [u8], len: usize, answer: &mut [u8]) -> usize {
+pub(crate) fn keep(input: &[u8], book: &mut [u8], len: usize, answer: &mut [u8]) -> usize {
     if byte_at(input, 0) == 0 {
         let n = unpack(from(input, 1), book, 0);
         return put_u32(answer, 0, (n % 4294967296) as u32);
@@ -65,7 +65,7 @@ pub fn keep(input: &[u8], book: &mut [u8], len: usize, answer: &mut [u8]) -> usi
     put_u32(answer, 0, (n % 4294967296) as u32)
 }
 
-pub fn check_root(input: &[u8], book: &[u8], len: usize, answer: &mut [u8]) -> usize {
+pub(crate) fn check_root(input: &[u8], book: &[u8], len: usize, answer: &mut [u8]) -> usize {
     match book_check::check_root(book, len, u64_at(input, 0)) {
         RootCheck::Root(_) => put_byte(answer, 0, 0),
         RootCheck::Refused(n) => put_byte(answer, 0, n),
@@ -108,7 +108,7 @@ fn mend(book: &mut [u8], block: u32, is_asked: bool) {
 }
 
 // The check of the book with one byte changed; after it the book is as before.
-pub fn changed(input: &[u8], book: &mut [u8], len: usize, answer: &mut [u8]) -> usize {
+pub(crate) fn changed(input: &[u8], book: &mut [u8], len: usize, answer: &mut [u8]) -> usize {
     let place = u32_at(input, 0) as usize;
     let block = u32_at(input, 0) / 512 * 512;
     let sum_at = block as usize + SUM;
@@ -144,7 +144,7 @@ fn ordinal(category: AdsTypeCategory) -> u8 {
     }
 }
 
-pub fn determine(input: &[u8], book: &[u8], len: usize, answer: &mut [u8]) -> usize {
+pub(crate) fn determine(input: &[u8], book: &[u8], len: usize, answer: &mut [u8]) -> usize {
     let category = AdsTypeCategory::determine(
         first(book, len),
         byte_at(input, 0),

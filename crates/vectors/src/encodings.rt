@@ -50,11 +50,11 @@ fn put_end(answer: &mut [u8], end: TextEnd) -> usize {
     }
 }
 
-pub fn code_point(input: &[u8], answer: &mut [u8]) -> usize {
+pub(crate) fn code_point(input: &[u8], answer: &mut [u8]) -> usize {
     put_u32(answer, 0, windows_1252::code_point(byte_at(input, 0)))
 }
 
-pub fn byte_of(input: &[u8], answer: &mut [u8]) -> usize {
+pub(crate) fn byte_of(input: &[u8], answer: &mut [u8]) -> usize {
     match windows_1252::byte_of(u32_at(input, 0)) {
         Byte::Is(b) => {
             let at = put_byte(answer, 0, 1);
@@ -64,63 +64,63 @@ pub fn byte_of(input: &[u8], answer: &mut [u8]) -> usize {
     }
 }
 
-pub fn string_end(input: &[u8], answer: &mut [u8]) -> usize {
+pub(crate) fn string_end(input: &[u8], answer: &mut [u8]) -> usize {
     put_end(answer, windows_1252::string_end(input))
 }
 
-pub fn windows_1252_decoded_len(input: &[u8], answer: &mut [u8]) -> usize {
+pub(crate) fn windows_1252_decoded_len(input: &[u8], answer: &mut [u8]) -> usize {
     put_room(
         answer,
         windows_1252::decoded_len(from(input, 2), u16_at(input, 0)),
     )
 }
 
-pub fn windows_1252_decode(input: &[u8], out: &mut [u8], answer: &mut [u8]) -> usize {
+pub(crate) fn windows_1252_decode(input: &[u8], out: &mut [u8], answer: &mut [u8]) -> usize {
     let put = windows_1252::decode(from(input, 2), out, u16_at(input, 0));
     put_written(answer, put, out)
 }
 
-pub fn windows_1252_encoded_len(input: &[u8], answer: &mut [u8]) -> usize {
+pub(crate) fn windows_1252_encoded_len(input: &[u8], answer: &mut [u8]) -> usize {
     put_room(
         answer,
         windows_1252::encoded_len(from(input, 2), u16_at(input, 0)),
     )
 }
 
-pub fn windows_1252_encode(input: &[u8], out: &mut [u8], answer: &mut [u8]) -> usize {
+pub(crate) fn windows_1252_encode(input: &[u8], out: &mut [u8], answer: &mut [u8]) -> usize {
     let put = windows_1252::encode(input, out);
     put_written(answer, put, out)
 }
 
-pub fn wstring_end(input: &[u8], answer: &mut [u8]) -> usize {
+pub(crate) fn wstring_end(input: &[u8], answer: &mut [u8]) -> usize {
     put_end(answer, utf_16::wstring_end(input))
 }
 
-pub fn utf_16_decoded_len(input: &[u8], answer: &mut [u8]) -> usize {
+pub(crate) fn utf_16_decoded_len(input: &[u8], answer: &mut [u8]) -> usize {
     put_room(
         answer,
         utf_16::decoded_len(from(input, 2), u16_at(input, 0)),
     )
 }
 
-pub fn utf_16_decode(input: &[u8], out: &mut [u8], answer: &mut [u8]) -> usize {
+pub(crate) fn utf_16_decode(input: &[u8], out: &mut [u8], answer: &mut [u8]) -> usize {
     let put = utf_16::decode(from(input, 2), out, u16_at(input, 0));
     put_written(answer, put, out)
 }
 
-pub fn utf_16_encoded_len(input: &[u8], answer: &mut [u8]) -> usize {
+pub(crate) fn utf_16_encoded_len(input: &[u8], answer: &mut [u8]) -> usize {
     put_room(
         answer,
         utf_16::encoded_len(from(input, 2), u16_at(input, 0)),
     )
 }
 
-pub fn utf_16_encode(input: &[u8], out: &mut [u8], answer: &mut [u8]) -> usize {
+pub(crate) fn utf_16_encode(input: &[u8], out: &mut [u8], answer: &mut [u8]) -> usize {
     let put = utf_16::encode(input, out);
     put_written(answer, put, out)
 }
 
-pub fn well_formed(input: &[u8], answer: &mut [u8]) -> usize {
+pub(crate) fn well_formed(input: &[u8], answer: &mut [u8]) -> usize {
     put_byte(answer, 0, utf_8::decoder::well_formed(input) as u8)
 }
 
@@ -152,7 +152,7 @@ fn item(text: &[u8], at: usize, answer: &mut [u8], to: usize) -> Place {
 }
 
 // All the code points and ill-formed parts of a text, in order.
-pub fn items(text: &[u8], answer: &mut [u8]) -> usize {
+pub(crate) fn items(text: &[u8], answer: &mut [u8]) -> usize {
     let mut at = 0;
     let mut to = 0;
     while at < text.len() {
@@ -166,12 +166,12 @@ pub fn items(text: &[u8], answer: &mut [u8]) -> usize {
     to
 }
 
-pub fn put(input: &[u8], out: &mut [u8], answer: &mut [u8]) -> usize {
+pub(crate) fn put(input: &[u8], out: &mut [u8], answer: &mut [u8]) -> usize {
     let put = utf_8::encoder::put(out, u16_at(input, 0), u32_at(input, 2));
     put_written(answer, put, out)
 }
 
-pub fn utf8_len(input: &[u8], answer: &mut [u8]) -> usize {
+pub(crate) fn utf8_len(input: &[u8], answer: &mut [u8]) -> usize {
     put_byte(
         answer,
         0,

@@ -4,7 +4,7 @@ ghost use Prim.Native.Nat.{_<_};
 ghost use lib.ListN.{take, drop};
 
 // What stands from a place on.
-pub fn from(input: &[u8], at: usize) -> &[u8]
+pub(crate) fn from(input: &[u8], at: usize) -> &[u8]
     ensures { λ r. ⌜ now r ≡ drop at (now (input .entry)) ⌝ }
 {
     if at <= input.len() {
@@ -14,7 +14,7 @@ pub fn from(input: &[u8], at: usize) -> &[u8]
 }
 
 // At most the first n bytes.
-pub fn first(input: &[u8], n: usize) -> &[u8]
+pub(crate) fn first(input: &[u8], n: usize) -> &[u8]
     ensures { λ r. ⌜ now r ≡ take n (now (input .entry)) ⌝ }
 {
     if n <= input.len() {
@@ -23,7 +23,7 @@ pub fn first(input: &[u8], n: usize) -> &[u8]
     input
 }
 
-pub fn byte_at(input: &[u8], at: usize) -> u8 {
+pub(crate) fn byte_at(input: &[u8], at: usize) -> u8 {
     if at < input.len() {
         return input[at];
     }
@@ -31,7 +31,7 @@ pub fn byte_at(input: &[u8], at: usize) -> u8 {
 }
 
 // The number of two bytes at a place, low byte first.
-pub fn u16_at(input: &[u8], at: usize) -> usize
+pub(crate) fn u16_at(input: &[u8], at: usize) -> usize
     ensures { λ r. ⌜ r < 65536 ⌝ }
 {
     let low = byte_at(input, at) as usize;
@@ -41,10 +41,10 @@ pub fn u16_at(input: &[u8], at: usize) -> usize
     low
 }
 
-pub fn u32_at(input: &[u8], at: usize) -> u32 {
+pub(crate) fn u32_at(input: &[u8], at: usize) -> u32 {
     number::le::le_u32(from(input, at))
 }
 
-pub fn u64_at(input: &[u8], at: usize) -> u64 {
+pub(crate) fn u64_at(input: &[u8], at: usize) -> u64 {
     number::le::le_value(from(input, at))
 }

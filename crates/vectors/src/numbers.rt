@@ -57,21 +57,21 @@ fn ordinal(id: AdsTypeId) -> u8 {
     }
 }
 
-pub fn type_id(input: &[u8], answer: &mut [u8]) -> usize {
+pub(crate) fn type_id(input: &[u8], answer: &mut [u8]) -> usize {
     let id = AdsTypeId::from_u32(u32_at(input, 0));
     let at = put_byte(answer, 0, ordinal(id));
     put_u32(answer, at, id.to_u32())
 }
 
-pub fn le_value(input: &[u8], answer: &mut [u8]) -> usize {
+pub(crate) fn le_value(input: &[u8], answer: &mut [u8]) -> usize {
     put_u64(answer, 0, number::le::le_value(input))
 }
 
-pub fn le_u32(input: &[u8], answer: &mut [u8]) -> usize {
+pub(crate) fn le_u32(input: &[u8], answer: &mut [u8]) -> usize {
     put_u32(answer, 0, number::le::le_u32(input))
 }
 
-pub fn le_store(input: &[u8], out: &mut [u8], answer: &mut [u8]) -> usize {
+pub(crate) fn le_store(input: &[u8], out: &mut [u8], answer: &mut [u8]) -> usize {
     number::le::le_store(u64_at(input, 0), out);
     put_bytes(answer, 0, out)
 }
@@ -91,7 +91,7 @@ fn put_integer(answer: &mut [u8], value: Integer) -> usize {
     }
 }
 
-pub fn integer_read(input: &[u8], answer: &mut [u8]) -> usize {
+pub(crate) fn integer_read(input: &[u8], answer: &mut [u8]) -> usize {
     let id = AdsTypeId::from_u32(u32_at(input, 0));
     match number::integer::try_from_le_slice(from(input, 4), id) {
         IntegerRead::Value(value) => put_integer(answer, value),
@@ -116,7 +116,7 @@ fn refusal_of(write: IntegerWrite) -> u8 {
     }
 }
 
-pub fn integer_write(input: &[u8], out: &mut [u8], answer: &mut [u8]) -> usize {
+pub(crate) fn integer_write(input: &[u8], out: &mut [u8], answer: &mut [u8]) -> usize {
     let id = AdsTypeId::from_u32(u32_at(input, 0));
     let value = integer_of(byte_at(input, 4), byte_at(input, 5), u64_at(input, 6));
     let write = number::integer::to_le_slice(value, id, out);
@@ -133,7 +133,7 @@ fn kind_of(value: Real) -> u8 {
     }
 }
 
-pub fn real_read(input: &[u8], answer: &mut [u8]) -> usize {
+pub(crate) fn real_read(input: &[u8], answer: &mut [u8]) -> usize {
     let id = AdsTypeId::from_u32(u32_at(input, 0));
     match number::float::real_from_le_slice(from(input, 4), id) {
         RealRead::Value(value) => put_value(answer, kind_of(value), 0, value.bits()),
@@ -149,7 +149,7 @@ fn refusal_of_real(write: RealWrite) -> u8 {
     }
 }
 
-pub fn real_write(input: &[u8], out: &mut [u8], answer: &mut [u8]) -> usize {
+pub(crate) fn real_write(input: &[u8], out: &mut [u8], answer: &mut [u8]) -> usize {
     let value = number::float::real_from_bits(byte_at(input, 0) == DOUBLE, u64_at(input, 1));
     let write = number::float::real_to_le_slice(value, out);
     let at = put_byte(answer, 0, refusal_of_real(write));

@@ -9,7 +9,7 @@ const KEEP: u8 = 64;
 
 // Puts the answer of an operation at the start of `answer` and returns its length. `book` keeps a type book of `len` bytes
 // from case to case. An operation that is not there has an empty answer, which no case records.
-pub fn run(
+pub(crate) fn run(
     operation: u8,
     input: &[u8],
     book: &mut [u8],
@@ -27,7 +27,7 @@ pub fn run(
 }
 
 // The length of the kept book after an operation.
-pub fn book_after(operation: u8, len: usize, answer: &[u8]) -> usize {
+pub(crate) fn book_after(operation: u8, len: usize, answer: &[u8]) -> usize {
     if operation == KEEP {
         return u32_at(answer, 0) as usize;
     }

@@ -156,7 +156,7 @@ fn run_pages(
 }
 
 // Replays the cases of a file of the folder and writes how many there were, and how many differ.
-pub fn file(name: &[u8]) {
+pub(crate) fn file(name: &[u8]) {
     let fd = os::open_read(name);
     if fd < 0 {
         os::fail(name);

@@ -57,7 +57,7 @@ fn hex(bytes: &[u8]) {
 }
 
 // Writes a file's first difference: the case's number, its operation, its input and what is recorded.
-pub fn difference(case: &[u8], recorded: &[u8], tally: Tally) {
+pub(crate) fn difference(case: &[u8], recorded: &[u8], tally: Tally) {
     if tally.differences > 0 {
         return;
     }
@@ -72,7 +72,7 @@ pub fn difference(case: &[u8], recorded: &[u8], tally: Tally) {
     io::write_all(STDOUT_FILENO, b"\n");
 }
 
-pub fn total(name: &[u8], tally: Tally) {
+pub(crate) fn total(name: &[u8], tally: Tally) {
     io::write_all(STDOUT_FILENO, name);
     io::write_all(STDOUT_FILENO, b" cases ");
     io::print_decimal(STDOUT_FILENO, tally.cases);

@@ -1,7 +1,7 @@
 #!/bin/sh
 # Builds the comparison of the port's encodings with encoding_rs, offline, with the crate of Debian's librust-encoding-rs-dev:
 #     rt staticlib gateway
-#     sh tools/bench/build.sh target/staticlib/libgateway.a FOLDER
+#     sh rust/bench/build.sh target/staticlib/libgateway.a FOLDER
 #     FOLDER/release/bench
 # Nothing of the gate needs it.
 set -eu
