@@ -1,0 +1,2 @@
+use Rattle.de.proofs.Puts.{leaf-at}
+returns => search leaf-at

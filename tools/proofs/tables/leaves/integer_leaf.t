@@ -1,0 +1,3 @@
+use Rattle.leaves.proofs.Leaves.{integer-signed, integer-unsigned}
+ruleset exits = (integer-signed, integer-unsigned)
+returns.* => search exits
