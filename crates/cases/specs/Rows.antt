@@ -1,6 +1,6 @@
 -- The rows: what the definitions give, and what document 01 says. Assumes nothing.
 use mathlib.Core.List.{List, [], _∷_, _++_}
-use Prim.Native.Nat.{ℕ, suc}
+use Prim.Native.Nat.{ℕ, zero, suc, _+_}
 use lib.ListN.{length, take}
 use lib.IntN.{ℤ, pos, negsuc}
 use Rattle.number.specs.Integer.{bytesValue}
@@ -16,6 +16,13 @@ use Rattle.windows_1252.specs.Text as windows1252
 use Rattle.type_category.specs.Category.{categoryOf}
 use Rattle.type_category.specs.Validate.{placeOf}
 use Rattle.type_category.specs.declared.type_category.AdsTypeCategory.the-variants as category
+use Rattle.resolvers.specs.Resolve.{resolveAlias}
+use Rattle.resolvers.specs.declared.Resolved.{Resolved}
+use Rattle.resolvers.specs.declared.Resolved.the-variants.{Base, Lacks, Endless}
+use Rattle.walks.specs.Walk.{walkOf}
+use Rattle.walks.specs.Reads.{listed, rmwOf}
+use Rattle.walks.specs.declared.Rmw.{Rmw}
+use Rattle.walks.specs.declared.Rmw.the-variants as rmw
 use Rattle.cases.specs.Blocks.{typeBlock, fieldBlock}
 
 pub record Row : Type 0 where
@@ -61,8 +68,49 @@ b = 0x42 ∷ []
 abbrev pub twoFields : ℕ → ℕ → List ℕ
 twoFields first second = typeBlock 65 12 2 s [] ++ fieldBlock first 2 a int ++ fieldBlock second 2 b int
 
-unfoldable pub rows : List Row
-rows =
+-- a resolver's answer: 0 with the block, 7 with its block, or 8
+abbrev pub resolved : Resolved → List ℕ
+resolved (Base t) = 0 ∷ t ∷ []
+resolved (Lacks b) = 7 ∷ b ∷ []
+resolved Endless = 8 ∷ []
+
+-- an answer to read-modify-write: 1 yes, 0 no, 7 with its block, or a refusal's number
+abbrev pub needed : Rmw → List ℕ
+needed rmw.Yes = 1 ∷ []
+needed rmw.No = 0 ∷ []
+needed (rmw.NotFound b) = 7 ∷ b ∷ []
+needed (rmw.Refused n) = n ∷ []
+
+-- the names of a chain, each of one letter from `A` on
+abbrev pub link : ℕ → List ℕ
+link n = (0x41 + n) ∷ []
+
+-- k aliases, each of the next name, from the n-th on
+unfoldable pub aliases : ℕ → ℕ → List ℕ
+aliases n zero = []
+aliases n (suc k) = typeBlock 65 0 0 (link n) (link (suc n)) ++ aliases (suc n) k
+
+-- a chain of k aliases that ends at a type of its own
+abbrev pub chain : ℕ → List ℕ
+chain k = aliases 0 k ++ typeBlock 2 2 0 (link k) []
+
+-- a struct S of two fields; FB is a function block by its size; X is in no book here
+abbrev pub fb : List ℕ
+fb = 0x46 ∷ 0x42 ∷ []
+
+abbrev pub x : List ℕ
+x = 0x58 ∷ []
+
+abbrev pub structOf : List ℕ → List ℕ → List ℕ
+structOf first second = typeBlock 65 16 2 s [] ++ fieldBlock 0 4 a first ++ fieldBlock 4 12 b second ++ typeBlock 65 12 0 fb []
+
+-- a struct of two aliases, A and B, of one missing name
+abbrev pub twoAliases : List ℕ
+twoAliases = typeBlock 65 16 2 s [] ++ fieldBlock 0 4 a a ++ fieldBlock 4 12 b b ++ typeBlock 65 0 0 a x ++ typeBlock 65 0 0 b x
+
+-- layers 1 and 2
+unfoldable pub values : List Row
+values =
     -- integer/mod.rs: Int8 80h is −128; Int16 00h 80h is −32,768; FFh 7Fh is 32,767
     (signed (bytesValue Int8 (0x80 ∷ [])) is (1 ∷ 128 ∷ []))
     ∷ (signed (bytesValue Int16 (0x00 ∷ 0x80 ∷ [])) is (1 ∷ 32768 ∷ []))
@@ -79,3 +127,20 @@ rows =
     ∷ ((placeOf (categoryOf (twoFields 0 0) 8 0) ∷ []) is (placeOf category.Union ∷ []))
     ∷ ((placeOf (categoryOf (twoFields 4 8) 8 0) ∷ []) is (placeOf category.FunctionBlock ∷ []))
     ∷ []
+
+-- resolvers.rs and its walks
+abbrev pub chains : List Row
+chains =
+    -- resolvers.rs: INT with type name INT answers 8; 31 hops resolve; 32 answer 8, but 7 if the 32nd target is missing
+    (resolved (resolveAlias (typeBlock 2 2 0 int int) 8 0) is (8 ∷ []))
+    ∷ (resolved (resolveAlias (chain 31) 8 0) is (0 ∷ 31 ∷ []))
+    ∷ (resolved (resolveAlias (chain 32) 8 0) is (8 ∷ []))
+    ∷ (resolved (resolveAlias (aliases 0 32) 8 0) is (7 ∷ 31 ∷ []))
+    -- last in, first out: fields [missing, block] are "yes", [block, missing] are 7; two aliases to one missing name list it twice
+    ∷ (needed (rmwOf (structOf x fb) 8 (walkOf (structOf x fb) 8 0)) is (1 ∷ []))
+    ∷ (needed (rmwOf (structOf fb x) 8 (walkOf (structOf fb x) 8 0)) is (7 ∷ 2 ∷ []))
+    ∷ (listed (walkOf twoAliases 8 0) is (4 ∷ 3 ∷ []))
+    ∷ []
+
+abbrev pub rows : List Row
+rows = values ++ chains
