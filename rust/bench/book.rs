@@ -58,6 +58,46 @@ fn sums(book: &[u8]) -> bool {
     })
 }
 
+/// Random bytes, books with right and wrong sums, lengths that lie, any index: each answer against a plain reading.
+fn trial(rounds: usize) {
+    let mut state = 88_172_645_463_325_252u64;
+    let mut next = move || {
+        state ^= state << 13;
+        state ^= state >> 7;
+        state ^= state << 17;
+        state as usize
+    };
+    for _ in 0..rounds {
+        let mut book: Vec<u8> = (0..next() % 4097).map(|_| if next() % 3 == 0 { next() as u8 } else { 0 }).collect();
+        for block in book.chunks_exact_mut(BLOCK) {
+            if next() % 2 == 0 {
+                block[0] = (1 + next() % 4) as u8;
+                block[52] = (next() % 4) as u8;
+                let sum: u32 = block[..508].iter().map(|&b| u32::from(b)).sum();
+                block[508..].copy_from_slice(&sum.to_le_bytes());
+            }
+        }
+        let len = if next() % 4 == 0 { next() } else { next() % 9 * BLOCK };
+        let answer = unsafe { gateway_check_book(book.as_ptr(), book.len(), len) };
+        if len == 0 || len % BLOCK != 0 || len > book.len() {
+            assert_eq!(answer, 1);
+        } else if !sums(&book[..len]) {
+            assert_eq!(answer, 2);
+        } else {
+            assert!(matches!(answer, 0 | 3 | 4));
+        }
+        let name: Vec<u8> = (0..next() % 4).map(|_| if next() % 3 == 0 { next() as u8 } else { 0 }).collect();
+        let index: Vec<u32> = (0..next() % 65).map(|_| if next() % 2 == 0 { next() as u32 } else { (next() % 12) as u32 }).collect();
+        let named = |b: &[u8]| b[0] == 1 && b[52] as usize == name.len() && b[54..54 + name.len()] == name[..];
+        let first = book.chunks_exact(BLOCK).position(named).map_or(u32::MAX, |n| n as u32);
+        assert_eq!(find(&book, &name), first);
+        let by = find_by(&book, &index, &name);
+        assert_eq!(by == u32::MAX, first == u32::MAX);
+        assert!(by == u32::MAX || named(&book[by as usize * BLOCK..][..BLOCK]));
+    }
+    println!("{rounds} rounds of random bytes, books, lengths, indexes and names: no difference");
+}
+
 fn median(mut call: impl FnMut()) -> f64 {
     let mut times = Vec::new();
     for _ in 0..ROUNDS {
@@ -70,6 +110,7 @@ fn median(mut call: impl FnMut()) -> f64 {
 }
 
 pub fn run() {
+    trial(200_000);
     let large = made(65_536);
     assert_eq!(check_book(&large), 0);
     let whole = median(|| {

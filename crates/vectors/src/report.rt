@@ -19,7 +19,7 @@ fn one_more(n: u64) -> u64 {
 }
 
 impl Tally {
-    pub fn new() -> Tally {
+    pub(crate) fn new() -> Tally {
         Tally {
             cases: 0,
             differences: 0,
@@ -27,7 +27,7 @@ impl Tally {
         }
     }
 
-    pub fn agreed(self, book: usize) -> Tally {
+    pub(crate) fn agreed(self, book: usize) -> Tally {
         Tally {
             cases: one_more(self.cases),
             differences: self.differences,
@@ -35,7 +35,7 @@ impl Tally {
         }
     }
 
-    pub fn differed(self, book: usize) -> Tally {
+    pub(crate) fn differed(self, book: usize) -> Tally {
         Tally {
             cases: one_more(self.cases),
             differences: one_more(self.differences),
