@@ -18,7 +18,7 @@ use Rattle.walks.specs.declared.Parts.{Parts}
 use Rattle.walks.specs.declared.Parts.the-variants.{Element, Fields, Nothing}
 use Rattle.walks.specs.declared.Event.the-variants.{New, Lacking, Long}
 use Rattle.walks.specs.Walk.{partsKind, after, partsIn, partsOf}
-use Rattle.walks.specs.State.{entryOf, stackOf, markedIn, Took, Pushed, Marked, Dead, Settles}
+use Rattle.walks.specs.State.{entryOf, stackOf, markedIn, Took, Pushed, Marked, Grown, Dead, Settles}
 use Rattle.walks.proofs.Places.{fields-below, alias-not-part}
 
 pub stack-set : (sc : List ℕ) (i x d : ℕ) → d ≤ i → stackOf (set sc i x) d ≡ stackOf sc d
@@ -124,34 +124,40 @@ module _ (book : List ℕ) (width : ℕ) (sc : List ℕ) (depth t : ℕ) (l : de
           let b : n < 65536 = fields-below book t v y n en in
           laid n b (ap (entryOf t) q ∙ ap (after t) (sym q) ∙ sym fields) (rw (fields, after-few) (omega arith))
 
--- ---- settle
+-- ---- expand, settle
 
-module _ (book : List ℕ) (width : ℕ) (sc : List ℕ) (depth t : ℕ) (y : isType book t ≡ true) (l : depth < 4096) {sc₁ : List ℕ} (m : Marked sc t sc₁) {a : Resolved}
+pub grow : (book : List ℕ) (width : ℕ) (sc : List ℕ) (depth t u : ℕ) → depth < 4096 → {sc₁ : List ℕ} → Marked sc t sc₁ → {r : ℕ} {sc₂ : List ℕ}
+    → Pushed book width sc₁ depth u r sc₂ → Grown book width sc depth t u r sc₂
+grow book width sc depth t u l m p =
+    let s = m .stack depth (omega arith) in
+    record { top = rw (← s) (p .top); marks = λ u. p .marks u ∙ m .marks u; more = p .more; few = rw (← s) (p .few) }
+
+module _ (book : List ℕ) (width : ℕ) (sc : List ℕ) (depth t : ℕ) (y : isType book t ≡ true) (l : depth < 4096) {a : Resolved}
     (ra : ResolvedIs book (resolveAlias book width t) a) where
-  dead : Dead sc depth t depth sc₁
-  dead = record { top = m .stack depth (omega arith); marks = m .marks; more = omega arith }
-
-  pub settle-base : (u : ℕ) → a ≡ Base u → {r : ℕ} {sc₂ : List ℕ} → Pushed book width sc₁ depth u r sc₂ → Settles book width sc depth t (New u r) sc₂
-  settle-base u e p =
-      let s = m .stack depth (omega arith) in
+  pub settle-base : (u : ℕ) → a ≡ Base u → {r : ℕ} {sc₂ : List ℕ} → Grown book width sc depth t u r sc₂ → Settles book width sc depth t (New u r) sc₂
+  settle-base u e g =
       record {
         so = record {
           to = sym (ra .is) ∙ e;
           typed = ra .typed u e;
-          top = rw (← s) (p .top);
-          marks = λ u. p .marks u ∙ m .marks u;
-          more = p .more;
-          few = rw (← s) (p .few);
+          top = g .top;
+          marks = g .marks;
+          more = g .more;
+          few = g .few;
         };
       }
 
-  pub settle-lacks : (c : ℕ) → a ≡ Lacks c → Settles book width sc depth t (Lacking c depth) sc₁
-  settle-lacks c e =
-      let q = sym (ra .is) ∙ e in
-      record { so = record { to = q; alias = alias-not-part book width t c y q; dead = dead } }
+  module _ {sc₁ : List ℕ} (m : Marked sc t sc₁) where
+    dead : Dead sc depth t depth sc₁
+    dead = record { top = m .stack depth (omega arith); marks = m .marks; more = omega arith }
 
-  pub settle-long : a ≡ Endless → Settles book width sc depth t (Long depth) sc₁
-  settle-long e = record { so = record { to = sym (ra .is) ∙ e; dead = dead } }
+    pub settle-lacks : (c : ℕ) → a ≡ Lacks c → Settles book width sc depth t (Lacking c depth) sc₁
+    settle-lacks c e =
+        let q = sym (ra .is) ∙ e in
+        record { so = record { to = q; alias = alias-not-part book width t c y q; dead = dead } }
+
+    pub settle-long : a ≡ Endless → Settles book width sc depth t (Long depth) sc₁
+    settle-long e = record { so = record { to = sym (ra .is) ∙ e; dead = dead } }
 
 pub base-type : (book : List ℕ) (answer : Resolved) (u : ℕ) {a : Resolved} → ResolvedIs book answer a → a ≡ Base u → isType book u ≡ true
 base-type book answer u r h = r .typed u h

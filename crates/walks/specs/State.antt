@@ -82,7 +82,14 @@ pub record Marked (sc : List ℕ) (t : ℕ) (sc′ : List ℕ) : Type 0 where
   pub stack : (d : ℕ) → d ≤ 4096 → stackOf sc′ d ≡ stackOf sc d
   pub marks : (u : ℕ) → markedIn sc′ u ≡ eqb t u || markedIn sc u
 
--- type block t is marked, and the parts of what it comes to, u, are laid on
+-- type block t is marked, and the parts of type u are laid on
+pub record Grown (book : List ℕ) (width : ℕ) (sc : List ℕ) (depth t u r : ℕ) (sc′ : List ℕ) : Type 0 where
+  pub top : stackOf sc′ r ≡ partsOf book width u ++ stackOf sc depth
+  pub marks : (u : ℕ) → markedIn sc′ u ≡ eqb t u || markedIn sc u
+  pub more : r ≤ depth + 1
+  pub few : length (stackOf sc′ r) < 65536 + length (stackOf sc depth)
+
+-- the same, where u is what t comes to
 pub record Expanded (book : List ℕ) (width : ℕ) (sc : List ℕ) (depth t u r : ℕ) (sc′ : List ℕ) : Type 0 where
   pub to : resolveAlias book width t ≡ Base u
   pub typed : isType book u ≡ true

@@ -9,7 +9,7 @@ ghost use Rattle.typebook.specs.Book.{isType};
 ghost use Rattle.book_check.specs.Check.{ValidBook};
 ghost use Rattle.walks.specs.Walk.{partsKind};
 ghost use Rattle.walks.specs.Reads.{keepsState};
-ghost use Rattle.walks.specs.State.{markedIn, isPart, namesIt, hasRef, Took, Marked, Pushed, Settles, Stepped, IsDue, Applied, Decided, Started};
+ghost use Rattle.walks.specs.State.{markedIn, isPart, namesIt, hasRef, Took, Marked, Pushed, Grown, Settles, Stepped, IsDue, Applied, Decided, Started};
 ghost use Rattle.walks.specs.Calls.{scratchFits, listFits, rmwAnswer, Walked, RmwIn, RmwIs, MissingIn, MissingIs};
 use book_check::RootCheck;
 use resolvers::Resolved;
@@ -187,18 +187,32 @@ fn push(book: &[u8], width: u8, scratch: &mut [u32], depth: usize, t: u32) -> us
     }
 }
 
-// Marks type block t visited, and lays on the parts of what it comes to. The alias's target is not marked: it may be met by its
+// Marks type block t visited, and lays on the parts of u, which t comes to. The alias's target u is not marked: it may be met by its
 // own name later.
+fn expand(book: &[u8], width: u8, scratch: &mut [u32], depth: usize, t: u32, u: u32) -> usize
+    requires { ⌜ ValidBook (now book) × (isType (now book) t ≡ true) × (isType (now book) u ≡ true) × (depth < 4096) × (16384 ≤ length (now scratch)) ⌝ }
+    ensures { λ r. ⌜ Grown (now (book .entry)) width (now (scratch .entry)) depth t u r (now (scratch .exit)) ⌝ }
+{
+    mark(scratch, t);
+    push(book, width, scratch, depth, u)
+}
+
+// The event of the new name of type block t: it is visited now.
 fn settle(book: &[u8], index: &[u32], width: u8, scratch: &mut [u32], depth: usize, t: u32) -> Event
     requires { ⌜ ValidBook (now book) × (isType (now book) t ≡ true) × (depth < 4096) × (16384 ≤ length (now scratch)) ⌝ }
     ensures { λ r. ⌜ Settles (now (book .entry)) width (now (scratch .entry)) depth t r (now (scratch .exit)) ⌝ }
 {
-    mark(scratch, t);
     let resolved = resolvers::resolve_alias_in(book, index, width, t);
     match resolved {
-        Resolved::Base(u) => Event::New(u, push(book, width, scratch, depth, u)),
-        Resolved::Lacks(c) => Event::Lacking(c, depth),
-        Resolved::Endless => Event::Long(depth),
+        Resolved::Base(u) => Event::New(u, expand(book, width, scratch, depth, t, u)),
+        Resolved::Lacks(c) => {
+            mark(scratch, t);
+            Event::Lacking(c, depth)
+        }
+        Resolved::Endless => {
+            mark(scratch, t);
+            Event::Long(depth)
+        }
     }
 }
 

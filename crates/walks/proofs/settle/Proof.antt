@@ -5,10 +5,9 @@ use borrow.Author.Needs.{needs}
 use Rattle.walks.proofs.settle.Statement.{statement}
 use Rattle.walks.proofs.settle.Tie as tie
 
-ruleset exits = (settle-base, settle-lacks, settle-long)
+ruleset typed = (needs, base-type)
 
-mark-requires : tie.Need-mark-requires
-mark-requires c κs = (search type-below, search needs)
+ruleset exits = (settle-base, settle-lacks, settle-long)
 
 resolve-alias-in-requires : tie.Need-resolve-alias-in-requires
 resolve-alias-in-requires c κs = search needs
@@ -16,14 +15,20 @@ resolve-alias-in-requires c κs = search needs
 enum-known-resolved : tie.Need-enum-known-resolved
 enum-known-resolved c = search needs
 
-push-requires : tie.Need-push-requires
-push-requires c κs = (search needs, search base-type, search needs, search needs)
+expand-requires : tie.Need-expand-requires
+expand-requires c κs = (search needs, search typed, search typed, search needs, search needs)
 
 enum-known-resolved-2 : tie.Need-enum-known-resolved-2
 enum-known-resolved-2 c = search needs
 
+mark-requires : tie.Need-mark-requires
+mark-requires c κs = (search type-below, search needs)
+
 enum-told : tie.Need-enum-told
 enum-told c = search needs
+
+mark-requires-2 : tie.Need-mark-requires-2
+mark-requires-2 c κs = (search type-below, search needs)
 
 same-length : tie.Need-same-length
 same-length c = search needs
@@ -47,12 +52,13 @@ pub settle-spec : {M : Type 1} → statement M
 settle-spec =
     tie.close
     (tie.spec
-    mark-requires
     resolve-alias-in-requires
     enum-known-resolved
-    push-requires
+    expand-requires
     enum-known-resolved-2
+    mark-requires
     enum-told
+    mark-requires-2
     same-length
     returns
     same-length-2
