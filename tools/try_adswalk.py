@@ -16,7 +16,9 @@ from random import Random
 
 from answers import oracle
 
-PROGRAM = os.path.join(os.path.dirname(os.path.abspath(__file__)), "..", "target", "bin", "adswalk")
+TOP = os.path.join(os.path.dirname(os.path.abspath(__file__)), "..")
+PROGRAM = os.path.join(TOP, "target", "bin", "adswalk")
+GLUE = os.path.join(TOP, "examples", "glue")
 BOOK, MEMORY, RECORDS, TEXT = 65536, 4096, 2730, 12288
 
 
@@ -154,6 +156,26 @@ class Trial:
         self.compare("real", book(T("T", id=b.REAL32, size=4)), bytes.fromhex("0000803f"), "walk T 4\nreal 4 3F800000\n")
         self.compare("NaN", book(T("T", id=b.REAL64, size=8)), bytes.fromhex("010000000000f87f"), "walk T 8\nreal 8 7FF8000000000001\n")
 
+    def glue(self):
+        """The glue recipe of examples/, with the lines that stand beside it."""
+        content = {}
+        for name in ("book.bin", "mem.bin", "stdout"):
+            with open(os.path.join(GLUE, name), "rb") as file:
+                content[name] = file.read()
+        self.compare("glue recipe", content["book.bin"], content["mem.bin"], content["stdout"].decode("ascii"))
+
+    def damaged(self, rng, data):
+        """The book with a bit changed, its block's sum mended or not, or with its last type there twice."""
+        if rng.random() < 0.2:
+            last = max(at for at in range(0, len(data), 512) if data[at] == 1)
+            return bytes(data + data[last:])
+        place = rng.randrange(len(data))
+        data[place] ^= 1 << rng.randrange(8)
+        if rng.random() < 0.7:
+            at = place // 512 * 512
+            data[at + 508:at + 512] = sum(data[at:at + 508]).to_bytes(4, "little")
+        return bytes(data)
+
     def random(self, count):
         b, k = self.b, 0
         while count:
@@ -166,10 +188,8 @@ class Trial:
             if len(data) > BOOK + 512:
                 continue
             count -= 1
-            if rng.random() < 0.03:
-                data = bytearray(data)
-                data[rng.randrange(len(data))] ^= 1 << rng.randrange(8)
-                data = bytes(data)
+            if rng.random() < 0.08:
+                data = self.damaged(rng, bytearray(data))
             memory = b.gen_memory(rng, turned)
             if b.has_bom(memory):
                 memory = bytes(len(memory))
@@ -184,6 +204,7 @@ class Trial:
 def main():
     trial = Trial(sys.argv[1])
     trial.corners()
+    trial.glue()
     print("corners:", trial.cases, "cases,", trial.wrong, "differ")
     trial.random(int(sys.argv[2]) if len(sys.argv) > 2 else 2000)
     print("all:", trial.cases, "cases,", trial.wrong, "differ")

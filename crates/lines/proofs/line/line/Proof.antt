@@ -11,8 +11,6 @@ use Rattle.lines.proofs.line.text_line.Reads as text-line-reads
 use Rattle.lines.proofs.put.put_bytes.Reads as put-bytes-reads
 use Rattle.tape.proofs.text.record_text.Reads as record-text-reads
 
-ruleset exits = (array-line, array-end-line, map-line, key-line, map-end-line, record-text-line, enum-line, unit-line, other-line)
-
 slice-aggregate-counted : tie.Need-slice-aggregate-counted
 slice-aggregate-counted c = search needs
 
@@ -74,55 +72,55 @@ same-length : tie.Need-same-length
 same-length c = search needs
 
 returns : tie.Need-returns
-returns c = search exits
+returns c = search array-line
 
 same-length-2 : tie.Need-same-length-2
 same-length-2 c = search needs
 
 returns-2 : tie.Need-returns-2
-returns-2 c = search exits
+returns-2 c = search array-end-line
 
 same-length-3 : tie.Need-same-length-3
 same-length-3 c = search needs
 
 returns-3 : tie.Need-returns-3
-returns-3 c = search exits
+returns-3 c = search map-line
 
 same-length-4 : tie.Need-same-length-4
 same-length-4 c = search needs
 
 returns-4 : tie.Need-returns-4
-returns-4 c = search exits
+returns-4 c = search key-line
 
 same-length-5 : tie.Need-same-length-5
 same-length-5 c = search needs
 
 returns-5 : tie.Need-returns-5
-returns-5 c = search exits
+returns-5 c = search map-end-line
 
 same-length-6 : tie.Need-same-length-6
 same-length-6 c = search needs
 
 returns-6 : tie.Need-returns-6
-returns-6 c = search exits
+returns-6 c = search record-text-line
 
 same-length-7 : tie.Need-same-length-7
 same-length-7 c = search needs
 
 returns-7 : tie.Need-returns-7
-returns-7 c = search exits
+returns-7 c = search enum-line
 
 same-length-8 : tie.Need-same-length-8
 same-length-8 c = search needs
 
 returns-8 : tie.Need-returns-8
-returns-8 c = search exits
+returns-8 c = search unit-line
 
 same-length-9 : tie.Need-same-length-9
 same-length-9 c = search needs
 
 returns-9 : tie.Need-returns-9
-returns-9 c = search exits
+returns-9 c = search other-line
 
 pub line-spec : {M : Type 1} → statement M
 line-spec =

@@ -9,8 +9,6 @@ use Rattle.lines.proofs.line.int_line.Reads as int-line-reads
 use Rattle.lines.proofs.line.nat_line.Reads as nat-line-reads
 use Rattle.lines.proofs.line.real_line.Reads as real-line-reads
 
-ruleset exits = (bool-line, signed-line, unsigned-line, single-line, double-line, no-line)
-
 slice-aggregate-counted : tie.Need-slice-aggregate-counted
 slice-aggregate-counted c = search needs
 
@@ -39,34 +37,34 @@ same-length : tie.Need-same-length
 same-length c = search needs
 
 returns : tie.Need-returns
-returns c = search exits
+returns c = search bool-line
 
 same-length-2 : tie.Need-same-length-2
 same-length-2 c = search needs
 
 returns-2 : tie.Need-returns-2
-returns-2 c = search exits
+returns-2 c = search signed-line
 
 same-length-3 : tie.Need-same-length-3
 same-length-3 c = search needs
 
 returns-3 : tie.Need-returns-3
-returns-3 c = search exits
+returns-3 c = search unsigned-line
 
 same-length-4 : tie.Need-same-length-4
 same-length-4 c = search needs
 
 returns-4 : tie.Need-returns-4
-returns-4 c = search exits
+returns-4 c = search single-line
 
 same-length-5 : tie.Need-same-length-5
 same-length-5 c = search needs
 
 returns-5 : tie.Need-returns-5
-returns-5 c = search exits
+returns-5 c = search double-line
 
 returns-6 : tie.Need-returns-6
-returns-6 c = search exits
+returns-6 c = search no-line
 
 pub number-line-spec : {M : Type 1} → statement M
 number-line-spec =
