@@ -1,4 +1,5 @@
 // What the program prints of a book and a memory: root 0, pointers of 8 bytes.
+ghost use lib.ListN.{length};
 ghost use Rattle.lines.specs.Puts.{Printed};
 ghost use Rattle.adswalk.specs.Answer.{linesBy, walked, printed};
 use book_check::RootCheck;
@@ -33,7 +34,7 @@ fn walk<'a>(
     text: &'a mut [u8],
     out: &mut [u8],
 ) -> Put
-    ensures { λ r. ⌜ Printed (walked (now (book .entry)) (now (memory .entry)) (now (tape .entry)) (now (text .entry))) (now (out .entry)) r (now (out .exit)) ⌝ }
+    ensures { λ r. ⌜ Printed (walked (now (book .entry)) (now (memory .entry)) (length (now (tape .entry))) (length (now (text .entry)))) (now (out .entry)) r (now (out .exit)) ⌝ }
 {
     if memory.len() > 4096 {
         return refused_line(10, out);
@@ -50,7 +51,7 @@ pub(crate) fn answer<'a>(
     text: &'a mut [u8],
     out: &mut [u8],
 ) -> Put
-    ensures { λ r. ⌜ Printed (printed (now (book .entry)) (now (memory .entry)) (now (tape .entry)) (now (text .entry))) (now (out .entry)) r (now (out .exit)) ⌝ }
+    ensures { λ r. ⌜ Printed (printed (now (book .entry)) (now (memory .entry)) (length (now (tape .entry))) (length (now (text .entry)))) (now (out .entry)) r (now (out .exit)) ⌝ }
 {
     if book.len() > 65536 {
         return refused_line(1, out);
