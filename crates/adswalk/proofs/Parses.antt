@@ -1,12 +1,12 @@
 -- The lines of the tape and text that a read leaves are those of what it emits. Assumes nothing.
 use mathlib.Core.Path.{_≡_, refl, sym, ap, _∙_}
-use mathlib.Core.Bool.{Bool, true, false, cond, _||_, _&&_}
+use mathlib.Core.Bool.{Bool, true, false, cond, _&&_}
 use mathlib.Core.List.{List, [], _∷_, _++_, append-assoc}
-use Prim.Native.Nat.{ℕ, zero, suc, _+_, _-_, _*_, _/_, _%_, _≤_, _<_}
+use Prim.Native.Nat.{ℕ, _+_, _-_, _*_, _/_, _%_, _≤_, _<_}
 use native.Mathlib.Omega.{arith}
-use lib.ListN.{length, getD, take, drop, length-append, length-drop}
+use lib.ListN.{length, drop, length-append, length-drop}
 use lib.Seq.{take-at, drop-at, drop-drop}
-use lib.Dec.{eqb, leb}
+use lib.Dec.{eqb}
 use borrow.Author.Tests.{le-leb, leb-true, eqb-true}
 use Rattle.utf_8.specs.Buffer.{splice, fitsIn}
 use Rattle.utf_8.proofs.Splices.{splice-long, splice-start}
@@ -15,17 +15,17 @@ use Rattle.number.proofs.ByteOrder.{leValue-leBytes}
 use Rattle.tape.specs.declared.record.Record.{Record}
 use Rattle.tape.specs.declared.cursor.Step.the-variants as step
 use Rattle.tape.specs.Record.{recordBytes, recordOf, stepAt}
-use Rattle.tape.specs.Text.{partOf, nameIn, recordText}
+use Rattle.tape.specs.Text.{partOf, recordText}
 use Rattle.tape.proofs.Records.{length-record}
 use Rattle.lines.specs.Lines.{textLine, lineOf, before, recordsAt, linesOf, headLine, walkLines, refusedLine}
 use Rattle.de.specs.declared.deserializer.ReadAnswer.{ReadAnswer}
-use Rattle.de.specs.declared.deserializer.ReadAnswer.the-variants.{Done, NotFound, Refused}
+use Rattle.de.specs.declared.deserializer.ReadAnswer.the-variants.{NotFound, Refused}
 use Rattle.de.specs.declared.step.Step.{Step}
-use Rattle.de.specs.declared.step.Step.the-variants.{Next, Stop}
+use Rattle.de.specs.declared.step.Step.the-variants.{Stop}
 use Rattle.de.specs.Trace.{Event, rec, text, bytesOf, textBytes, tapeBytes, Trace, done, stop, eventsOf, endOf, fits, stepOf}
 use Rattle.de.specs.Read.{refusalOf, answerOf, bufferAfter, ReadIs}
 use Rattle.adswalk.specs.Answer.{eventLine, eventLines, stepLines, readLines, linesBy}
-use Rattle.adswalk.proofs.Emits.{Plain, nothing, record-more, text-more, Emits}
+use Rattle.adswalk.proofs.Emits.{Plain, record-more, text-more, Emits}
 
 -- a record with A and B as its bytes hold them
 abbrev held : ℕ → ℕ → ℕ → ℕ → Record

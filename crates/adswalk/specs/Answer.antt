@@ -1,5 +1,5 @@
 -- What the program prints of a book and a memory, with root 0 and pointers of 8 bytes (document 01, "Program `adswalk`"). Assumes nothing.
-use mathlib.Core.Bool.{Bool, true, false, cond}
+use mathlib.Core.Bool.{cond}
 use mathlib.Core.List.{List, [], _∷_, _++_}
 use Prim.Native.Nat.{ℕ, _%_}
 use lib.ListN.{length}

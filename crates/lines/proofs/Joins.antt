@@ -12,7 +12,7 @@ use borrow.Author.Tests.{leb-true, leb-false, le-leb, lt-leb}
 use Rattle.utf_8.specs.Buffer.{splice, fitsIn}
 use Rattle.utf_8.specs.declared.Put.{Put}
 use Rattle.utf_8.specs.declared.Put.the-variants.{Next, Full}
-use Rattle.utf_8.proofs.Splices.{splice-none, splice-long, splice-splice, splice-start, next-full, fits-not, went, stored-1}
+use Rattle.utf_8.proofs.Splices.{splice-none, splice-long, splice-splice, splice-start, next-full, went, stored-1}
 use Rattle.lines.specs.Puts.{after, Puts, Ended, Printed}
 
 -- ---- what fits, in two parts

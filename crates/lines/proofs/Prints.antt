@@ -2,13 +2,13 @@
 use mathlib.Core.Path.{_≡_, refl, sym, ap, _∙_}
 use mathlib.Core.Bool.{Bool, true, false, cond}
 use mathlib.Core.List.{List, [], _∷_, _++_}
-use Prim.Native.Nat.{ℕ, zero, suc, _+_, _-_, _*_, _≤_, _<_}
+use Prim.Native.Nat.{ℕ, suc, _+_, _-_, _*_, _≤_, _<_}
 use native.Mathlib.Omega.{arith}
 use lib.ListN.{length, drop}
 use lib.Dec.{leb}
 use borrow.Author.Tests.{ne-eqb}
 use Rattle.utf_8.specs.declared.Put.{Put}
-use Rattle.utf_8.specs.declared.Put.the-variants.{Next, Full}
+use Rattle.utf_8.specs.declared.Put.the-variants.{Next}
 use Rattle.typebook.specs.Book.{nameOf}
 use Rattle.windows_1252.specs.Text.{decimal}
 use Rattle.tape.specs.declared.record.Record.{Record}
@@ -19,7 +19,7 @@ use Rattle.tape.specs.Record.{recordOf, stepAt}
 use Rattle.tape.specs.Text.{recordText}
 use Rattle.lines.specs.Puts.{Puts, Ended, Printed}
 use Rattle.lines.specs.Lines.{signed, hex, hexText, countedLine, namedLine, sizedStart, intLine, natLine, realLine, textLine, numberLine, endLine, lineOf, before, recordsAt, linesOf, headLine, walkLines, refusedLine}
-use Rattle.lines.proofs.Joins.{chain, chain-3, puts-as, puts-none, Rest, rest-all, rest-next, rest-end, printed}
+use Rattle.lines.proofs.Joins.{chain, chain-3, puts-none, Rest, rest-next, rest-end, printed}
 
 -- ---- the forms
 
@@ -48,25 +48,19 @@ module _ {out out₁ out₂ out₃ : List ℕ} {p q r s : Put} where
   unfolding realLine
   real-put word k n a b c = chain-3 a b c
 
-  text-some : (text : List ℕ) → (length text ≡ 0 → ⊥) → Puts (0x74 ∷ 0x65 ∷ 0x78 ∷ 0x74 ∷ 0x20 ∷ []) out p q out₁ → Puts (hexText text) out₁ q r out₂ → Puts (0x0a ∷ []) out₂ r s out₃ → Puts (textLine text) out p s out₃
-  unfolding textLine
-  text-some [] h a b c = absurd (h refl)
-  text-some (x ∷ xs) h a b c = chain-3 a b c
-
   pub text-put : (text : List ℕ) → (length text ≡ 0 → ⊥) → Puts (0x74 ∷ 0x65 ∷ 0x78 ∷ 0x74 ∷ 0x20 ∷ []) out p q out₁ → Puts (hexText text) out₁ q r out₂ → Puts (0x0a ∷ []) out₂ r s out₃ → Puts (textLine text) out p s out₃
-  text-put text h a b c = text-some text h a b c
+  unfolding textLine
+  text-put [] h a b c = absurd (h refl)
+  text-put (x ∷ xs) h a b c = chain-3 a b c
 
   pub head-put : (book : List ℕ) (n memory : ℕ) (name : List ℕ) → name ≡ nameOf book n → Puts (0x77 ∷ 0x61 ∷ 0x6c ∷ 0x6b ∷ 0x20 ∷ []) out p q out₁ → Puts name out₁ q r out₂ → Puts (countedLine (0x20 ∷ []) memory) out₂ r s out₃ → Puts (headLine book n memory) out p s out₃
   unfolding headLine
   head-put book n memory name e a b c = rw (← e) (chain-3 a b c)
 
-text-empty : (text : List ℕ) {out out′ : List ℕ} {p r : Put} → length text ≡ 0 → Puts (0x74 ∷ 0x65 ∷ 0x78 ∷ 0x74 ∷ 0x0a ∷ []) out p r out′ → Puts (textLine text) out p r out′
-unfolding textLine
-text-empty [] e a = a
-text-empty (x ∷ xs) e a = absurd (omega arith)
-
 pub text-alone : (text : List ℕ) {out out′ : List ℕ} {p r : Put} → length text ≡ 0 → Puts (0x74 ∷ 0x65 ∷ 0x78 ∷ 0x74 ∷ 0x0a ∷ []) out p r out′ → Puts (textLine text) out p r out′
-text-alone text e a = text-empty text e a
+unfolding textLine
+text-alone [] e a = a
+text-alone (x ∷ xs) e a = absurd (omega arith)
 
 -- ---- the line of a record, kind by kind
 
