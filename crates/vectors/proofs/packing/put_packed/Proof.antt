@@ -1,23 +1,23 @@
--- `vectors::books::unpack` is safe and ends. The measure is what is left of the packed bytes: the loop leaves where a step takes none.
+-- `vectors::packing::put_packed` is safe and ends. The measure is what is left of the bytes: the loop leaves where a step takes none.
 -- Assumes nothing.
 use Prim.Native.Nat.{_-_}
 use mathlib.Core.Path.{_≡_}
 use lib.ListN.{length}
 use borrow.Author.Needs.{needs}
-use Rattle.vectors.proofs.books.unpack.Statement.{statement}
-use Rattle.vectors.proofs.books.unpack.Tie as tie
+use Rattle.vectors.proofs.packing.put_packed.Statement.{statement}
+use Rattle.vectors.proofs.packing.put_packed.Tie as tie
 
 abbrev Inv-loop : tie.InvT-loop
-Inv-loop packed book₀ start at₀ to₀ book at to = length book ≡ length book₀
+Inv-loop answer₀ start bytes at₀ to₀ answer at to = length answer ≡ length answer₀
 
 abbrev μ-loop : tie.MeasureT-loop
-μ-loop packed book₀ start at₀ to₀ book at to = length packed - at
+μ-loop answer₀ start bytes at₀ to₀ answer at to = length bytes - at
 
 loop-holds : tie.Need-loop-holds Inv-loop μ-loop
 loop-holds c = search needs
 
-unpack-one-requires : tie.Need-unpack-one-requires Inv-loop μ-loop
-unpack-one-requires c κs = search needs
+pack-one-requires : tie.Need-pack-one-requires Inv-loop μ-loop
+pack-one-requires c κs = search needs
 
 same-length : tie.Need-same-length Inv-loop μ-loop
 same-length c = search needs
@@ -37,14 +37,14 @@ same-length-2 c = search needs
 returns-2 : tie.Need-returns-2 Inv-loop μ-loop
 returns-2 c = search needs
 
-pub unpack-spec : {M : Type 1} → statement M
-unpack-spec =
+pub put-packed-spec : {M : Type 1} → statement M
+put-packed-spec =
     tie.close
     (tie.spec
     Inv-loop
     μ-loop
     loop-holds
-    unpack-one-requires
+    pack-one-requires
     same-length
     returns
     loop-less

@@ -1,10 +1,10 @@
--- `vectors::books::sum_of` is safe and ends. The invariant: the sum is below 2^32.
+-- `vectors::sums::sum_of` is safe and ends. The invariant: the sum is below 2^32.
 -- Assumes nothing.
 use Prim.Native.Nat.{_≤_, _<_, _-_}
 use lib.ListN.{length}
 use borrow.Author.Needs.{needs}
-use Rattle.vectors.proofs.books.sum_of.Statement.{statement}
-use Rattle.vectors.proofs.books.sum_of.Tie as tie
+use Rattle.vectors.proofs.sums.sum_of.Statement.{statement}
+use Rattle.vectors.proofs.sums.sum_of.Tie as tie
 
 abbrev Inv-loop : tie.InvT-loop
 Inv-loop part sum₀ i₀ sum i = (i ≤ length part) × (sum < 4294967296)
