@@ -80,7 +80,10 @@ fn category_number(category: AdsTypeCategory) -> u64
 pub extern "C" fn gateway_determine(book: &[u8], width: u8, block: u32, values: &mut [u64]) -> u8
     ensures { λ r. ⌜ Gives 0 (categoryNumber (categoryOf (now (book .entry)) width block) ∷ []) (now (values .entry)) r (now (values .exit)) ⌝ }
 {
-    lay_1(values, category_number(AdsTypeCategory::determine(book, width, block)));
+    lay_1(
+        values,
+        category_number(AdsTypeCategory::determine(book, width, block)),
+    );
     0
 }
 
@@ -98,7 +101,12 @@ fn give_appended(answer: Appended, values: &mut [u64]) -> u8
 
 // Appends one whole type to the book in the first `len` bytes of the buffer: the new length.
 #[no_mangle]
-pub extern "C" fn gateway_append(buffer: &mut [u8], len: usize, piece: &[u8], values: &mut [u64]) -> u8
+pub extern "C" fn gateway_append(
+    buffer: &mut [u8],
+    len: usize,
+    piece: &[u8],
+    values: &mut [u64],
+) -> u8
     ensures { λ r. ⌜ AppendAs (now (buffer .entry)) len (now (piece .entry)) (now (values .entry)) r (now (buffer .exit)) (now (values .exit)) ⌝ }
 {
     give_appended(type_cache::append(buffer, len, piece), values)

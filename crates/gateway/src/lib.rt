@@ -8,11 +8,13 @@ ghost use Rattle.typebook.specs.Find.{find as findIn, IndexOf};
 ghost use Rattle.utf_8.specs.Utf8.{wellFormed};
 ghost use Rattle.book_check.specs.Check.{checkBook, bookRefusal};
 ghost use Rattle.gateway.specs.Numbers.{placeNumber, foundNumber, truthNumber, WroteAs, FoundAs};
+
 pub mod book;
 pub mod read;
 pub mod resolve;
 pub mod values;
 pub mod walk;
+
 use book_check::BookCheck;
 use typebook::type_provider::Found;
 use utf_8::Put;

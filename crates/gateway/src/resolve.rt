@@ -31,7 +31,13 @@ fn give_resolution(answer: Resolution, values: &mut [u64]) -> u8
 
 // The block that the root comes to with its aliases resolved.
 #[no_mangle]
-pub extern "C" fn gateway_resolve_alias(buffer: &[u8], len: usize, width: u8, root: u64, values: &mut [u64]) -> u8
+pub extern "C" fn gateway_resolve_alias(
+    buffer: &[u8],
+    len: usize,
+    width: u8,
+    root: u64,
+    values: &mut [u64],
+) -> u8
     ensures { λ r. ⌜ ResolutionAs (rootAlias (now (buffer .entry)) len width root) (now (values .entry)) r (now (values .exit)) ⌝ }
 {
     give_resolution(resolvers::resolve_alias(buffer, len, width, root), values)
@@ -39,10 +45,19 @@ pub extern "C" fn gateway_resolve_alias(buffer: &[u8], len: usize, width: u8, ro
 
 // The block that the root comes to with its aliases and references resolved.
 #[no_mangle]
-pub extern "C" fn gateway_resolve_indirection(buffer: &[u8], len: usize, width: u8, root: u64, values: &mut [u64]) -> u8
+pub extern "C" fn gateway_resolve_indirection(
+    buffer: &[u8],
+    len: usize,
+    width: u8,
+    root: u64,
+    values: &mut [u64],
+) -> u8
     ensures { λ r. ⌜ ResolutionAs (rootIndirection (now (buffer .entry)) len width root) (now (values .entry)) r (now (values .exit)) ⌝ }
 {
-    give_resolution(resolvers::resolve_indirection(buffer, len, width, root), values)
+    give_resolution(
+        resolvers::resolve_indirection(buffer, len, width, root),
+        values,
+    )
 }
 
 fn give_resolved(answer: Resolved, values: &mut [u64]) -> u8
@@ -62,19 +77,37 @@ fn give_resolved(answer: Resolved, values: &mut [u64]) -> u8
 }
 
 #[no_mangle]
-pub extern "C" fn gateway_resolve_alias_in(book: &[u8], index: &[u32], width: u8, root: u32, values: &mut [u64]) -> u8
+pub extern "C" fn gateway_resolve_alias_in(
+    book: &[u8],
+    index: &[u32],
+    width: u8,
+    root: u32,
+    values: &mut [u64],
+) -> u8
     requires { ⌜ ValidBook (now book) × (isType (now book) root ≡ true) ⌝ }
     ensures { λ r. ⌜ ResolvedAs (now (book .entry)) (resolveAlias (now (book .entry)) width root) (now (values .entry)) r (now (values .exit)) ⌝ }
 {
-    give_resolved(resolvers::resolve_alias_in(book, index, width, root), values)
+    give_resolved(
+        resolvers::resolve_alias_in(book, index, width, root),
+        values,
+    )
 }
 
 #[no_mangle]
-pub extern "C" fn gateway_resolve_indirection_in(book: &[u8], index: &[u32], width: u8, root: u32, values: &mut [u64]) -> u8
+pub extern "C" fn gateway_resolve_indirection_in(
+    book: &[u8],
+    index: &[u32],
+    width: u8,
+    root: u32,
+    values: &mut [u64],
+) -> u8
     requires { ⌜ ValidBook (now book) × (isType (now book) root ≡ true) ⌝ }
     ensures { λ r. ⌜ ResolvedAs (now (book .entry)) (resolveIndirection (now (book .entry)) width root) (now (values .entry)) r (now (values .exit)) ⌝ }
 {
-    give_resolved(resolvers::resolve_indirection_in(book, index, width, root), values)
+    give_resolved(
+        resolvers::resolve_indirection_in(book, index, width, root),
+        values,
+    )
 }
 
 fn give_fields(answer: FieldsAnswer, values: &mut [u64]) -> u8
@@ -95,8 +128,18 @@ fn give_fields(answer: FieldsAnswer, values: &mut [u64]) -> u8
 
 // The records of the root's fields, and how many fields there are.
 #[no_mangle]
-pub extern "C" fn gateway_resolve_fields(buffer: &[u8], len: usize, width: u8, root: u64, records: &mut [u32], values: &mut [u64]) -> u8
+pub extern "C" fn gateway_resolve_fields(
+    buffer: &[u8],
+    len: usize,
+    width: u8,
+    root: u64,
+    records: &mut [u32],
+    values: &mut [u64],
+) -> u8
     ensures { λ r. ⌜ FieldsAs (rootFields (now (buffer .entry)) len width root (length (now (records .entry)))) (rootRecords (now (buffer .entry)) len width root) (now (records .entry)) (now (values .entry)) r (now (records .exit)) (now (values .exit)) ⌝ }
 {
-    give_fields(resolvers::resolve_fields(buffer, len, width, root, records), values)
+    give_fields(
+        resolvers::resolve_fields(buffer, len, width, root, records),
+        values,
+    )
 }

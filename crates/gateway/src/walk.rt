@@ -13,6 +13,7 @@ use walks::Rmw;
 
 // The numbers that a walk needs of the scratch, and of the list.
 const SCRATCH: usize = 16384;
+
 const LIST: usize = 4096;
 
 fn give_rmw(answer: Rmw, values: &mut [u64]) -> u8
@@ -37,10 +38,20 @@ fn give_rmw(answer: Rmw, values: &mut [u64]) -> u8
 
 // 1 where a value's memory must be read before it is written, else 0.
 #[no_mangle]
-pub extern "C" fn gateway_requires_read_modify_write(buffer: &[u8], len: usize, width: u8, root: u64, scratch: &mut [u32], values: &mut [u64]) -> u8
+pub extern "C" fn gateway_requires_read_modify_write(
+    buffer: &[u8],
+    len: usize,
+    width: u8,
+    root: u64,
+    scratch: &mut [u32],
+    values: &mut [u64],
+) -> u8
     ensures { λ r. ⌜ RmwAs (now (buffer .entry)) len width root (now (scratch .entry)) (now (values .entry)) r (now (scratch .exit)) (now (values .exit)) ⌝ }
 {
-    give_rmw(walks::requires_read_modify_write(buffer, len, width, root, scratch), values)
+    give_rmw(
+        walks::requires_read_modify_write(buffer, len, width, root, scratch),
+        values,
+    )
 }
 
 // 6 for a short scratch, then the walk.
@@ -55,7 +66,14 @@ fn rmw_in(book: &[u8], index: &[u32], width: u8, root: u32, scratch: &mut [u32])
 }
 
 #[no_mangle]
-pub extern "C" fn gateway_requires_read_modify_write_in(book: &[u8], index: &[u32], width: u8, root: u32, scratch: &mut [u32], values: &mut [u64]) -> u8
+pub extern "C" fn gateway_requires_read_modify_write_in(
+    book: &[u8],
+    index: &[u32],
+    width: u8,
+    root: u32,
+    scratch: &mut [u32],
+    values: &mut [u64],
+) -> u8
     requires { ⌜ ValidBook (now book) × (isType (now book) root ≡ true) ⌝ }
     ensures { λ r. ⌜ RmwInAs (scratchFits (now (scratch .entry))) (now (book .entry)) width root (now (scratch .entry)) (now (values .entry)) r (now (scratch .exit)) (now (values .exit)) ⌝ }
 {
@@ -76,14 +94,32 @@ fn give_missing(answer: Missing, values: &mut [u64]) -> u8
 
 // How many blocks are listed, 1 where the walk is whole, else 0, and how many names were met.
 #[no_mangle]
-pub extern "C" fn gateway_missing_types(buffer: &[u8], len: usize, width: u8, root: u64, scratch: &mut [u32], list: &mut [u32], values: &mut [u64]) -> u8
+pub extern "C" fn gateway_missing_types(
+    buffer: &[u8],
+    len: usize,
+    width: u8,
+    root: u64,
+    scratch: &mut [u32],
+    list: &mut [u32],
+    values: &mut [u64],
+) -> u8
     ensures { λ r. ⌜ MissingAs (now (buffer .entry)) len width root (now (scratch .entry)) (now (list .entry)) (now (values .entry)) r (now (scratch .exit)) (now (list .exit)) (now (values .exit)) ⌝ }
 {
-    give_missing(walks::missing_types(buffer, len, width, root, scratch, list), values)
+    give_missing(
+        walks::missing_types(buffer, len, width, root, scratch, list),
+        values,
+    )
 }
 
 // 6 for a short scratch or a short list, then the walk.
-fn missing_in(book: &[u8], index: &[u32], width: u8, root: u32, scratch: &mut [u32], list: &mut [u32]) -> Missing
+fn missing_in(
+    book: &[u8],
+    index: &[u32],
+    width: u8,
+    root: u32,
+    scratch: &mut [u32],
+    list: &mut [u32],
+) -> Missing
     requires { ⌜ ValidBook (now book) × (isType (now book) root ≡ true) ⌝ }
     ensures { λ r. ⌜ MissingIn (scratchFits (now (scratch .entry)) && listFits (now (list .entry))) (now (book .entry)) width root (now (scratch .entry)) (now (list .entry)) r (now (scratch .exit)) (now (list .exit)) ⌝ }
 {
@@ -97,7 +133,15 @@ fn missing_in(book: &[u8], index: &[u32], width: u8, root: u32, scratch: &mut [u
 }
 
 #[no_mangle]
-pub extern "C" fn gateway_missing_types_in(book: &[u8], index: &[u32], width: u8, root: u32, scratch: &mut [u32], list: &mut [u32], values: &mut [u64]) -> u8
+pub extern "C" fn gateway_missing_types_in(
+    book: &[u8],
+    index: &[u32],
+    width: u8,
+    root: u32,
+    scratch: &mut [u32],
+    list: &mut [u32],
+    values: &mut [u64],
+) -> u8
     requires { ⌜ ValidBook (now book) × (isType (now book) root ≡ true) ⌝ }
     ensures { λ r. ⌜ MissingInAs (scratchFits (now (scratch .entry)) && listFits (now (list .entry))) (now (book .entry)) width root (now (scratch .entry)) (now (list .entry)) (now (values .entry)) r (now (scratch .exit)) (now (list .exit)) (now (values .exit)) ⌝ }
 {

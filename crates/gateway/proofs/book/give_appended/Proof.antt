@@ -1,0 +1,30 @@
+use Rattle.gateway.proofs.Answers.{appended-done, appended-refused}
+use borrow.Author.Needs.{needs}
+use Rattle.gateway.proofs.book.give_appended.Statement.{statement}
+use Rattle.gateway.proofs.book.give_appended.Tie as tie
+use Rattle.gateway.proofs.book.give_appended.Reads as reads
+use Rattle.gateway.proofs.book.give_appended.Lts as lts
+use Rattle.gateway.proofs.values.lay_1.Reads as lay-1-reads
+
+enum-known-answer : tie.Need-enum-known-answer
+enum-known-answer c = search needs
+
+lay-1-requires : tie.Need-lay-1-requires
+lay-1-requires c κs = search needs
+
+enum-known-answer-2 : tie.Need-enum-known-answer-2
+enum-known-answer-2 c = search needs
+
+same-length : tie.Need-same-length
+same-length c = search needs
+
+returns : tie.Need-returns
+returns c = search appended-done
+
+returns-2 : tie.Need-returns-2
+returns-2 c = search appended-refused
+
+pub give-appended-spec : {M : Type 1} → statement M
+give-appended-spec =
+    tie.close
+    (tie.spec enum-known-answer lay-1-requires enum-known-answer-2 same-length returns returns-2)
