@@ -1,5 +1,4 @@
 -- Laws that the functions' proofs cite.
 mod Numbers
-mod Lays
-mod Answers
+mod Parts
 mod Shorts

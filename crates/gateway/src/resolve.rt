@@ -4,30 +4,13 @@ ghost use mathlib.Core.Bool.{true};
 ghost use lib.ListN.{length};
 ghost use Rattle.typebook.specs.Book.{isType};
 ghost use Rattle.book_check.specs.Check.{ValidBook};
-ghost use Rattle.resolvers.specs.Resolve.{resolvedRefusal, resolveAlias, resolveIndirection};
-ghost use Rattle.resolvers.specs.Calls.{fieldsRefusal, rootAlias, rootIndirection, rootFields, rootRecords};
-ghost use Rattle.gateway.specs.Values.{Gives};
-ghost use Rattle.gateway.specs.Answers.{resolvedValues, fieldsValues, ResolvedAs, ResolutionAs, FieldsAs};
-use crate::values::lay_1;
-use resolvers::FieldsAnswer;
-use resolvers::Resolution;
-use resolvers::Resolved;
-
-fn give_resolution(answer: Resolution, values: &mut [u64]) -> u8
-    ensures { λ r. ⌜ ResolutionAs answer (now (values .entry)) r (now (values .exit)) ⌝ }
-{
-    match answer {
-        Resolution::Block(b) => {
-            lay_1(values, b as u64);
-            0
-        }
-        Resolution::NotFound(b) => {
-            lay_1(values, b as u64);
-            7
-        }
-        Resolution::Refused(n) => n,
-    }
-}
+ghost use Rattle.resolvers.specs.Resolve.{resolveAlias, resolveIndirection};
+ghost use Rattle.resolvers.specs.Calls.{rootAlias, rootIndirection, rootFields, rootRecords};
+ghost use Rattle.answers.specs.Values.{ResolutionAs};
+ghost use Rattle.gateway.specs.Calls.{ChainGiven, FieldsGiven};
+use answers::values::give_fields;
+use answers::values::give_resolution;
+use answers::values::give_resolved;
 
 // The block that the root comes to with its aliases resolved.
 #[no_mangle]
@@ -60,22 +43,6 @@ pub extern "C" fn gateway_resolve_indirection(
     )
 }
 
-fn give_resolved(answer: Resolved, values: &mut [u64]) -> u8
-    ensures { λ r. ⌜ Gives (resolvedRefusal answer) (resolvedValues answer) (now (values .entry)) r (now (values .exit)) ⌝ }
-{
-    match answer {
-        Resolved::Base(b) => {
-            lay_1(values, b as u64);
-            0
-        }
-        Resolved::Lacks(b) => {
-            lay_1(values, b as u64);
-            7
-        }
-        Resolved::Endless => 8,
-    }
-}
-
 #[no_mangle]
 pub extern "C" fn gateway_resolve_alias_in(
     book: &[u8],
@@ -85,7 +52,7 @@ pub extern "C" fn gateway_resolve_alias_in(
     values: &mut [u64],
 ) -> u8
     requires { ⌜ ValidBook (now book) × (isType (now book) root ≡ true) ⌝ }
-    ensures { λ r. ⌜ ResolvedAs (now (book .entry)) (resolveAlias (now (book .entry)) width root) (now (values .entry)) r (now (values .exit)) ⌝ }
+    ensures { λ r. ⌜ ChainGiven (now (book .entry)) (resolveAlias (now (book .entry)) width root) (now (values .entry)) r (now (values .exit)) ⌝ }
 {
     give_resolved(
         resolvers::resolve_alias_in(book, index, width, root),
@@ -102,28 +69,12 @@ pub extern "C" fn gateway_resolve_indirection_in(
     values: &mut [u64],
 ) -> u8
     requires { ⌜ ValidBook (now book) × (isType (now book) root ≡ true) ⌝ }
-    ensures { λ r. ⌜ ResolvedAs (now (book .entry)) (resolveIndirection (now (book .entry)) width root) (now (values .entry)) r (now (values .exit)) ⌝ }
+    ensures { λ r. ⌜ ChainGiven (now (book .entry)) (resolveIndirection (now (book .entry)) width root) (now (values .entry)) r (now (values .exit)) ⌝ }
 {
     give_resolved(
         resolvers::resolve_indirection_in(book, index, width, root),
         values,
     )
-}
-
-fn give_fields(answer: FieldsAnswer, values: &mut [u64]) -> u8
-    ensures { λ r. ⌜ Gives (fieldsRefusal answer) (fieldsValues answer) (now (values .entry)) r (now (values .exit)) ⌝ }
-{
-    match answer {
-        FieldsAnswer::Done(n) => {
-            lay_1(values, n as u64);
-            0
-        }
-        FieldsAnswer::NotFound(b) => {
-            lay_1(values, b as u64);
-            7
-        }
-        FieldsAnswer::Refused(n) => n,
-    }
 }
 
 // The records of the root's fields, and how many fields there are.
@@ -136,7 +87,7 @@ pub extern "C" fn gateway_resolve_fields(
     records: &mut [u32],
     values: &mut [u64],
 ) -> u8
-    ensures { λ r. ⌜ FieldsAs (rootFields (now (buffer .entry)) len width root (length (now (records .entry)))) (rootRecords (now (buffer .entry)) len width root) (now (records .entry)) (now (values .entry)) r (now (records .exit)) (now (values .exit)) ⌝ }
+    ensures { λ r. ⌜ FieldsGiven (rootFields (now (buffer .entry)) len width root (length (now (records .entry)))) (rootRecords (now (buffer .entry)) len width root) (now (records .entry)) (now (values .entry)) r (now (records .exit)) (now (values .exit)) ⌝ }
 {
     give_fields(
         resolvers::resolve_fields(buffer, len, width, root, records),

@@ -3,11 +3,10 @@ ghost use mathlib.Core.Path.{_≡_};
 ghost use mathlib.Core.Bool.{true, _&&_};
 ghost use Rattle.typebook.specs.Book.{isType};
 ghost use Rattle.book_check.specs.Check.{ValidBook};
-ghost use Rattle.walks.specs.Calls.{rmwRefusal, missingRefusal, scratchFits, listFits, RmwIn, MissingIn};
-ghost use Rattle.gateway.specs.Values.{Gives};
-ghost use Rattle.gateway.specs.Answers.{rmwValues, missingValues, RmwAs, RmwInAs, MissingAs, MissingInAs};
-use crate::values::lay_1;
-use crate::values::lay_3;
+ghost use Rattle.walks.specs.Calls.{scratchFits, listFits, RmwIn, MissingIn};
+ghost use Rattle.gateway.specs.Calls.{RmwGiven, RmwInGiven, MissingGiven, MissingInGiven};
+use answers::values::give_missing;
+use answers::values::give_rmw;
 use walks::Missing;
 use walks::Rmw;
 
@@ -15,26 +14,6 @@ use walks::Rmw;
 const SCRATCH: usize = 16384;
 
 const LIST: usize = 4096;
-
-fn give_rmw(answer: Rmw, values: &mut [u64]) -> u8
-    ensures { λ r. ⌜ Gives (rmwRefusal answer) (rmwValues answer) (now (values .entry)) r (now (values .exit)) ⌝ }
-{
-    match answer {
-        Rmw::Yes => {
-            lay_1(values, 1);
-            0
-        }
-        Rmw::No => {
-            lay_1(values, 0);
-            0
-        }
-        Rmw::NotFound(b) => {
-            lay_1(values, b as u64);
-            7
-        }
-        Rmw::Refused(n) => n,
-    }
-}
 
 // 1 where a value's memory must be read before it is written, else 0.
 #[no_mangle]
@@ -46,7 +25,7 @@ pub extern "C" fn gateway_requires_read_modify_write(
     scratch: &mut [u32],
     values: &mut [u64],
 ) -> u8
-    ensures { λ r. ⌜ RmwAs (now (buffer .entry)) len width root (now (scratch .entry)) (now (values .entry)) r (now (scratch .exit)) (now (values .exit)) ⌝ }
+    ensures { λ r. ⌜ RmwGiven (now (buffer .entry)) len width root (now (scratch .entry)) (now (values .entry)) r (now (scratch .exit)) (now (values .exit)) ⌝ }
 {
     give_rmw(
         walks::requires_read_modify_write(buffer, len, width, root, scratch),
@@ -75,21 +54,9 @@ pub extern "C" fn gateway_requires_read_modify_write_in(
     values: &mut [u64],
 ) -> u8
     requires { ⌜ ValidBook (now book) × (isType (now book) root ≡ true) ⌝ }
-    ensures { λ r. ⌜ RmwInAs (scratchFits (now (scratch .entry))) (now (book .entry)) width root (now (scratch .entry)) (now (values .entry)) r (now (scratch .exit)) (now (values .exit)) ⌝ }
+    ensures { λ r. ⌜ RmwInGiven (scratchFits (now (scratch .entry))) (now (book .entry)) width root (now (scratch .entry)) (now (values .entry)) r (now (scratch .exit)) (now (values .exit)) ⌝ }
 {
     give_rmw(rmw_in(book, index, width, root, scratch), values)
-}
-
-fn give_missing(answer: Missing, values: &mut [u64]) -> u8
-    ensures { λ r. ⌜ Gives (missingRefusal answer) (missingValues answer) (now (values .entry)) r (now (values .exit)) ⌝ }
-{
-    match answer {
-        Missing::Listed(n, whole, count) => {
-            lay_3(values, n as u64, crate::truth(whole) as u64, count as u64);
-            0
-        }
-        Missing::Refused(n) => n,
-    }
 }
 
 // How many blocks are listed, 1 where the walk is whole, else 0, and how many names were met.
@@ -103,7 +70,7 @@ pub extern "C" fn gateway_missing_types(
     list: &mut [u32],
     values: &mut [u64],
 ) -> u8
-    ensures { λ r. ⌜ MissingAs (now (buffer .entry)) len width root (now (scratch .entry)) (now (list .entry)) (now (values .entry)) r (now (scratch .exit)) (now (list .exit)) (now (values .exit)) ⌝ }
+    ensures { λ r. ⌜ MissingGiven (now (buffer .entry)) len width root (now (scratch .entry)) (now (list .entry)) (now (values .entry)) r (now (scratch .exit)) (now (list .exit)) (now (values .exit)) ⌝ }
 {
     give_missing(
         walks::missing_types(buffer, len, width, root, scratch, list),
@@ -143,7 +110,7 @@ pub extern "C" fn gateway_missing_types_in(
     values: &mut [u64],
 ) -> u8
     requires { ⌜ ValidBook (now book) × (isType (now book) root ≡ true) ⌝ }
-    ensures { λ r. ⌜ MissingInAs (scratchFits (now (scratch .entry)) && listFits (now (list .entry))) (now (book .entry)) width root (now (scratch .entry)) (now (list .entry)) (now (values .entry)) r (now (scratch .exit)) (now (list .exit)) (now (values .exit)) ⌝ }
+    ensures { λ r. ⌜ MissingInGiven (scratchFits (now (scratch .entry)) && listFits (now (list .entry))) (now (book .entry)) width root (now (scratch .entry)) (now (list .entry)) (now (values .entry)) r (now (scratch .exit)) (now (list .exit)) (now (values .exit)) ⌝ }
 {
     give_missing(missing_in(book, index, width, root, scratch, list), values)
 }

@@ -1,10 +1,7 @@
+-- `gateway_is_type` meets its contract. Assumes nothing.
 use borrow.Author.Needs.{needs}
 use Rattle.gateway.proofs.book.gateway_is_type.Statement.{statement}
 use Rattle.gateway.proofs.book.gateway_is_type.Tie as tie
-use Rattle.gateway.proofs.book.gateway_is_type.Reads as reads
-use Rattle.gateway.proofs.book.gateway_is_type.Lts as lts
-use Rattle.gateway.proofs.truth.Reads as truth-reads
-use Rattle.typebook.proofs.block.is_type.Reads as is-type-reads
 
 is-type-requires : tie.Need-is-type-requires
 is-type-requires c κs = search needs

@@ -1,12 +1,8 @@
-use Rattle.gateway.proofs.Lays.{part-given}
+-- `gateway_name` meets its contract. Assumes nothing.
+use Rattle.gateway.proofs.Parts.{part-given}
 use borrow.Author.Needs.{needs}
 use Rattle.gateway.proofs.book.gateway_name.Statement.{statement}
 use Rattle.gateway.proofs.book.gateway_name.Tie as tie
-use Rattle.gateway.proofs.book.gateway_name.Reads as reads
-use Rattle.gateway.proofs.book.gateway_name.Lts as lts
-use Rattle.gateway.proofs.book.place_of.Reads as place-of-reads
-use Rattle.gateway.proofs.values.lay_2.Reads as lay-2-reads
-use Rattle.typebook.proofs.block.name.Reads as name-reads
 
 name-requires : tie.Need-name-requires
 name-requires c κs = search needs
@@ -14,8 +10,8 @@ name-requires c κs = search needs
 place-of-requires : tie.Need-place-of-requires
 place-of-requires c κs = search needs
 
-lay-2-requires : tie.Need-lay-2-requires
-lay-2-requires c κs = search needs
+done-2-requires : tie.Need-done-2-requires
+done-2-requires c κs = search needs
 
 same-length : tie.Need-same-length
 same-length c = search needs
@@ -25,4 +21,4 @@ returns c = search part-given
 
 pub gateway-name-spec : {M : Type 1} → statement M
 gateway-name-spec =
-    tie.close (tie.spec name-requires place-of-requires lay-2-requires same-length returns)
+    tie.close (tie.spec name-requires place-of-requires done-2-requires same-length returns)

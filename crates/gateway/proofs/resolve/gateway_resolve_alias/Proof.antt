@@ -1,11 +1,8 @@
-use Rattle.gateway.proofs.Answers.{resolution-as}
+-- `gateway_resolve_alias` meets its contract. Assumes nothing.
+use Rattle.gateway.proofs.Parts.{resolution-given}
 use borrow.Author.Needs.{needs}
 use Rattle.gateway.proofs.resolve.gateway_resolve_alias.Statement.{statement}
 use Rattle.gateway.proofs.resolve.gateway_resolve_alias.Tie as tie
-use Rattle.gateway.proofs.resolve.gateway_resolve_alias.Reads as reads
-use Rattle.gateway.proofs.resolve.gateway_resolve_alias.Lts as lts
-use Rattle.gateway.proofs.resolve.give_resolution.Reads as give-resolution-reads
-use Rattle.resolvers.proofs.resolve_alias.Reads as resolve-alias-reads
 
 resolve-alias-requires : tie.Need-resolve-alias-requires
 resolve-alias-requires c κs = search needs
@@ -17,7 +14,7 @@ same-length : tie.Need-same-length
 same-length c = search needs
 
 returns : tie.Need-returns
-returns c = search resolution-as
+returns c = search resolution-given
 
 pub gateway-resolve-alias-spec : {M : Type 1} → statement M
 gateway-resolve-alias-spec =

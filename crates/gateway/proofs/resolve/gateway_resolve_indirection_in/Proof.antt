@@ -1,11 +1,8 @@
-use Rattle.gateway.proofs.Answers.{resolved-as}
+-- `gateway_resolve_indirection_in` meets its contract. Assumes nothing.
+use Rattle.gateway.proofs.Parts.{chain-given}
 use borrow.Author.Needs.{needs}
 use Rattle.gateway.proofs.resolve.gateway_resolve_indirection_in.Statement.{statement}
 use Rattle.gateway.proofs.resolve.gateway_resolve_indirection_in.Tie as tie
-use Rattle.gateway.proofs.resolve.gateway_resolve_indirection_in.Reads as reads
-use Rattle.gateway.proofs.resolve.gateway_resolve_indirection_in.Lts as lts
-use Rattle.gateway.proofs.resolve.give_resolved.Reads as give-resolved-reads
-use Rattle.resolvers.proofs.resolve_indirection_in.Reads as resolve-indirection-in-reads
 
 resolve-indirection-in-requires : tie.Need-resolve-indirection-in-requires
 resolve-indirection-in-requires c κs = search needs
@@ -17,7 +14,7 @@ same-length : tie.Need-same-length
 same-length c = search needs
 
 returns : tie.Need-returns
-returns c = search resolved-as
+returns c = search chain-given
 
 pub gateway-resolve-indirection-in-spec : {M : Type 1} → statement M
 gateway-resolve-indirection-in-spec =

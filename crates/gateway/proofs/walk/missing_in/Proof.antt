@@ -1,10 +1,8 @@
+-- `missing_in` meets its contract. Assumes nothing.
 use Rattle.gateway.proofs.Shorts.{missing-scratch, missing-list, missing-fits}
 use borrow.Author.Needs.{needs}
 use Rattle.gateway.proofs.walk.missing_in.Statement.{statement}
 use Rattle.gateway.proofs.walk.missing_in.Tie as tie
-use Rattle.gateway.proofs.walk.missing_in.Reads as reads
-use Rattle.gateway.proofs.walk.missing_in.Lts as lts
-use Rattle.walks.proofs.missing_types_in.Reads as missing-types-in-reads
 
 returns : tie.Need-returns
 returns c = search missing-scratch

@@ -1,10 +1,8 @@
+-- `rmw_in` meets its contract. Assumes nothing.
 use Rattle.gateway.proofs.Shorts.{rmw-scratch, rmw-fits}
 use borrow.Author.Needs.{needs}
 use Rattle.gateway.proofs.walk.rmw_in.Statement.{statement}
 use Rattle.gateway.proofs.walk.rmw_in.Tie as tie
-use Rattle.gateway.proofs.walk.rmw_in.Reads as reads
-use Rattle.gateway.proofs.walk.rmw_in.Lts as lts
-use Rattle.walks.proofs.requires_read_modify_write_in.Reads as requires-read-modify-write-in-reads
 
 returns : tie.Need-returns
 returns c = search rmw-scratch
