@@ -108,12 +108,10 @@ pub fn give_missing(answer: Missing, values: &mut [u64]) -> u8
     ensures { λ r. ⌜ MissingAs answer (now (values .entry)) r (now (values .exit)) ⌝ }
 {
     match answer {
-        Missing::Listed(n, whole, count) => done_3(
-            values,
-            n as u64,
-            truth(whole) as u64,
-            count as u64,
-        ),
+        Missing::Listed(n, whole, count) => {
+            let mark = truth(whole) as u64;
+            done_3(values, n as u64, mark, count as u64)
+        }
         Missing::Refused(n) => n,
     }
 }

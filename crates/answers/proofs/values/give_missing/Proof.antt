@@ -10,8 +10,8 @@ enum-known-answer c = search needs
 truth-requires : tie.Need-truth-requires
 truth-requires c κs = search needs
 
-cast-done-3 : tie.Need-cast-done-3
-cast-done-3 c = search needs
+cast-mark : tie.Need-cast-mark
+cast-mark c = search needs
 
 done-3-requires : tie.Need-done-3-requires
 done-3-requires c κs = search needs
@@ -34,7 +34,7 @@ give-missing-spec =
     (tie.spec
     enum-known-answer
     truth-requires
-    cast-done-3
+    cast-mark
     done-3-requires
     enum-known-answer-2
     same-length
