@@ -36,20 +36,23 @@
 extern "C" {
 #endif
 
-/* ---- texts: UTF-8 on one side, the controller's bytes on the other */
+/* ---- texts: UTF-8 on one side, the controller's bytes on the other (WHATWG Encoding Standard) */
 
-/* Decodes Windows-1252 bytes to UTF-8, into `out` from byte `at` on. Returns the place after the text; `out` then holds the text there,
- * the rest as before. Returns 2^64 - 1 where the text does not fit; `out` is then as before. An empty text fits at any place. */
+/* Decodes Windows-1252 bytes to UTF-8, into `out` from byte `at` on: all the bytes, zeros too. Returns the place after the text; `out`
+ * then holds the text there, the rest as before. Returns 2^64 - 1 where the text does not fit; `out` is then as before. An empty text
+ * fits at any place. */
 uint64_t gateway_windows_1252_decode(const uint8_t *bytes, size_t bytes_len, uint8_t *out, size_t out_len, size_t at);
 
-/* Encodes UTF-8 to Windows-1252, into `out` from its start on. Returns the number of bytes; `out` then starts with them, the rest as
- * before. Returns 2^64 - 1 where they do not fit; `out` is then as before. */
+/* Encodes UTF-8 to Windows-1252, into `out` from its start on; a character that has no byte becomes a reference, as &#8734; and what is
+ * not UTF-8 counts as U+FFFD. Returns the number of bytes; `out` then starts with them, the rest as before. Returns 2^64 - 1 where they
+ * do not fit; `out` is then as before. */
 uint64_t gateway_windows_1252_encode(const uint8_t *text, size_t text_len, uint8_t *out, size_t out_len);
 
-/* Decodes UTF-16 (little endian) to UTF-8; otherwise as gateway_windows_1252_decode. */
+/* Decodes UTF-16, low byte first, to UTF-8; an unpaired surrogate or an odd byte gives U+FFFD, and no byte order mark is looked for.
+ * Otherwise as gateway_windows_1252_decode. */
 uint64_t gateway_utf_16_decode(const uint8_t *bytes, size_t bytes_len, uint8_t *out, size_t out_len, size_t at);
 
-/* Encodes UTF-8 to UTF-16 (little endian); otherwise as gateway_windows_1252_encode. */
+/* Encodes UTF-8 to UTF-16, low byte first; what is not UTF-8 counts as U+FFFD. Otherwise as gateway_windows_1252_encode. */
 uint64_t gateway_utf_16_encode(const uint8_t *text, size_t text_len, uint8_t *out, size_t out_len);
 
 /* Returns 1 where the text is well-formed UTF-8, else 0. */
