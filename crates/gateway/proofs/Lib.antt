@@ -1,4 +1,5 @@
--- Laws that the functions' proofs cite.
+-- Laws that the functions' proofs cite, and those that a caller leans on.
 mod Numbers
 mod Parts
 mod Shorts
+pub mod Boundary
