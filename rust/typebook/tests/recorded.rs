@@ -51,8 +51,9 @@ struct Kept {
 
 impl Kept {
     fn new() -> Self {
+        // As large as a book may be.
         Self {
-            buffer: vec![0; 4_608 * 512],
+            buffer: vec![0; 65_536 * 512],
             len: 0,
         }
     }
