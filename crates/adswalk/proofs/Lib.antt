@@ -1,3 +1,5 @@
+pub mod Limits
 pub mod Emits
 pub mod Parses
+pub mod Fits
 pub mod Exits

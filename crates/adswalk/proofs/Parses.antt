@@ -72,7 +72,7 @@ records-are tape at from (text xs ∷ es) rest h =
     rw (step-held tape at 11 0 from (length xs) (tapeBytes (from + length xs) es ++ rest) g)
     (ap (λ (l : List Record). held 11 0 from (length xs) ∷ l) (records-are tape (at + 24) (from + length xs) es rest (rest-held tape at 11 0 from (length xs) (tapeBytes (from + length xs) es ++ rest) g)))
 
-tape-long : (from : ℕ) (es : List Event) → length (tapeBytes from es) ≡ 24 * length es
+pub tape-long : (from : ℕ) (es : List Event) → length (tapeBytes from es) ≡ 24 * length es
 unfolding tapeBytes
 tape-long from [] = refl
 tape-long from (rec k w a b ∷ es) =
@@ -106,7 +106,7 @@ lines-are : (book txt : List ℕ) (from : ℕ) (es : List Event) (rest : List �
     → length txt < 18446744073709551616 → linesOf book txt (recordsOf from es) ≡ eventLines book es
 unfolding linesOf recordsOf eventLine eventLines textBytes
 lines-are book txt from [] rest p h l m = refl
-lines-are book txt from (rec k w a b ∷ es) rest (record-more e p) h l m = rw (plain-line book txt k w a b e, lines-are book txt from es rest p h l m)
+lines-are book txt from (rec k w a b ∷ es) rest (record-more e n p) h l m = rw (plain-line book txt k w a b e, lines-are book txt from es rest p h l m)
 lines-are book txt from (text xs ∷ es) rest (text-more p) h l m =
     let g = h ∙ append-assoc xs (textBytes es) rest in
     let k : from + length xs + length (textBytes es) ≤ length txt = omega (arith, length-append xs (textBytes es)) in
@@ -115,12 +115,12 @@ lines-are book txt from (text xs ∷ es) rest (text-more p) h l m =
 
 -- ---- the whole read
 
-fits-room : (xs : List ℕ) (room : ℕ) → fitsIn xs 0 room ≡ true → length xs ≤ room
+pub fits-room : (xs : List ℕ) (room : ℕ) → fitsIn xs 0 room ≡ true → length xs ≤ room
 unfolding fitsIn
 fits-room [] room h = omega arith
 fits-room (x ∷ xs) room h = omega (arith, leb-true (0 + length (x ∷ xs)) room h)
 
-and-right : (a b : Bool) → a && b ≡ true → b ≡ true
+pub and-right : (a b : Bool) → a && b ≡ true → b ≡ true
 and-right true b h = h
 and-right false b h = absurd (let z : _≡_ {A = ℕ} 0 1 = cc in omega arith)
 

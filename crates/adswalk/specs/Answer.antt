@@ -1,8 +1,9 @@
 -- What the program prints of a book and a memory, with root 0 and pointers of 8 bytes (document 01, "Program `adswalk`"). Assumes nothing.
+use mathlib.Core.Path.{_≡_}
 use mathlib.Core.Bool.{cond}
 use mathlib.Core.List.{List, [], _∷_, _++_}
-use Prim.Native.Nat.{ℕ, _%_}
-use lib.ListN.{length}
+use Prim.Native.Nat.{ℕ, _%_, _≤_}
+use lib.ListN.{length, take, drop}
 use lib.Dec.{ltb}
 use Rattle.book_check.specs.Check.{checkRoot}
 use Rattle.book_check.specs.declared.RootCheck.{RootCheck}
@@ -49,7 +50,14 @@ checkedLines (root.Refused k) book mem tapeRoom textRoom = refusedLine k
 unfoldable pub printed : List ℕ → List ℕ → ℕ → ℕ → List ℕ
 printed book mem tapeRoom textRoom = cond (ltb 65536 (length book)) (refusedLine 1) (checkedLines (checkRoot book (length book) 0) book mem tapeRoom textRoom)
 
--- ---- what a private function promises
+-- ---- what the functions promise
+
+-- the lines stand at the start of a buffer that else is as it was, and r is the number of their bytes; `room` and `cut` follow from that
+pub record Shown (lines out : List ℕ) (r : ℕ) (out′ : List ℕ) : Type 0 where
+  pub count : r ≡ length lines
+  pub buffer : out′ ≡ lines ++ drop (length lines) out
+  pub room : r ≤ length out′
+  pub cut : r ≡ length (take r out′)
 
 -- the lines of a read's answer, and of the tape and text that it left
 unfoldable pub linesBy : ReadAnswer → List ℕ → ℕ → List ℕ → List ℕ → List ℕ

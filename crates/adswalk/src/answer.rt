@@ -1,7 +1,8 @@
 // What the program prints of a book and a memory: root 0, pointers of 8 bytes.
+ghost use Prim.Native.Nat.{_≤_};
 ghost use lib.ListN.{length};
 ghost use Rattle.lines.specs.Puts.{Printed};
-ghost use Rattle.adswalk.specs.Answer.{linesBy, walked, printed};
+ghost use Rattle.adswalk.specs.Answer.{linesBy, walked, printed, Shown};
 use book_check::RootCheck;
 use de::deserializer::ReadAnswer;
 use lines::refused_line;
@@ -43,8 +44,8 @@ fn walk<'a>(
     lines_of(read, book, memory.len(), tape, text, out)
 }
 
-// The printed lines, from the start of `out` on. A book that is too long is 1, before anything.
-pub(crate) fn answer<'a>(
+// All the lines. A book that is too long is 1, before anything.
+fn put_all<'a>(
     book: &'a [u8],
     memory: &[u8],
     tape: &mut [u8],
@@ -60,5 +61,26 @@ pub(crate) fn answer<'a>(
     match checked {
         RootCheck::Root(_) => walk(book, memory, tape, text, out),
         RootCheck::Refused(k) => refused_line(k, out),
+    }
+}
+
+// The printed lines, at the start of `out`: the number of their bytes. With so short a tape and text they are at most
+// 589,824, so `Full` is no answer here, and its arm never runs.
+pub(crate) fn answer<'a>(
+    book: &'a [u8],
+    memory: &[u8],
+    tape: &mut [u8],
+    text: &'a mut [u8],
+    out: &mut [u8],
+) -> usize
+    requires { ⌜ length (now tape) ≤ 65520 ⌝ }
+    requires { ⌜ length (now text) ≤ 12288 ⌝ }
+    requires { ⌜ 589824 ≤ length (now out) ⌝ }
+    ensures { λ r. ⌜ Shown (printed (now (book .entry)) (now (memory .entry)) (length (now (tape .entry))) (length (now (text .entry)))) (now (out .entry)) r (now (out .exit)) ⌝ }
+{
+    let put = put_all(book, memory, tape, text, out);
+    match put {
+        Put::Next(n) => n,
+        Put::Full => 0,
     }
 }

@@ -1,3 +1,4 @@
 pub mod Joins
 pub mod Numerals
 pub mod Prints
+pub mod Lengths

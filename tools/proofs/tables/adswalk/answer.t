@@ -1,3 +1,3 @@
-use Rattle.adswalk.proofs.Exits.{answer-long, answer-walk, answer-refused}
-ruleset exits = (answer-long, answer-walk, answer-refused)
+use Rattle.adswalk.proofs.Exits.{answer-next, answer-full}
+ruleset exits = (answer-next, answer-full)
 returns.* => search exits
