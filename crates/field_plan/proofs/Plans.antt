@@ -4,7 +4,7 @@ use mathlib.Core.Bool.{Bool, true, false, cond}
 use mathlib.Core.List.{List, [], _∷_}
 use Prim.Native.Nat.{ℕ, zero, suc, _+_, _*_, _-_, _/_, _%_, _≤_, _<_}
 use native.Mathlib.Omega.{arith}
-use lib.ListN.{length, getD, set, replicate, List·getD-eq-default}
+use lib.ListN.{length, getD, set, List·getD-eq-default}
 use lib.Seq.{set-out, getD-set-same, getD-set-other}
 use lib.Dec.{eqb, leb}
 use borrow.Author.Tests.{eqb-true, eqb-false, ne-eqb, leb-true, leb-false}
@@ -170,8 +170,8 @@ entry-none book width f = record { known = λ h. absurd (h refl) }
 
 -- ---- the entries of a plan
 
-pub entry-of : (book : List ℕ) (width t i : ℕ) (plan : List ℕ) (e : ℕ) → Entries book width t plan → e ≡ getD plan i 0 → PlanEntry book width (t + 1 + i) e
-entry-of book width t i plan e h q = subst (PlanEntry book width (t + 1 + i)) (sym q) (h .at i)
+pub entry-of : (book : List ℕ) (width t n i : ℕ) (plan : List ℕ) (e : ℕ) → Entries book width t plan → n ≡ fieldsOf book t → i < n → e ≡ getD plan i 0 → PlanEntry book width (t + 1 + i) e
+entry-of book width t n i plan e h z l q = subst (PlanEntry book width (t + 1 + i)) (sym q) (h .at i (omega arith))
 
 -- past its end a list has no entry, and keeps none
 pub entry-past : (plan : List ℕ) (i : ℕ) → length plan ≤ i → 0 ≡ getD plan i 0
@@ -186,67 +186,74 @@ note-here plan i r p c e = rw e
 pub note-fits : (r p : ℕ) (c : AdsTypeCategory) → r < 65536 → p ≡ placeOf c → Fits w32 (1 + r * 16 + p)
 note-fits r p c l e = record { fits = omega (arith, place-small c) }
 
-zeros : (n i : ℕ) → _≡_ {A = ℕ} (getD (replicate n 0) i 0) 0
-zeros zero i = refl
-zeros (suc n) zero = refl
-zeros (suc n) (suc i) = zeros n i
-
-pub entries-zero : (book : List ℕ) (width t n : ℕ) → Entries book width t (replicate n 0)
-entries-zero book width t n = record { at = λ i. subst (PlanEntry book width (t + 1 + i)) (sym (zeros n i)) (entry-none book width (t + 1 + i)) }
-
 -- the plan that has no entry
 pub ready-none : (book : List ℕ) (width t : ℕ) → Ready book width t []
-ready-none book width t = record { entries = entries-zero book width t 0; fine = λ h. absurd (h refl) }
-
-module _ (book : List ℕ) (width t : ℕ) (plan : List ℕ) (h : Entries book width t plan) (i : ℕ) (x : PlannedField) (q : FieldIs book width (t + 1 + i) x) where
-  entries-set : Entries book width t (set plan i (entryOf x))
-  entries-set = record { at = λ j. by j (leb (length plan) i) refl (eqb j i) refl }
-    where
-      by : (j : ℕ) (out : Bool) → leb (length plan) i ≡ out → (same : Bool) → eqb j i ≡ same → PlanEntry book width (t + 1 + j) (getD (set plan i (entryOf x)) j 0)
-      by j true e same s = rw (set-out plan i (entryOf x) (leb-true (length plan) i e)) (h .at j)
-      by j false e true s =
-          let z : j ≡ i = eqb-true j i s in
-          rw (z, getD-set-same plan i (entryOf x) 0 (leb-false (length plan) i e)) (record { known = λ n. record { entry = x; is = q; packed = refl } })
-      by j false e false s = rw (getD-set-other plan i j (entryOf x) 0 (eqb-false j i s)) (h .at j)
+ready-none book width t = record { entries = record { at = λ i l. entry-none book width (t + 1 + i) }; fine = λ h. absurd (h refl) }
 
 -- ---- the loop of `plan_fields_in`
 
--- before the i-th of n fields: the first refusal of all is that of the fields left, and the entries are right if they were
-pub record Planning (book : List ℕ) (width t n : ℕ) (before : List ℕ) (i : ℕ) (now : List ℕ) : Type 0 where
+-- before the i-th of n fields: the first refusal of all is that of the fields left, and the fields before have their entries
+pub record Planning (book : List ℕ) (width t n i : ℕ) (now : List ℕ) : Type 0 where
   pub left : fieldsCheck book width t ≡ fieldsFrom book width (t + 1 + i) (n - i)
-  pub kept : Entries book width t before → Entries book width t now
+  pub upto : (j : ℕ) → j < i → PlanEntry book width (t + 1 + j) (getD now j 0)
 
-module _ (book : List ℕ) (width t n : ℕ) (before : List ℕ) where
-  pub planning-start : n ≡ fieldsOf book t → Planning book width t n before 0 before
+-- one more entry, if there is room
+module _ (book : List ℕ) (width t i : ℕ) (plan : List ℕ) (h : (j : ℕ) → j < i → PlanEntry book width (t + 1 + j) (getD plan j 0)) (x : PlannedField) (q : FieldIs book width (t + 1 + i) x) where
+  more : (j : ℕ) → j < i + 1 → PlanEntry book width (t + 1 + j) (getD (set plan i (entryOf x)) j 0)
+  more j l = by (leb (length plan) i) refl (eqb j i) refl
+    where
+      by : (out : Bool) → leb (length plan) i ≡ out → (same : Bool) → eqb j i ≡ same → PlanEntry book width (t + 1 + j) (getD (set plan i (entryOf x)) j 0)
+      by true e true s =
+          let z : j ≡ i = eqb-true j i s in
+          let b : length plan ≤ j = rw z (leb-true (length plan) i e) in
+          rw (set-out plan i (entryOf x) (leb-true (length plan) i e), List·getD-eq-default plan 0 b) (entry-none book width (t + 1 + j))
+      by false e true s =
+          let z : j ≡ i = eqb-true j i s in
+          rw (z, getD-set-same plan i (entryOf x) 0 (leb-false (length plan) i e)) (record { known = λ n. record { entry = x; is = q; packed = refl } })
+      by out e false s =
+          let n : j ≡ i → ⊥ = eqb-false j i s in
+          rw (getD-set-other plan i j (entryOf x) 0 n) (h j (omega arith))
+
+module _ (book : List ℕ) (width t n : ℕ) where
+  pub planning-start : (plan : List ℕ) → n ≡ fieldsOf book t → Planning book width t n 0 plan
   unfolding fieldsCheck
-  planning-start e =
+  planning-start plan e =
       let a : t + 1 + 0 ≡ t + 1 = omega arith in
       let b : n - 0 ≡ fieldsOf book t = omega arith in
-      record { left = rw (a, b); kept = λ h. h }
+      record { left = rw (a, b); upto = λ j l. absurd (omega arith) }
 
-  module _ (i : ℕ) (now : List ℕ) (p : Planning book width t n before i now) where
-    pub planning-end : n ≤ i → PlanIs book width t before check.Fine now
-    planning-end h =
+  module _ (i : ℕ) (now : List ℕ) (p : Planning book width t n i now) where
+    pub planning-end : n ≡ fieldsOf book t → n ≤ i → PlanIs book width t check.Fine now
+    planning-end z h =
         let k : n - i ≡ 0 = omega arith in
-        record { is = sym (p .left ∙ ap (fieldsFrom book width (t + 1 + i)) k ∙ fields-none book width (t + 1 + i)); kept = p .kept }
+        record {
+          is = sym (p .left ∙ ap (fieldsFrom book width (t + 1 + i)) k ∙ fields-none book width (t + 1 + i));
+          entries = λ e. record { at = λ j l. p .upto j (omega arith) };
+        }
 
     module _ (l : i < n) (a : Planned) (q : PlannedIs book width (t + 1 + i) a) where
       turn : fieldsCheck book width t ≡ fieldsFrom book width (t + 1 + i) (suc (n - (i + 1)))
       turn = let k : n - i ≡ suc (n - (i + 1)) = omega arith in p .left ∙ ap (fieldsFrom book width (t + 1 + i)) k
 
-      pub planning-lacks : (b : ℕ) → a ≡ planned.Lacks b → PlanIs book width t before (check.Lacks b) now
-      planning-lacks b e = record { is = sym (turn ∙ fields-lacks book width (t + 1 + i) (n - (i + 1)) b (q .lacks b e)); kept = p .kept }
+      pub planning-lacks : (b : ℕ) → a ≡ planned.Lacks b → PlanIs book width t (check.Lacks b) now
+      planning-lacks b e = record {
+        is = sym (turn ∙ fields-lacks book width (t + 1 + i) (n - (i + 1)) b (q .lacks b e));
+        entries = λ f. absurd (let z : _≡_ {A = ℕ} 0 1 = cc in omega arith);
+      }
 
-      pub planning-endless : a ≡ planned.Endless → PlanIs book width t before check.Endless now
-      planning-endless e = record { is = sym (turn ∙ fields-endless book width (t + 1 + i) (n - (i + 1)) (q .endless e)); kept = p .kept }
+      pub planning-endless : a ≡ planned.Endless → PlanIs book width t check.Endless now
+      planning-endless e = record {
+        is = sym (turn ∙ fields-endless book width (t + 1 + i) (n - (i + 1)) (q .endless e));
+        entries = λ f. absurd (let z : _≡_ {A = ℕ} 0 1 = cc in omega arith);
+      }
 
-      pub planning-again : (x : PlannedField) (later : List ℕ) → a ≡ planned.Field x → later ≡ set now i (entryOf x) → Planning book width t n before (i + 1) later
+      pub planning-again : (x : PlannedField) (later : List ℕ) → a ≡ planned.Field x → later ≡ set now i (entryOf x) → Planning book width t n (i + 1) later
       planning-again x later e s =
           let f : FieldIs book width (t + 1 + i) x = q .field x e in
           let z : t + 1 + (i + 1) ≡ t + 1 + i + 1 = omega arith in
           record {
             left = rw z (turn ∙ fields-more book width (t + 1 + i) (n - (i + 1)) (f .whole) (f .found));
-            kept = λ h. rw s (entries-set book width t now (p .kept h) i x f);
+            upto = λ j d. rw s (more book width t i now (p .upto) x f j d);
           }
 
 -- the number of a field's block fits

@@ -2,10 +2,10 @@
 use mathlib.Core.Path.{_≡_}
 use mathlib.Core.Bool.{true, cond}
 use mathlib.Core.List.{List}
-use Prim.Native.Nat.{ℕ, _+_, _*_}
+use Prim.Native.Nat.{ℕ, _+_, _*_, _<_}
 use lib.ListN.{length, getD}
 use lib.Dec.{eqb}
-use Rattle.typebook.specs.Book.{isType}
+use Rattle.typebook.specs.Book.{isType, fieldsOf}
 use Rattle.type_category.specs.declared.type_category.AdsTypeCategory.{AdsTypeCategory}
 use Rattle.type_category.specs.declared.type_category.AdsTypeCategory.the-variants.{None, Primitive, Alias, Enum, Array, Struct, FunctionBlock, Program, Function, SubRange, String, Bitset, Pointer, Union, Reference, Interface}
 use Rattle.type_category.specs.Category.{categoryOf}
@@ -69,16 +69,16 @@ pub record Known (book : List ℕ) (width f e : ℕ) : Type 0 where
 pub record PlanEntry (book : List ℕ) (width f e : ℕ) : Type 0 where
   pub known : (e ≡ 0 → ⊥) → Known book width f e
 
--- each entry of a plan is 0 or its own field's, of type block t
+-- each field of type block t has an entry that is 0 or its own; past the plan's end it is 0
 pub record Entries (book : List ℕ) (width t : ℕ) (plan : List ℕ) : Type 0 where
-  pub at : (i : ℕ) → PlanEntry book width (t + 1 + i) (getD plan i 0)
+  pub at : (i : ℕ) → i < fieldsOf book t → PlanEntry book width (t + 1 + i) (getD plan i 0)
 
 -- the plan of type block t is empty, or no field of t is refused
 pub record Ready (book : List ℕ) (width t : ℕ) (plan : List ℕ) : Type 0 where
   pub entries : Entries book width t plan
   pub fine : (length plan ≡ 0 → ⊥) → fieldsCheck book width t ≡ check.Fine
 
--- the answer is the first refusal of the fields; a plan whose entries were right (such as one of zeros) has right entries still
-pub record PlanIs (book : List ℕ) (width t : ℕ) (before : List ℕ) (r : FieldsCheck) (after : List ℕ) : Type 0 where
+-- the answer is the first refusal of the fields; without one the plan has their entries, whatever it held
+pub record PlanIs (book : List ℕ) (width t : ℕ) (r : FieldsCheck) (after : List ℕ) : Type 0 where
   pub is : r ≡ fieldsCheck book width t
-  pub kept : Entries book width t before → Entries book width t after
+  pub entries : r ≡ check.Fine → Entries book width t after

@@ -5,38 +5,52 @@ use Rattle.de.proofs.array_access.element_check.Tie as tie
 use Rattle.de.proofs.array_access.element_check.Reads as reads
 use Rattle.de.proofs.array_access.element_check.Lts as lts
 use Rattle.de.proofs.array_access.is_last.Reads as is-last-reads
-use Rattle.de.proofs.deserializer.shape_at.Reads as shape-at-reads
-use Rattle.resolvers.proofs.check_fields_in.Reads as check-fields-in-reads
+use Rattle.de.proofs.deserializer.shape_of.Reads as shape-of-reads
+use Rattle.field_plan.proofs.plan_fields_in.Reads as plan-fields-in-reads
 
 ruleset exits = (check-map, check-array, check-leaf, check-not-last)
 
+-- src/array_access.rt:123:8
 is-last-requires : tie.Need-is-last-requires
 is-last-requires c κs = search needs
 
-shape-at-requires : tie.Need-shape-at-requires
-shape-at-requires c κs = search needs
+-- src/array_access.rt:124:13
+shape-of-requires : tie.Need-shape-of-requires
+shape-of-requires c κs = search needs
 
+-- src/array_access.rt:126:77
 enum-told : tie.Need-enum-told
 enum-told c = search needs
 
-check-fields-in-requires : tie.Need-check-fields-in-requires
-check-fields-in-requires c κs = search needs
+-- src/array_access.rt:126:27
+plan-fields-in-requires : tie.Need-plan-fields-in-requires
+plan-fields-in-requires c κs = search needs
 
+-- src/array_access.rt:127:29
 enum-told-2 : tie.Need-enum-told-2
 enum-told-2 c = search needs
 
+-- src/array_access.rt:128:28
 enum-told-3 : tie.Need-enum-told-3
 enum-told-3 c = search needs
 
+-- src/array_access.rt:110:1
+same-length : tie.Need-same-length
+same-length c = search needs
+
+-- src/array_access.rt:110:1
 returns : tie.Need-returns
 returns c = search exits
 
+-- src/array_access.rt:110:1
 returns-2 : tie.Need-returns-2
 returns-2 c = search exits
 
+-- src/array_access.rt:110:1
 returns-3 : tie.Need-returns-3
 returns-3 c = search exits
 
+-- src/array_access.rt:110:1
 returns-4 : tie.Need-returns-4
 returns-4 c = search exits
 
@@ -45,11 +59,12 @@ element-check-spec =
     tie.close
     (tie.spec
     is-last-requires
-    shape-at-requires
+    shape-of-requires
     enum-told
-    check-fields-in-requires
+    plan-fields-in-requires
     enum-told-2
     enum-told-3
+    same-length
     returns
     returns-2
     returns-3

@@ -5,23 +5,28 @@ use Rattle.de.proofs.deserializer.leaf.Tie as tie
 use Rattle.de.proofs.deserializer.leaf.Reads as reads
 use Rattle.de.proofs.deserializer.leaf.Lts as lts
 use Rattle.de.proofs.step.put_leaf.Reads as put-leaf-reads
-use Rattle.leaves.proofs.leaf.leaf_in.Reads as leaf-in-reads
+use Rattle.leaves.proofs.leaf.leaf_by.Reads as leaf-by-reads
 
-leaf-in-requires : tie.Need-leaf-in-requires
-leaf-in-requires c κs = search needs
+-- src/deserializer.rt:66:9
+leaf-by-requires : tie.Need-leaf-by-requires
+leaf-by-requires c κs = search needs
 
+-- src/deserializer.rt:64:5
 put-leaf-requires : tie.Need-put-leaf-requires
 put-leaf-requires c κs = search needs
 
+-- src/deserializer.rt:51:1
 same-length : tie.Need-same-length
 same-length c = search needs
 
+-- src/deserializer.rt:51:1
 same-length-2 : tie.Need-same-length-2
 same-length-2 c = search needs
 
+-- src/deserializer.rt:51:1
 returns : tie.Need-returns
 returns c = search leaf-at
 
 pub leaf-spec : {M : Type 1} → statement M
 leaf-spec =
-    tie.close (tie.spec leaf-in-requires put-leaf-requires same-length same-length-2 returns)
+    tie.close (tie.spec leaf-by-requires put-leaf-requires same-length same-length-2 returns)
