@@ -11,7 +11,7 @@ use borrow.Author.Tests.{eqb-true, eqb-false, ne-eqb, leb-true, leb-false}
 use mir.Syntax.{w32}
 use mir.Val.{Fits}
 use Rattle.typebook.specs.Book.{isType, offsetOf, sizeOf, fieldsOf, typeNameOf}
-use Rattle.typebook.specs.Find.{find}
+use Rattle.typebook.specs.Find.{find, FoundBy}
 use Rattle.typebook.specs.declared.type_provider.Found.{Found}
 use Rattle.typebook.specs.declared.type_provider.Found.the-variants.{At, Nothing}
 use Rattle.type_category.specs.declared.type_category.AdsTypeCategory.{AdsTypeCategory}
@@ -20,15 +20,15 @@ use Rattle.type_category.specs.Category.{categoryOf}
 use Rattle.type_category.specs.Validate.{placeOf}
 use Rattle.book_check.specs.Check.{ValidBook}
 use Rattle.book_check.proofs.Valid.{valid-size, valid-type}
-use Rattle.resolvers.specs.Resolve.{resolveAlias, fieldOf, fieldFound, resolveField, fieldsFrom, fieldsCheck, FieldResolved}
+use Rattle.resolvers.specs.Resolve.{goesOn, isFollowed, resolveAlias, fieldOf, fieldFound, resolveField, fieldsFrom, fieldsCheck, ResolvedIs}
 use Rattle.resolvers.specs.declared.Resolved.{Resolved}
 use Rattle.resolvers.specs.declared.Resolved.the-variants as resolved
 use Rattle.resolvers.specs.declared.ResolvedField.{ResolvedField}
-use Rattle.resolvers.specs.declared.FieldAnswer.{FieldAnswer}
 use Rattle.resolvers.specs.declared.FieldAnswer.the-variants as answer
 use Rattle.resolvers.specs.declared.FieldsCheck.{FieldsCheck}
 use Rattle.resolvers.specs.declared.FieldsCheck.the-variants as check
-use Rattle.resolvers.proofs.Fields.{fields-more, fields-lacks, fields-endless, fields-none}
+use Rattle.resolvers.proofs.Chains.{found-is, found-type, follow-base}
+use Rattle.resolvers.proofs.Fields.{field-at, field-nothing, fields-more, fields-lacks, fields-endless, fields-none}
 use Rattle.field_plan.specs.declared.PlannedField.{PlannedField}
 use Rattle.field_plan.specs.declared.Planned.{Planned}
 use Rattle.field_plan.specs.declared.Planned.the-variants as planned
@@ -107,6 +107,13 @@ module _ (book : List ℕ) (width f : ℕ) (x : ResolvedField) where
   unfolding resolveField
   parts e = parts-found (find book (typeNameOf book f)) e
 
+lacks-only : {book : List ℕ} {width f : ℕ} (b : ℕ) → resolveField book width f ≡ answer.Lacks b → PlannedIs book width f (planned.Lacks b)
+lacks-only b h = record {
+  field = λ y g. absurd (let z : _≡_ {A = ℕ} 0 1 = cc in omega arith);
+  lacks = λ d g. let z : b ≡ d = cc in h ∙ ap answer.Lacks z;
+  endless = λ g. absurd (let z : _≡_ {A = ℕ} 0 1 = cc in omega arith);
+}
+
 field-only : {book : List ℕ} {width f : ℕ} (x : PlannedField) → FieldIs book width f x → PlannedIs book width f (planned.Field x)
 field-only {book} {width} {f} x h = record {
   field = λ y g. let a : _≡_ {A = PlannedField} x y = cc in subst (FieldIs book width f) a h;
@@ -114,24 +121,66 @@ field-only {book} {width} {f} x h = record {
   endless = λ g. absurd (let z : _≡_ {A = ℕ} 0 1 = cc in omega arith);
 }
 
-module _ (book : List ℕ) (width f : ℕ) (a : FieldAnswer) (q : FieldResolved book width f a) where
-  pub plan-found : (x : ResolvedField) (c : AdsTypeCategory) → a ≡ answer.Field x → c ≡ categoryOf book width (x .resolved)
-      → PlannedIs book width f (planned.Field (record { offset = x .offset; size = x .size; resolved = x .resolved; category = c }))
-  plan-found x c e k = field-only _ (record { whole = x; found = sym (q .is) ∙ e; offset-is = refl; size-is = refl; resolved-is = refl; typed = q .typed x e; category-is = k })
+-- by what the named type resolves to
+module _ (book : List ℕ) (width f n : ℕ) (w : find book (typeNameOf book f) ≡ At n) (r : Resolved) (q : ResolvedIs book (resolveAlias book width n) r) where
+  at : resolveField book width f ≡ fieldOf book f n r
+  at = field-at book width f n w ∙ ap (fieldOf book f n) (sym (q .is))
 
-  pub plan-lacks : (b : ℕ) → a ≡ answer.Lacks b → PlannedIs book width f (planned.Lacks b)
-  plan-lacks b e = record {
-    field = λ y g. absurd (let z : _≡_ {A = ℕ} 0 1 = cc in omega arith);
-    lacks = λ d g. let z : b ≡ d = cc in sym (q .is) ∙ e ∙ ap answer.Lacks z;
-    endless = λ g. absurd (let z : _≡_ {A = ℕ} 0 1 = cc in omega arith);
-  }
+  pub alias-base : (u o s : ℕ) (c : AdsTypeCategory) → r ≡ resolved.Base u → c ≡ categoryOf book width u → o ≡ offsetOf book f → s ≡ sizeOf book f
+      → PlannedIs book width f (planned.Field (record { offset = o; size = s; resolved = u; category = c }))
+  unfolding fieldOf
+  alias-base u o s c e k eo es =
+      field-only _
+      (record {
+        whole = record { offset = offsetOf book f; size = sizeOf book f; named = n; resolved = u; field = f };
+        found = at ∙ ap (fieldOf book f n) e;
+        offset-is = sym eo;
+        size-is = sym es;
+        resolved-is = refl;
+        typed = q .typed u e;
+        category-is = k;
+      })
 
-  pub plan-endless : a ≡ answer.Endless → PlannedIs book width f planned.Endless
-  plan-endless e = record {
-    field = λ y g. absurd (let z : _≡_ {A = ℕ} 0 1 = cc in omega arith);
-    lacks = λ d g. absurd (let z : _≡_ {A = ℕ} 0 1 = cc in omega arith);
-    endless = λ g. sym (q .is) ∙ e;
-  }
+  pub alias-lacks : (b : ℕ) → r ≡ resolved.Lacks b → PlannedIs book width f (planned.Lacks b)
+  unfolding fieldOf
+  alias-lacks b e = lacks-only b (at ∙ ap (fieldOf book f n) e)
+
+  pub alias-endless : r ≡ resolved.Endless → PlannedIs book width f planned.Endless
+  unfolding fieldOf
+  alias-endless e =
+      let z : resolveField book width f ≡ answer.Endless = at ∙ ap (fieldOf book f n) e in
+      record {
+        field = λ y g. absurd (let z : _≡_ {A = ℕ} 0 1 = cc in omega arith);
+        lacks = λ d g. absurd (let z : _≡_ {A = ℕ} 0 1 = cc in omega arith);
+        endless = λ g. z;
+      }
+
+-- the named type is a type block
+pub alias-typed : (book : List ℕ) (f n : ℕ) → find book (typeNameOf book f) ≡ At n → isType book n ≡ true
+alias-typed book f n w = found-type book (typeNameOf book f) n w
+
+-- by what the field's type name finds
+module _ (book : List ℕ) (width f : ℕ) (v : ValidBook book) (name : List ℕ) (en : name ≡ typeNameOf book f) (x : Found) (ex : FoundBy book name x) where
+  pub plan-nothing : x ≡ Nothing → PlannedIs book width f (planned.Lacks f)
+  plan-nothing h = lacks-only f (field-nothing book width f (sym (found-is book v f name en x ex) ∙ h))
+
+  module _ (n : ℕ) (h : x ≡ At n) where
+    pub plan-found : find book (typeNameOf book f) ≡ At n
+    plan-found = sym (found-is book v f name en x ex) ∙ h
+
+    -- a type that is no alias is what it resolves to
+    pub plan-plain : (o s : ℕ) (c : AdsTypeCategory) (b : Bool) → c ≡ categoryOf book width n → b ≡ goesOn false c → b ≡ false → o ≡ offsetOf book f → s ≡ sizeOf book f
+        → PlannedIs book width f (planned.Field (record { offset = o; size = s; resolved = n; category = c }))
+    unfolding isFollowed
+    plan-plain o s c b k eb z eo es =
+        let y : isFollowed false book width n ≡ false = rw (← k) (sym eb ∙ z) in
+        let t : isType book n ≡ true = alias-typed book f n plan-found in
+        alias-base book width f n plan-found (resolved.Base n)
+        (record {
+          is = sym (follow-base (isFollowed false book width) book 31 n y);
+          typed = λ u e. let a : n ≡ u = cc in rw (← a) t;
+        })
+        n o s c refl k eo es
 
 -- a type's block number is small, so an entry fits
 pub typed-small : (book : List ℕ) (width f : ℕ) (a : Planned) (x : PlannedField) → ValidBook book → PlannedIs book width f a → a ≡ planned.Field x → x .resolved < 65536

@@ -1,17 +1,21 @@
 // The fields of a type, resolved once: a plan keeps one number for each field, the block of its resolved type and that type's
 // category, so that a type that is read many times is looked up once.
 ghost use mathlib.Core.Path.{_≡_};
-ghost use mathlib.Core.Bool.{true};
+ghost use mathlib.Core.Bool.{true, false};
 ghost use Prim.Native.Nat.{_<_};
 ghost use lib.ListN.{getD, set};
-ghost use Rattle.typebook.specs.Book.{isType};
+ghost use Rattle.typebook.specs.Book.{isType, typeNameOf};
+ghost use Rattle.typebook.specs.Find.{find};
 ghost use Rattle.type_category.specs.Validate.{placeOf};
 ghost use Rattle.book_check.specs.Check.{ValidBook};
+ghost use Rattle.resolvers.specs.Resolve.{goesOn};
 ghost use Rattle.field_plan.specs.Plan.{categoryAt, entryOf, PlanEntry, PlannedIs, PlanIs};
-use resolvers::FieldAnswer;
 use resolvers::FieldsCheck;
+use resolvers::Resolved;
 use type_category::type_category::AdsTypeCategory;
 use typebook::block;
+use typebook::type_provider;
+use typebook::type_provider::Found;
 
 // A field whose type is resolved: offset and size as its block says, its type's block with aliases resolved, that type's category.
 pub struct PlannedField {
@@ -77,22 +81,67 @@ fn category_at(n: u32) -> AdsTypeCategory
     }
 }
 
-// Resolves the type of field block f, and says its category.
+// Whether aliases are to be followed from a type of that category.
+fn is_alias(category: AdsTypeCategory) -> bool
+    ensures { λ r. ⌜ r ≡ goesOn false category ⌝ }
+{
+    match category {
+        AdsTypeCategory::Alias => true,
+        AdsTypeCategory::None => false,
+        AdsTypeCategory::Primitive => false,
+        AdsTypeCategory::Enum => false,
+        AdsTypeCategory::Array => false,
+        AdsTypeCategory::Struct => false,
+        AdsTypeCategory::FunctionBlock => false,
+        AdsTypeCategory::Program => false,
+        AdsTypeCategory::Function => false,
+        AdsTypeCategory::SubRange => false,
+        AdsTypeCategory::String => false,
+        AdsTypeCategory::Bitset => false,
+        AdsTypeCategory::Pointer => false,
+        AdsTypeCategory::Union => false,
+        AdsTypeCategory::Reference => false,
+        AdsTypeCategory::Interface => false,
+    }
+}
+
+// Field block f, whose type name finds the alias at block `named`.
+fn plan_alias(book: &[u8], index: &[u32], width: u8, f: u32, named: u32) -> Planned
+    requires { ⌜ ValidBook (now book) × (find (now book) (typeNameOf (now book) f) ≡ Found.At named) ⌝ }
+    ensures { λ r. ⌜ PlannedIs (now (book .entry)) width f r ⌝ }
+{
+    let answer = resolvers::resolve_alias_in(book, index, width, named);
+    match answer {
+        Resolved::Base(resolved) => Planned::Field(PlannedField {
+            offset: block::offset(book, f),
+            size: block::size(book, f),
+            resolved,
+            category: AdsTypeCategory::determine(book, width, resolved),
+        }),
+        Resolved::Lacks(b) => Planned::Lacks(b),
+        Resolved::Endless => Planned::Endless,
+    }
+}
+
+// Resolves the type of field block f, and says its category. Most types are no alias: their category is determined once.
 fn plan_field(book: &[u8], index: &[u32], width: u8, f: u32) -> Planned
     requires { ⌜ ValidBook (now book) ⌝ }
     ensures { λ r. ⌜ PlannedIs (now (book .entry)) width f r ⌝ }
 {
-    let found = resolvers::resolve_field_in(book, index, width, f);
-    match found {
-        FieldAnswer::Field(x) => Planned::Field(PlannedField {
-            offset: x.offset,
-            size: x.size,
-            resolved: x.resolved,
-            category: AdsTypeCategory::determine(book, width, x.resolved),
-        }),
-        FieldAnswer::Lacks(b) => Planned::Lacks(b),
-        FieldAnswer::Endless => Planned::Endless,
+    let found = type_provider::find_by(book, index, block::type_name(book, f));
+    let Found::At(named) = found else {
+        return Planned::Lacks(f);
+    };
+    let category = AdsTypeCategory::determine(book, width, named);
+    if is_alias(category) {
+        return plan_alias(book, index, width, f, named);
     }
+    Planned::Field(PlannedField {
+        offset: block::offset(book, f),
+        size: block::size(book, f),
+        resolved: named,
+        category,
+    })
 }
 
 // Field block f, by its entry of a plan; without an entry (0) it is resolved here.
