@@ -15,16 +15,15 @@ use mir.Syntax.{w8, w32, w64}
 use mir.Val.{Fits}
 use Rattle.type_category.specs.Category.{categoryOf}
 use Rattle.type_category.specs.declared.type_category.AdsTypeCategory.{AdsTypeCategory}
-use Rattle.resolvers.specs.Resolve.{resolveField, fieldsCheck, LookedUp}
+use Rattle.resolvers.specs.Resolve.{LookedUp}
 use Rattle.resolvers.specs.declared.Resolved.{Resolved}
 use Rattle.resolvers.specs.declared.Resolved.the-variants as resolved
-use Rattle.resolvers.specs.declared.FieldAnswer.the-variants as answer
 use Rattle.resolvers.specs.declared.FieldsCheck.{FieldsCheck}
 use Rattle.resolvers.specs.declared.FieldsCheck.the-variants as check
 use Rattle.field_plan.specs.declared.PlannedField.{PlannedField}
 use Rattle.field_plan.specs.declared.Planned.{Planned}
 use Rattle.field_plan.specs.declared.Planned.the-variants as planned
-use Rattle.field_plan.specs.Plan.{FieldIs, PlannedIs, PlanEntry, Entries, Ready, PlanIs}
+use Rattle.field_plan.specs.Plan.{PlannedIs, Entries, Ready, PlanIs}
 use Rattle.field_plan.proofs.Plans.{ready-none}
 use Rattle.de.specs.declared.step.Step.{Step}
 use Rattle.de.specs.declared.step.Step.the-variants.{Next, Stop}

@@ -1,8 +1,8 @@
 -- Laws of plans: a category and its place, one field, its entry, the loop over the fields. This module alone unfolds `categoryAt`. Assumes nothing.
 use mathlib.Core.Path.{_≡_, refl, sym, ap, _∙_, subst}
-use mathlib.Core.Bool.{Bool, true, false, cond}
-use mathlib.Core.List.{List, [], _∷_}
-use Prim.Native.Nat.{ℕ, zero, suc, _+_, _*_, _-_, _/_, _%_, _≤_, _<_}
+use mathlib.Core.Bool.{Bool, true, false}
+use mathlib.Core.List.{List, []}
+use Prim.Native.Nat.{ℕ, suc, _+_, _*_, _-_, _/_, _%_, _≤_, _<_}
 use native.Mathlib.Omega.{arith}
 use lib.ListN.{length, getD, set, List·getD-eq-default}
 use lib.Seq.{set-out, getD-set-same, getD-set-other}
@@ -25,7 +25,6 @@ use Rattle.resolvers.specs.declared.Resolved.{Resolved}
 use Rattle.resolvers.specs.declared.Resolved.the-variants as resolved
 use Rattle.resolvers.specs.declared.ResolvedField.{ResolvedField}
 use Rattle.resolvers.specs.declared.FieldAnswer.the-variants as answer
-use Rattle.resolvers.specs.declared.FieldsCheck.{FieldsCheck}
 use Rattle.resolvers.specs.declared.FieldsCheck.the-variants as check
 use Rattle.resolvers.proofs.Chains.{found-is, found-type, follow-base}
 use Rattle.resolvers.proofs.Fields.{field-at, field-nothing, fields-more, fields-lacks, fields-endless, fields-none}

@@ -12,7 +12,6 @@ use Rattle.type_category.specs.Category.{categoryOf}
 use Rattle.type_category.specs.Validate.{placeOf}
 use Rattle.resolvers.specs.Resolve.{resolveField, fieldsCheck}
 use Rattle.resolvers.specs.declared.ResolvedField.{ResolvedField}
-use Rattle.resolvers.specs.declared.FieldAnswer.{FieldAnswer}
 use Rattle.resolvers.specs.declared.FieldAnswer.the-variants as answer
 use Rattle.resolvers.specs.declared.FieldsCheck.{FieldsCheck}
 use Rattle.resolvers.specs.declared.FieldsCheck.the-variants as check

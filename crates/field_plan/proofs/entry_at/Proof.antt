@@ -5,19 +5,15 @@ use Rattle.field_plan.proofs.entry_at.Tie as tie
 use Rattle.field_plan.proofs.entry_at.Reads as reads
 use Rattle.field_plan.proofs.entry_at.Lts as lts
 
--- src/lib.rt:119:16
 mul-result : tie.Need-mul-result
 mul-result c = search needs
 
--- src/lib.rt:119:16
 shared-slice-read-result : tie.Need-shared-slice-read-result
 shared-slice-read-result c = search needs
 
--- src/lib.rt:119:9
 returns : tie.Need-returns
 returns c = search needs
 
--- src/lib.rt:115:1
 returns-2 : tie.Need-returns-2
 returns-2 c = search entry-past
 

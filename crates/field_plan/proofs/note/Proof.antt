@@ -8,39 +8,30 @@ use Rattle.field_plan.proofs.place.Reads as place-reads
 
 ruleset exits = (note-here, note-past)
 
--- src/lib.rt:131:32
 mul-plan : tie.Need-mul-plan
 mul-plan c = search needs
 
--- src/lib.rt:131:28
 add-plan : tie.Need-add-plan
 add-plan c = search needs
 
--- src/lib.rt:131:54
 place-requires : tie.Need-place-requires
 place-requires c κs = search needs
 
--- src/lib.rt:131:28
 add-plan-2 : tie.Need-add-plan-2
 add-plan-2 c = search note-fits
 
--- src/lib.rt:131:9
 mul-plan-2 : tie.Need-mul-plan-2
 mul-plan-2 c = search needs
 
--- src/lib.rt:131:9
 slice-write-plan : tie.Need-slice-write-plan
 slice-write-plan c = search needs
 
--- src/lib.rt:125:1
 same-length : tie.Need-same-length
 same-length c = search needs
 
--- src/lib.rt:125:1
 returns : tie.Need-returns
 returns c = search exits
 
--- src/lib.rt:125:1
 returns-2 : tie.Need-returns-2
 returns-2 c = search exits
 

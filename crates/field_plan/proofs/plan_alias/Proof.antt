@@ -11,43 +11,33 @@ use Rattle.typebook.proofs.block.size.Reads as size-reads
 
 ruleset exits = (alias-base, alias-lacks, alias-endless)
 
--- src/lib.rt:113:9
 resolve-alias-in-requires : tie.Need-resolve-alias-in-requires
 resolve-alias-in-requires c κs = (search needs, search alias-typed)
 
--- src/lib.rt:115:24
 enum-known-answer : tie.Need-enum-known-answer
 enum-known-answer c = search needs
 
--- src/lib.rt:116:21
 offset-requires : tie.Need-offset-requires
 offset-requires c κs = search needs
 
--- src/lib.rt:117:19
 size-requires : tie.Need-size-requires
 size-requires c κs = search needs
 
--- src/lib.rt:119:23
 determine-requires : tie.Need-determine-requires
 determine-requires c κs = search needs
 
--- src/lib.rt:121:25
 enum-known-answer-2 : tie.Need-enum-known-answer-2
 enum-known-answer-2 c = search needs
 
--- src/lib.rt:122:30
 enum-told : tie.Need-enum-told
 enum-told c = search needs
 
--- src/lib.rt:109:1
 returns : tie.Need-returns
 returns c = search exits
 
--- src/lib.rt:109:1
 returns-2 : tie.Need-returns-2
 returns-2 c = search exits
 
--- src/lib.rt:109:1
 returns-3 : tie.Need-returns-3
 returns-3 c = search exits
 

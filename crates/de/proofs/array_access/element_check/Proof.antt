@@ -10,47 +10,36 @@ use Rattle.field_plan.proofs.plan_fields_in.Reads as plan-fields-in-reads
 
 ruleset exits = (check-map, check-array, check-leaf, check-not-last)
 
--- src/array_access.rt:123:8
 is-last-requires : tie.Need-is-last-requires
 is-last-requires c κs = search needs
 
--- src/array_access.rt:124:13
 shape-of-requires : tie.Need-shape-of-requires
 shape-of-requires c κs = search needs
 
--- src/array_access.rt:126:77
 enum-told : tie.Need-enum-told
 enum-told c = search needs
 
--- src/array_access.rt:126:27
 plan-fields-in-requires : tie.Need-plan-fields-in-requires
 plan-fields-in-requires c κs = search needs
 
--- src/array_access.rt:127:29
 enum-told-2 : tie.Need-enum-told-2
 enum-told-2 c = search needs
 
--- src/array_access.rt:128:28
 enum-told-3 : tie.Need-enum-told-3
 enum-told-3 c = search needs
 
--- src/array_access.rt:110:1
 same-length : tie.Need-same-length
 same-length c = search needs
 
--- src/array_access.rt:110:1
 returns : tie.Need-returns
 returns c = search exits
 
--- src/array_access.rt:110:1
 returns-2 : tie.Need-returns-2
 returns-2 c = search exits
 
--- src/array_access.rt:110:1
 returns-3 : tie.Need-returns-3
 returns-3 c = search exits
 
--- src/array_access.rt:110:1
 returns-4 : tie.Need-returns-4
 returns-4 c = search exits
 

@@ -7,23 +7,18 @@ use Rattle.de.proofs.deserializer.leaf.Lts as lts
 use Rattle.de.proofs.step.put_leaf.Reads as put-leaf-reads
 use Rattle.leaves.proofs.leaf.leaf_by.Reads as leaf-by-reads
 
--- src/deserializer.rt:66:9
 leaf-by-requires : tie.Need-leaf-by-requires
 leaf-by-requires c κs = search needs
 
--- src/deserializer.rt:64:5
 put-leaf-requires : tie.Need-put-leaf-requires
 put-leaf-requires c κs = search needs
 
--- src/deserializer.rt:51:1
 same-length : tie.Need-same-length
 same-length c = search needs
 
--- src/deserializer.rt:51:1
 same-length-2 : tie.Need-same-length-2
 same-length-2 c = search needs
 
--- src/deserializer.rt:51:1
 returns : tie.Need-returns
 returns c = search leaf-at
 

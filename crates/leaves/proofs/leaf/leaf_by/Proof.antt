@@ -13,71 +13,54 @@ use Rattle.leaves.proofs.leaf.text_leaf.Reads as text-leaf-reads
 
 ruleset exits = (leaf-number, leaf-text, leaf-enum, leaf-pointer, leaf-unit, leaf-none, refl)
 
--- src/leaf.rt:193:9
 kind-of-requires : tie.Need-kind-of-requires
 kind-of-requires c κs = search needs
 
--- src/leaf.rt:195:29
 enum-told : tie.Need-enum-told
 enum-told c = search needs
 
--- src/leaf.rt:195:29
 number-leaf-requires : tie.Need-number-leaf-requires
 number-leaf-requires c κs = search needs
 
--- src/leaf.rt:196:27
 enum-told-2 : tie.Need-enum-told-2
 enum-told-2 c = search needs
 
--- src/leaf.rt:196:27
 text-leaf-requires : tie.Need-text-leaf-requires
 text-leaf-requires c κs = search needs
 
--- src/leaf.rt:197:27
 enum-told-3 : tie.Need-enum-told-3
 enum-told-3 c = search needs
 
--- src/leaf.rt:197:27
 enum-leaf-requires : tie.Need-enum-leaf-requires
 enum-leaf-requires c κs = search needs
 
--- src/leaf.rt:198:30
 enum-told-4 : tie.Need-enum-told-4
 enum-told-4 c = search needs
 
--- src/leaf.rt:198:30
 pointer-leaf-requires : tie.Need-pointer-leaf-requires
 pointer-leaf-requires c κs = search needs
 
--- src/leaf.rt:199:27
 enum-told-5 : tie.Need-enum-told-5
 enum-told-5 c = search needs
 
--- src/leaf.rt:200:27
 enum-told-6 : tie.Need-enum-told-6
 enum-told-6 c = search needs
 
--- src/leaf.rt:189:1
 returns : tie.Need-returns
 returns c = search exits
 
--- src/leaf.rt:189:1
 returns-2 : tie.Need-returns-2
 returns-2 c = search exits
 
--- src/leaf.rt:189:1
 returns-3 : tie.Need-returns-3
 returns-3 c = search exits
 
--- src/leaf.rt:189:1
 returns-4 : tie.Need-returns-4
 returns-4 c = search exits
 
--- src/leaf.rt:189:1
 returns-5 : tie.Need-returns-5
 returns-5 c = search exits
 
--- src/leaf.rt:189:1
 returns-6 : tie.Need-returns-6
 returns-6 c = search exits
 

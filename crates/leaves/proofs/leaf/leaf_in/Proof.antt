@@ -7,15 +7,12 @@ use Rattle.leaves.proofs.leaf.leaf_in.Lts as lts
 use Rattle.leaves.proofs.leaf.leaf_by.Reads as leaf-by-reads
 use Rattle.type_category.proofs.type_category.AdsTypeCategory.determine.Reads as determine-reads
 
--- src/leaf.rt:213:9
 determine-requires : tie.Need-determine-requires
 determine-requires c κs = search needs
 
--- src/leaf.rt:209:5
 leaf-by-requires : tie.Need-leaf-by-requires
 leaf-by-requires c κs = search needs
 
--- src/leaf.rt:205:1
 returns : tie.Need-returns
 returns c = search leaf-own
 
