@@ -39,24 +39,29 @@ first layer, with their inputs and answers (u16, u32, u64: numbers; `lent`: all 
 
 The numbers 10, 11, 15, 17 and 19 are document 01's refusals, the kinds 7 to 10 those of its tape.
 
-The operations on books. The program keeps one book from case to case (a buffer of 262,144 bytes, 512 blocks); `packed` bytes have
-each run of 1 to 255 zeros as two bytes, 0 and its length, and every other byte as it is; a refusal is its number and,
-for 7, the u32 block:
+The operations on books. The program keeps one book from case to case, in a buffer of 4,718,592 bytes (9,216 blocks). `packed`
+bytes have each run of 1 to 255 zeros as two bytes, 0 and its length, and every other byte as it is; in a book two zeros stand
+for the rest of a block: zeros, and then the block's sum, which the program makes. A refusal is its number and, for 7, the u32
+block. Lent tapes, texts and numbers hold A5h in every byte before the call; `kept` is 1 if what the call had no business with
+is as before, and if all that it has to leave zero is zero (the walks' scratch; tape and text after a refusal), else 0:
 
-    64  book                        0 or 1, packed              0: the book is these bytes; 1: they follow it. u32 length
+    64  book                        u32 place, packed           the bytes go to the place, the book ends after them. u32 length
     65  check_root                  u64 root                    0 to 5
     66  check_book, a byte changed  u32 place, value, 0 or 1    0 to 4. The byte is changed, with 1 the block's sum is made
                                                                 right, and after the check both are put back
     67  determine                   width, u32 block            the category's place in the Rust's list (None: 0)
     68  resolve_alias               width, u32 root             0, u32 block; or a refusal
     69  resolve_indirection         width, u32 root             0, u32 block; or a refusal
-    70  requires_read_modify_write  width, u32 root             0, 1 or 0; or a refusal
-    71  missing_types               width, u32 root             0, whole (1 or 0), u32 count, the u32 blocks; or a refusal
-    72  resolve_fields              width, u32 root             0, for each field u32 offset, size, type block, field block;
-                                                                or a refusal
-    73  read                        width, u32 root, u32 bytes  0, u32 tape bytes, u32 text bytes, both packed; or a
-                                    of tape, u32 of text room,  refusal. Then 1 if the rest of tape and text is as
-                                    memory                      document 01 has it (as before; zeros after a refusal)
+    70  requires_read_modify_write  width, u32 root, u16        0, 1 or 0; or a refusal. Then kept (scratch)
+                                    numbers of scratch
+    71  missing_types               width, u32 root, u16        0, whole (1 or 0), u32 count, the u32 blocks; or a refusal.
+                                    numbers of scratch, u16 of  Then kept (list), kept (scratch)
+                                    list
+    72  resolve_fields              width, u32 root, u16        0, for each field u32 offset, size, type block, field block;
+                                    numbers of records          or a refusal. Then kept (records)
+    73  read                        width, u32 root, u16 bytes  0, u32 records, u32 text bytes, the records packed, kept
+                                    of tape, u16 of text room,  (tape), the text packed, kept (text); or a refusal, kept
+                                    memory                      (tape), kept (text)
     74  write                       width, u32 root, u16 image, 0, the output packed; or a refusal, and 1 if the output
                                     u16 tape, image, tape,      then is the image
                                     text, tape and text packed
@@ -150,4 +155,16 @@ def packed(data):
                 n += 1
             out += bytes([0, n])
             at += n
+    return bytes(out)
+
+
+def packed_book(data):
+    """A book's blocks packed: where a block's end is zeros and a right sum, as two zeros."""
+    out = bytearray()
+    for at in range(0, len(data), 512):
+        block = data[at:at + 512]
+        if len(block) == 512 and block[508:] == u32(sum(block[:508])) and block[507] == 0:
+            out += packed(block[:508].rstrip(b"\0")) + b"\0\0"
+        else:
+            out += packed(block)
     return bytes(out)

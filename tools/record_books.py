@@ -7,7 +7,7 @@ ORACLE is the oracle's folder, built; FOLDER is crates/vectors/data. Every seed 
 
 categories, walks and reads are the answers of the Rust (requests cat; alias, indir, rmw, missing, fields; read), writes
 those of its request writedoc, for books that are valid. checks is document 01's text on the form of books, refusals 1 to 5, as the
-function `check` of the oracle's book.py reads it: the Rust has no such test.
+function `check` of the oracle's book.py reads it: the Rust has no such test. tools/record_limits.py records the limits.
 """
 
 import itertools
@@ -21,18 +21,20 @@ CATEGORIES = ["None", "Primitive", "Alias", "Enum", "Array", "Struct", "Function
               "String", "Bitset", "Pointer", "Union", "Reference", "Interface"]
 PART = 30000
 TAPE, TEXT = 65520, 12288
+SCRATCH, LIST, RECORDS = 16384, 4096, 16384
+# The longest random book that is recorded.
 ROOM = 262144
 
 
-def add_book(file, data):
-    """The book, in parts that fit a page."""
+def add_book(file, data, place=0):
+    """Bytes of the book from a place on, in parts that fit a page."""
     at, first = 0, True
     while first or at < len(data):
         part = data[at:at + 512 * 128]
-        while len(packed(part)) > PART:
-            part = part[:len(part) // 2]
+        while len(packed_book(part)) > PART:
+            part = part[:len(part) // 1024 * 512]
+        file.add_in_order(BOOK, u32(place + at) + packed_book(part), u32(place + at + len(part)))
         at += len(part)
-        file.add_in_order(BOOK, bytes([0 if first else 1]) + packed(part), u32(at))
         first = False
 
 
@@ -63,19 +65,25 @@ class Recorder:
         answer = b"\0" + u32(int(words[1])) if words[0] == "ok" else refusal(words)
         file.add_in_order(operation, bytes([width]) + u32(n), answer)
 
-    def rmw(self, file, book, width, n):
+    def rmw(self, file, book, width, n, scratch=SCRATCH):
         words = self.ask("rmw", width, book, n)
         answer = refusal(words) if words[0] == "err" else bytes([0, words[0] == "yes"])
-        file.add_in_order(RMW, bytes([width]) + u32(n), answer)
+        self.add_rmw(file, width, n, scratch, answer)
 
-    def missing(self, file, book, width, n):
+    def add_rmw(self, file, width, n, scratch, answer):
+        file.add_in_order(RMW, bytes([width]) + u32(n) + u16(scratch), answer + b"\1")
+
+    def missing(self, file, book, width, n, scratch=SCRATCH, room=LIST):
         words = self.ask("missing", width, book, n)
         if words[0] == "err":
             answer = refusal(words)
         else:
             whole, count = (int(w.split("=")[1]) for w in words[-2:])
             answer = bytes([0, whole]) + u32(count) + b"".join(u32(int(w.rpartition("@")[2])) for w in words[1:-2])
-        file.add_in_order(MISSING, bytes([width]) + u32(n), answer)
+        self.add_missing(file, width, n, scratch, room, answer)
+
+    def add_missing(self, file, width, n, scratch, room, answer):
+        file.add_in_order(MISSING, bytes([width]) + u32(n) + u16(scratch) + u16(room), answer + b"\1\1")
 
     def fields(self, file, book, width, n):
         words = self.ask("fields", width, book, n)
@@ -87,18 +95,32 @@ class Recorder:
                 offset, size, block, _, field = word.split(",")
                 answer += u32(int(offset)) + u32(int(size)) + u32(int(block)) + u32(int(field))
         if len(answer) < 60000:
-            file.add_in_order(FIELDS, bytes([width]) + u32(n), answer)
+            self.add_fields(file, width, n, RECORDS, answer)
+
+    def add_fields(self, file, width, n, records, answer):
+        file.add_in_order(FIELDS, bytes([width]) + u32(n) + u16(records), answer + b"\1")
 
     def read(self, file, book, width, n, memory, tape=TAPE, text=TEXT):
         words = self.ask("read", width, book, n, memory, tape // 24, text)
         if words[0] == "err":
-            answer = refusal(words)
+            answer = refusal(words) + b"\1\1"
         else:
-            t, x = self.b.tape_from_tree(self.b.tree_from_events(words[1:]))
-            answer = b"\0" + u32(len(t)) + u32(len(x)) + packed(t + x)
+            answer = self.read_answer(self.b.tree_from_events(words[1:]))
         if len(answer) + len(memory) < 60000:
-            file.add_in_order(READ, bytes([width]) + u32(n) + u32(tape) + u32(text) + memory, answer + b"\1")
+            self.add_read(file, width, n, memory, tape, text, answer)
         return words
+
+    def read_answer(self, tree):
+        t, x = self.b.tape_from_tree(tree)
+        return b"\0" + u32(len(t) // 24) + u32(len(x)) + packed(t) + b"\1" + packed(x) + b"\1"
+
+    def add_read(self, file, width, n, memory, tape, text, answer):
+        file.add_in_order(READ, bytes([width]) + u32(n) + u16(tape) + u16(text) + memory, answer)
+
+    def lengths(self, words):
+        """Bytes of tape and text that an accepted read takes."""
+        t, x = self.b.tape_from_tree(self.b.tree_from_events(words[1:]))
+        return len(t), len(x)
 
     def write(self, file, book, width, n, image, tree):
         tape, text = self.b.tape_from_tree(tree)
@@ -263,7 +285,7 @@ class Recorder:
         yield b.Book([b.Type("S", size=4, fields=[b.Field("a", "S", 0, 4)])]), 8, 0
 
     def random(self, seed, count):
-        """That many random books that the program has room for, one in four drawn without sense."""
+        """That many random books, none of them long, one in four drawn without sense."""
         k = 0
         while count:
             rng = Random(seed + k)
@@ -273,7 +295,7 @@ class Recorder:
                 count -= 1
                 yield rng, made
 
-    def walks(self, count=5000):
+    def walks(self, count=5010):
         file = CaseFile()
 
         def all_of(data, width, root):
@@ -291,11 +313,11 @@ class Recorder:
             data = made.book.bytes()
             add_book(file, data)
             numbers = made.book.numbers()
-            for root in sorted({made.root} | set(rng.sample(numbers, min(2, len(numbers))))):
+            for root in sorted({made.root, rng.choice(numbers)}):
                 all_of(data, made.width, root)
         return file
 
-    def reads(self, count=5000):
+    def reads(self, count=5010):
         file, told, b = CaseFile(), {}, self.b
 
         def note(words):
@@ -314,18 +336,24 @@ class Recorder:
             if b.has_bom(memory) or len(memory) > 8192:
                 memory = bytes(min(len(memory), 8192))
             add_book(file, data)
-            note(self.read(file, data, made.width, made.root, memory))
+            words = self.read(file, data, made.width, made.root, memory)
+            note(words)
             damaged = memory[:-1] if rng.random() < 0.5 and memory else memory + b"\0"
             if rng.random() < 0.6 and memory:
                 damaged = bytearray(memory)
                 for _ in range(rng.randrange(1, 6)):
                     damaged[rng.randrange(len(memory))] = rng.randrange(256)
                 damaged = bytes(damaged)
-            if not b.has_bom(damaged):
+            if not b.has_bom(damaged) and rng.random() < 0.7:
                 note(self.read(file, data, made.width, made.root, damaged))
-            if rng.random() < 0.3:
-                note(self.read(file, data, made.width, made.root, memory, 24 * rng.randrange(8), TEXT))
-                note(self.read(file, data, made.width, made.root, memory, TAPE, rng.randrange(12)))
+            if rng.random() < 0.25 and words[0] == "ok":
+                # Rooms that just suffice, a record short, a byte short.
+                t, x = self.lengths(words)
+                for tape, text in ((t, x), (t - rng.choice([1, 24]), x), (t, x - 1)):
+                    if tape <= TAPE and 0 <= text <= TEXT:
+                        note(self.read(file, data, made.width, made.root, memory, tape, text))
+            elif rng.random() < 0.1:
+                note(self.read(file, data, made.width, made.root, memory, 24 * rng.randrange(8), rng.randrange(12)))
         print("reads:", dict(sorted(told.items())))
         return file
 
@@ -355,4 +383,5 @@ def main():
     rec.oracle.close()
 
 
-main()
+if __name__ == "__main__":
+    main()

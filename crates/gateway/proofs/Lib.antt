@@ -1,2 +1,4 @@
--- Laws that the functions' proofs cite.
+-- Laws that the functions' proofs cite, and those that a caller leans on.
 mod Numbers
+mod Parts
+pub mod Boundary

@@ -1,30 +1,13 @@
 -- The answers of the calls below as numbers. Assumes nothing.
 use mathlib.Core.Path.{_≡_}
-use mathlib.Core.Bool.{Bool, true, false, cond}
+use mathlib.Core.Bool.{cond}
 use mathlib.Core.List.{List}
 use Prim.Native.Nat.{ℕ, _+_}
 use lib.ListN.{length}
 use Rattle.utf_8.specs.Buffer.{splice, fitsIn}
-use Rattle.utf_8.specs.declared.Put.{Put}
-use Rattle.utf_8.specs.declared.Put.the-variants.{Next, Full}
 use Rattle.typebook.specs.Find.{FoundBy}
 use Rattle.typebook.specs.declared.type_provider.Found.{Found}
-use Rattle.typebook.specs.declared.type_provider.Found.the-variants.{At, Nothing}
-
--- the place after the written bytes, or 2^64 − 1 where they do not fit
-abbrev pub placeNumber : Put → ℕ
-placeNumber (Next n) = n
-placeNumber Full = 0xffff_ffff_ffff_ffff
-
--- the block, or 2^32 − 1 where there is none
-abbrev pub foundNumber : Found → ℕ
-foundNumber (At n) = n
-foundNumber Nothing = 0xffff_ffff
-
--- 1 for true, 0 for false
-abbrev pub truthNumber : Bool → ℕ
-truthNumber true = 1
-truthNumber false = 0
+use Rattle.answers.specs.Numbers.{foundNumber}
 
 -- `xs` written into `out` from `at` on, or the buffer as it was where it does not fit
 pub record WroteAs (xs out : List ℕ) (at r : ℕ) (out′ : List ℕ) : Type 0 where

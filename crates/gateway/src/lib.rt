@@ -7,92 +7,55 @@ ghost use Rattle.utf_16.specs.Encode as utf16Encode;
 ghost use Rattle.typebook.specs.Find.{find as findIn, IndexOf};
 ghost use Rattle.utf_8.specs.Utf8.{wellFormed};
 ghost use Rattle.book_check.specs.Check.{checkBook, bookRefusal};
-ghost use Rattle.gateway.specs.Numbers.{placeNumber, foundNumber, truthNumber, WroteAs, FoundAs};
-use book_check::BookCheck;
-use typebook::type_provider::Found;
-use utf_8::Put;
+ghost use Rattle.answers.specs.Numbers.{foundNumber, truthNumber};
+ghost use Rattle.gateway.specs.Numbers.{WroteAs, FoundAs};
+use answers::numbers;
 
-// The place after the written bytes, or 2^64 - 1 where they do not fit.
-fn place(p: Put) -> u64
-    ensures { λ r. ⌜ r ≡ placeNumber p ⌝ }
-{
-    match p {
-        Put::Next(n) => n as u64,
-        Put::Full => 0xffff_ffff_ffff_ffff,
-    }
-}
-
-// The block, or 2^32 - 1 where there is none.
-fn found(f: Found) -> u32
-    ensures { λ r. ⌜ r ≡ foundNumber f ⌝ }
-{
-    match f {
-        Found::At(n) => n,
-        Found::Nothing => 0xffff_ffff,
-    }
-}
-
-fn truth(b: bool) -> u8
-    ensures { λ r. ⌜ r ≡ truthNumber b ⌝ }
-{
-    if b {
-        return 1;
-    }
-    0
-}
-
-fn refusal(check: BookCheck) -> u8
-    ensures { λ r. ⌜ r ≡ bookRefusal check ⌝ }
-{
-    match check {
-        BookCheck::Valid => 0,
-        BookCheck::Size => 1,
-        BookCheck::Sum => 2,
-        BookCheck::Form => 3,
-        BookCheck::Doubled => 4,
-    }
-}
+pub mod book;
+pub mod read;
+pub mod resolve;
+pub mod walk;
 
 #[no_mangle]
 pub extern "C" fn gateway_windows_1252_decode(bytes: &[u8], out: &mut [u8], at: usize) -> u64
     ensures { λ r. ⌜ WroteAs (windows1252.decodeText (now (bytes .entry))) (now (out .entry)) at r (now (out .exit)) ⌝ }
 {
-    place(windows_1252::decode(bytes, out, at))
+    numbers::place(windows_1252::decode(bytes, out, at))
 }
 
 #[no_mangle]
 pub extern "C" fn gateway_windows_1252_encode(text: &[u8], out: &mut [u8]) -> u64
     ensures { λ r. ⌜ WroteAs (windows1252.encodeText (now (text .entry))) (now (out .entry)) 0 r (now (out .exit)) ⌝ }
 {
-    place(windows_1252::encode(text, out))
+    numbers::place(windows_1252::encode(text, out))
 }
 
 #[no_mangle]
 pub extern "C" fn gateway_utf_16_decode(bytes: &[u8], out: &mut [u8], at: usize) -> u64
     ensures { λ r. ⌜ WroteAs (utf16Decode.decodeText (now (bytes .entry))) (now (out .entry)) at r (now (out .exit)) ⌝ }
 {
-    place(utf_16::decode(bytes, out, at))
+    numbers::place(utf_16::decode(bytes, out, at))
 }
 
 #[no_mangle]
 pub extern "C" fn gateway_utf_16_encode(text: &[u8], out: &mut [u8]) -> u64
     ensures { λ r. ⌜ WroteAs (utf16Encode.encodeText (now (text .entry))) (now (out .entry)) 0 r (now (out .exit)) ⌝ }
 {
-    place(utf_16::encode(text, out))
+    numbers::place(utf_16::encode(text, out))
 }
 
 #[no_mangle]
 pub extern "C" fn gateway_find(book: &[u8], name: &[u8]) -> u32
     ensures { λ r. ⌜ r ≡ foundNumber (findIn (now (book .entry)) (now (name .entry))) ⌝ }
 {
-    found(typebook::type_provider::find(book, name))
+    numbers::found(typebook::type_provider::find(book, name))
 }
 
 #[no_mangle]
 pub extern "C" fn gateway_find_by(book: &[u8], index: &[u32], name: &[u8]) -> u32
     ensures { λ r. ⌜ FoundAs (now (book .entry)) (now (name .entry)) r ⌝ }
 {
-    found(typebook::type_provider::find_by(book, index, name))
+    numbers::found(typebook::type_provider::find_by(book, index, name))
 }
 
 #[no_mangle]
@@ -107,7 +70,7 @@ pub extern "C" fn gateway_fill_index(book: &[u8], index: &mut [u32])
 pub extern "C" fn gateway_utf_8_well_formed(text: &[u8]) -> u8
     ensures { λ r. ⌜ r ≡ truthNumber (wellFormed (now (text .entry))) ⌝ }
 {
-    truth(utf_8::decoder::well_formed(text))
+    numbers::truth(utf_8::decoder::well_formed(text))
 }
 
 // Document 01's number: 0 where the book is valid, else 1 to 4.
@@ -115,5 +78,5 @@ pub extern "C" fn gateway_utf_8_well_formed(text: &[u8]) -> u8
 pub extern "C" fn gateway_check_book(buffer: &[u8], len: usize) -> u8
     ensures { λ r. ⌜ r ≡ bookRefusal (checkBook (now (buffer .entry)) len) ⌝ }
 {
-    refusal(book_check::check_book(buffer, len))
+    numbers::refusal(book_check::check_book(buffer, len))
 }

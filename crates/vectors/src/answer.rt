@@ -19,7 +19,7 @@ pub(crate) fn put_bytes(answer: &mut [u8], at: usize, bytes: &[u8]) -> usize {
     to
 }
 
-pub(crate) fn put_zeros(answer: &mut [u8], at: usize, n: u8) -> usize {
+pub(crate) fn put_zeros(answer: &mut [u8], at: usize, n: usize) -> usize {
     let mut to = at;
     let mut i = 0;
     while i < n {
@@ -46,4 +46,10 @@ pub(crate) fn put_u64(answer: &mut [u8], at: usize, value: u64) -> usize {
 pub(crate) fn put_done(answer: &mut [u8], value: usize) -> usize {
     let at = put_byte(answer, 0, 0);
     put_u64(answer, at, value as u64)
+}
+
+// Document 01's 7, with the block whose type name is not in the book.
+pub(crate) fn put_not_found(answer: &mut [u8], block: u32) -> usize {
+    let at = put_byte(answer, 0, 7);
+    put_u32(answer, at, block)
 }

@@ -4,16 +4,38 @@ mod answer;
 mod books;
 mod encodings;
 mod input;
+mod lent;
 mod numbers;
 mod operation;
+mod packing;
+mod reads;
 mod replay;
 mod report;
+mod resolving;
+mod sums;
 
 fn main() {
-    replay::file(b"windows-1252");
-    replay::file(b"utf-16");
-    replay::file(b"utf-8");
-    replay::file(b"numbers");
-    replay::file(b"checks");
-    replay::file(b"categories");
+    let mut book = replay::book_buffer();
+    texts_and_numbers(&mut book);
+    checks_and_walks(&mut book);
+    reads_and_limits(&mut book);
+}
+
+// Each file has the buffer for the book that is kept from case to case.
+fn texts_and_numbers(book: &mut [u8]) {
+    replay::file(b"windows-1252", book);
+    replay::file(b"utf-16", book);
+    replay::file(b"utf-8", book);
+    replay::file(b"numbers", book);
+}
+
+fn checks_and_walks(book: &mut [u8]) {
+    replay::file(b"checks", book);
+    replay::file(b"categories", book);
+    replay::file(b"walks", book);
+}
+
+fn reads_and_limits(book: &mut [u8]) {
+    replay::file(b"reads", book);
+    replay::file(b"limits", book);
 }

@@ -3,6 +3,8 @@ use crate::books;
 use crate::encodings;
 use crate::input::u32_at;
 use crate::numbers;
+use crate::reads;
+use crate::resolving;
 
 // The operation that makes the kept book: its answer is the book's length.
 const KEEP: u8 = 64;
@@ -72,10 +74,16 @@ fn run_number(operation: u8, input: &[u8], out: &mut [u8], answer: &mut [u8]) ->
 
 fn run_book(operation: u8, input: &[u8], book: &mut [u8], len: usize, answer: &mut [u8]) -> usize {
     match operation {
-        64 => books::keep(input, book, len, answer),
+        64 => books::keep(input, book, answer),
         65 => books::check_root(input, book, len, answer),
         66 => books::changed(input, book, len, answer),
         67 => books::determine(input, book, len, answer),
+        68 => resolving::alias(input, book, len, answer),
+        69 => resolving::indirection(input, book, len, answer),
+        70 => resolving::rmw(input, book, len, answer),
+        71 => resolving::missing(input, book, len, answer),
+        72 => resolving::fields(input, book, len, answer),
+        73 => reads::read(input, book, len, answer),
         _ => 0,
     }
 }

@@ -6,18 +6,16 @@ use crate::input::byte_at;
 use crate::input::first;
 use crate::input::from;
 use crate::input::u16_at;
+use crate::lent::FILL;
 use crate::operation;
 use crate::report;
 use crate::report::Tally;
 
-// What a lent buffer holds before each case.
-const FILL: u8 = 0xa5;
-
 // The length of a case's fields before its input: operation, length of the lent buffer, length of the input.
 const HEAD: usize = 5;
 
-// Room for the longest recorded book, of 512 blocks.
-const BOOK: usize = 262144;
+// Room for the longest recorded book, of 9,216 blocks.
+const BOOK: usize = 4718592;
 
 // Reads the next page into `page` and returns its length: 0 at the end of the file, and where a page is cut short or
 // longer than the buffer.
@@ -36,8 +34,8 @@ fn read_page(fd: i32, page: &mut [u8]) -> usize {
 }
 
 // Zeros for the book that is kept. The length is what lending the array as a slice needs.
-fn book_buffer() -> [u8; BOOK]
-    ensures { λ r. ⌜ 262144 ≡ length r ⌝ }
+pub(crate) fn book_buffer() -> [u8; BOOK]
+    ensures { λ r. ⌜ 4718592 ≡ length r ⌝ }
 {
     [0; BOOK]
 }
@@ -156,17 +154,16 @@ fn run_pages(
 }
 
 // Replays the cases of a file of the folder and writes how many there were, and how many differ.
-pub(crate) fn file(name: &[u8]) {
+pub(crate) fn file(name: &[u8], book: &mut [u8]) {
     let fd = os::open_read(name);
     if fd < 0 {
         os::fail(name);
         return;
     }
     let mut page = io::large_buffer();
-    let mut book = book_buffer();
     let mut work = io::large_buffer();
     let mut answer = io::large_buffer();
-    let tally = run_pages(fd, &mut page, &mut book, &mut work, &mut answer);
+    let tally = run_pages(fd, &mut page, book, &mut work, &mut answer);
     libc::close(fd);
     report::total(name, tally);
 }

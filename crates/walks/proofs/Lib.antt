@@ -5,7 +5,7 @@ mod Bits
 mod Turns
 mod Lists
 mod Rmws
-mod Ends
+pub mod Ends
 pub mod Goes
 pub mod Reach
 pub mod Missings

@@ -9,6 +9,7 @@ use lib.ListN.{length, take, drop, set, take-append-drop, length-set}
 use lib.Seq.{take-suc-set, drop-set-lt, drop-drop, length-take-le}
 use Rattle.resolvers.specs.declared.Resolved.{Resolved}
 use Rattle.resolvers.specs.declared.Resolved.the-variants.{Base, Lacks, Endless}
+use Rattle.type_category.specs.declared.type_category.AdsTypeCategory.{AdsTypeCategory}
 use Rattle.walks.specs.declared.Event.{Event}
 use Rattle.walks.specs.declared.Event.the-variants.{Old, Lacking, New, Long, Full}
 use Rattle.walks.specs.declared.Turn.{Turn}
@@ -58,7 +59,7 @@ module _ {w next : Walk} {b : ℕ} {x : List ℕ} (e : w ≡ met b x Endless nex
 falls-due : (sc : List ℕ) (left m : ℕ) (e : Event) → Falls sc left m e → Due left e
 falls-due sc left m (Old d) f = tt
 falls-due sc left m (Lacking c d) f = f .0
-falls-due sc left m (New t d) f = f .0
+falls-due sc left m (New t d c) f = f .0
 falls-due sc left m (Long d) f = f .0
 falls-due sc left m Full f = f
 
@@ -72,8 +73,8 @@ module _ (left : ℕ) {e : Event} (p : IsDue left e) where
   due-as : (x : Event) → e ≡ x → Due left x
   due-as x h = subst (λ (y : Event). Due left y) h (p .due)
 
-  pub due-new : (t d : ℕ) → e ≡ New t d → 0 < left
-  due-new t d h = due-as (New t d) h
+  pub due-new : (t d : ℕ) (c : AdsTypeCategory) → e ≡ New t d c → 0 < left
+  due-new t d c h = due-as (New t d c) h
 
   pub due-lacking : (c d : ℕ) → e ≡ Lacking c d → 0 < left
   due-lacking c d h = due-as (Lacking c d) h
@@ -94,9 +95,9 @@ module _ (list : List ℕ) (left n : ℕ) (ok : Bool) {e : Event} (p : IsDue lef
         falls = λ sc m f. subst (λ (y : Event). Falls sc left m y) h f;
       }
 
-  pub apply-new : (t d : ℕ) → e ≡ New t d → Applied e list left n ok (turn.More (left - 1) d n ok) list
-  apply-new t d h =
-      let l = due-new left p t d h in
+  pub apply-new : (t d : ℕ) (c : AdsTypeCategory) → e ≡ New t d c → Applied e list left n ok (turn.More (left - 1) d n ok) list
+  apply-new t d c h =
+      let l = due-new left p t d c h in
       record {
         goes = λ book width all list₀ sc w q a.
             let g = subst (λ (y : Event). After book width sc (take n list) left w y) h a in
@@ -236,7 +237,7 @@ pend-falls : (sc : List ℕ) (left : ℕ) (e : Event) → Due left e → Falls s
 unfolding pend
 pend-falls sc left (Old d) p = omega arith
 pend-falls sc left (Lacking c d) p = (p, omega arith)
-pend-falls sc left (New t d) p = (p, omega arith)
+pend-falls sc left (New t d c) p = (p, omega arith)
 pend-falls sc left (Long d) p = (p, omega arith)
 pend-falls sc left Full p = p
 
@@ -244,7 +245,7 @@ falls-pend : (sc : List ℕ) (left m : ℕ) (e : Event) → Falls sc left m e �
 unfolding pend
 falls-pend sc left m (Old d) f = omega arith
 falls-pend sc left m (Lacking c d) f = let g = f .1 in omega arith
-falls-pend sc left m (New t d) f = let g = f .1 in omega arith
+falls-pend sc left m (New t d c) f = let g = f .1 in omega arith
 falls-pend sc left m (Long d) f = let g = f .1 in omega arith
 falls-pend sc left m Full f = omega arith
 

@@ -44,68 +44,70 @@ rmw-full book width e = ap (rmwOf book width) e
 
 -- ---- an event is decided
 
-module _ (book : List ℕ) (width left : ℕ) {e : Event} where
-  after-as : (x : Event) → e ≡ x → (sc : List ℕ) (w : Walk) → After book width sc [] left w e → After book width sc [] left w x
-  after-as x h sc w a = subst (λ (y : Event). After book width sc [] left w y) h a
+module _ (left : ℕ) {e : Event} where
+  after-as : (x : Event) → e ≡ x → (book : List ℕ) (width : ℕ) (sc : List ℕ) (w : Walk) → After book width sc [] left w e → After book width sc [] left w x
+  after-as x h book width sc w a = subst (λ (y : Event). After book width sc [] left w y) h a
 
   falls-as : (x : Event) → e ≡ x → (sc : List ℕ) (m : ℕ) → Falls sc left m e → Falls sc left m x
   falls-as x h sc m f = subst (λ (y : Event). Falls sc left m y) h f
 
-  pub decide-old : (d : ℕ) → e ≡ Old d → Decided book width e left (turn.More left d)
+  pub decide-old : (d : ℕ) → e ≡ Old d → Decided e left (turn.More left d)
   unfolding workRmw
   decide-old d h =
       record {
-        goes = λ all sc w q a. record { rest = w; left-over = after-as (Old d) h sc w a; reads = q };
+        goes = λ book width all sc w q a. record { rest = w; left-over = after-as (Old d) h book width sc w a; reads = q };
         falls = λ sc m f. omega (arith, falls-as (Old d) h sc m f);
       }
 
-  module _ (t d : ℕ) (h : e ≡ New t d) (c : AdsTypeCategory) (ec : c ≡ categoryOf book width t) (g : Bool) (eg : g ≡ keepsState c) where
-    pub decide-block : g ≡ true → Decided book width e left (turn.Is rmw.Yes)
+  module _ (t d : ℕ) (c : AdsTypeCategory) (h : e ≡ New t d c) (g : Bool) (eg : g ≡ keepsState c) where
+    pub decide-block : g ≡ true → Decided e left (turn.Is rmw.Yes)
     unfolding workRmw
     decide-block k =
         record {
-          goes = λ all sc w q a. sym (q ∙ rmw-block book width (after-as (New t d) h sc w a .is) (rw (← ec) (sym eg ∙ k)));
+          goes = λ book width all sc w q a.
+              let g = after-as (New t d c) h book width sc w a in
+              sym (q ∙ rmw-block book width (g .is) (rw (← g .kind) (sym eg ∙ k)));
           falls = λ sc m f. omega arith;
         }
 
-    pub decide-new : g ≡ false → Decided book width e left (turn.More (left - 1) d)
+    pub decide-new : g ≡ false → Decided e left (turn.More (left - 1) d)
     unfolding workRmw
     decide-new k =
         record {
-          goes = λ all sc w q a.
-              let g = after-as (New t d) h sc w a in
-              record { rest = g .next; left-over = g .left-over; reads = q ∙ rmw-other book width (g .is) (rw (← ec) (sym eg ∙ k)) };
-          falls = λ sc m f. omega (arith, falls-as (New t d) h sc m f .1);
+          goes = λ book width all sc w q a.
+              let g = after-as (New t d c) h book width sc w a in
+              record { rest = g .next; left-over = g .left-over; reads = q ∙ rmw-other book width (g .is) (rw (← g .kind) (sym eg ∙ k)) };
+          falls = λ sc m f. omega (arith, falls-as (New t d c) h sc m f .1);
         }
 
-  pub decide-lacking : (c d : ℕ) → e ≡ Lacking c d → Decided book width e left (turn.Is (rmw.NotFound c))
+  pub decide-lacking : (c d : ℕ) → e ≡ Lacking c d → Decided e left (turn.Is (rmw.NotFound c))
   unfolding workRmw
   decide-lacking c d h =
       record {
-        goes = λ all sc w q a. sym (q ∙ rmw-lacking book width (after-as (Lacking c d) h sc w a .is));
+        goes = λ book width all sc w q a. sym (q ∙ rmw-lacking book width (after-as (Lacking c d) h book width sc w a .is));
         falls = λ sc m f. omega arith;
       }
 
-  pub decide-long : (d : ℕ) → e ≡ Long d → Decided book width e left (turn.Is (rmw.Refused 8))
+  pub decide-long : (d : ℕ) → e ≡ Long d → Decided e left (turn.Is (rmw.Refused 8))
   unfolding workRmw
   decide-long d h =
       record {
-        goes = λ all sc w q a. sym (q ∙ rmw-long book width (after-as (Long d) h sc w a .is));
+        goes = λ book width all sc w q a. sym (q ∙ rmw-long book width (after-as (Long d) h book width sc w a .is));
         falls = λ sc m f. omega arith;
       }
 
-  pub decide-full : e ≡ Full → Decided book width e left (turn.Is (rmw.Refused 9))
+  pub decide-full : e ≡ Full → Decided e left (turn.Is (rmw.Refused 9))
   unfolding workRmw
   decide-full h =
       record {
-        goes = λ all sc w q a. sym (q ∙ rmw-full book width (after-as Full h sc w a .is));
+        goes = λ book width all sc w q a. sym (q ∙ rmw-full book width (after-as Full h book width sc w a .is));
         falls = λ sc m f. omega arith;
       }
 
 -- ---- the loop
 
-pub here-start : (book : List ℕ) (width root : ℕ) {sc : List ℕ} {e : Event} {r : TurnRmw} → Started book width root e sc → Decided book width e 4096 r → HereRmw book width (walkOf book width root) sc r
-here-start book width root {sc} s d = record { so = d .goes (walkOf book width root) sc (walkOf book width root) refl (s .goes) }
+pub here-start : (book : List ℕ) (width root : ℕ) {sc : List ℕ} {e : Event} {r : TurnRmw} → Started book width root e sc → Decided e 4096 r → HereRmw book width (walkOf book width root) sc r
+here-start book width root {sc} s d = record { so = d .goes book width (walkOf book width root) sc (walkOf book width root) refl (s .goes) }
 
 module _ (book : List ℕ) (width root : ℕ) {sc : List ℕ} {here : TurnRmw} (q : HereRmw book width (walkOf book width root) sc here) where
   here-as : (x : TurnRmw) → here ≡ x → ThenRmw book width (walkOf book width root) sc x
@@ -125,11 +127,11 @@ module _ (book : List ℕ) (width root : ℕ) {sc : List ℕ} {here : TurnRmw} (
         let a = here-as (turn.More left depth) h in
         sym (a .reads ∙ ap (rmwOf book width) (over-is book width [] (a .left-over) (omega arith)))
 
-    module _ {sc′ : List ℕ} {e : Event} {r : TurnRmw} (s : Stepped book width sc [] left depth e sc′) (d : Decided book width e left r) where
+    module _ {sc′ : List ℕ} {e : Event} {r : TurnRmw} (s : Stepped book width sc [] left depth e sc′) (d : Decided e left r) where
       pub here-again : HereRmw book width (walkOf book width root) sc′ r
       here-again =
           let a = here-as (turn.More left depth) h in
-          record { so = d .goes (walkOf book width root) sc′ (a .rest) (a .reads) (s .goes (a .rest) (a .left-over)) }
+          record { so = d .goes book width (walkOf book width root) sc′ (a .rest) (a .reads) (s .goes (a .rest) (a .left-over)) }
 
       pub here-falls : workRmw sc′ r < workRmw sc here
       unfolding workRmw

@@ -1,6 +1,6 @@
 -- The stack and the bits lie apart. Assumes nothing.
 use mathlib.Core.Path.{_≡_, refl, sym, ap, _∙_}
-use mathlib.Core.Bool.{true}
+use mathlib.Core.Bool.{Bool, true, false}
 use mathlib.Core.List.{List, [], _∷_, _++_}
 use Prim.Native.Nat.{ℕ, zero, suc, _+_, _*_, _-_, _/_, _%_, _≤_, _<_}
 use native.Mathlib.Omega.{arith}
@@ -13,12 +13,13 @@ use Rattle.type_category.specs.Category.{categoryOf}
 use Rattle.book_check.specs.Check.{ValidBook}
 use Rattle.resolvers.specs.declared.Resolved.{Resolved}
 use Rattle.resolvers.specs.declared.Resolved.the-variants.{Base, Lacks, Endless}
-use Rattle.resolvers.specs.Resolve.{resolveAlias, ResolvedIs}
+use Rattle.resolvers.specs.Resolve.{goesOn, isFollowed, resolveAlias, ResolvedIs}
+use Rattle.resolvers.proofs.Chains.{follow-base}
 use Rattle.walks.specs.declared.Parts.{Parts}
 use Rattle.walks.specs.declared.Parts.the-variants.{Element, Fields, Nothing}
 use Rattle.walks.specs.declared.Event.the-variants.{New, Lacking, Long}
 use Rattle.walks.specs.Walk.{partsKind, after, partsIn, partsOf}
-use Rattle.walks.specs.State.{entryOf, stackOf, markedIn, Took, Pushed, Marked, Dead, Settles}
+use Rattle.walks.specs.State.{entryOf, stackOf, markedIn, Took, Pushed, Marked, Grown, Dead, Settles}
 use Rattle.walks.proofs.Places.{fields-below, alias-not-part}
 
 pub stack-set : (sc : List ℕ) (i x d : ℕ) → d ≤ i → stackOf (set sc i x) d ≡ stackOf sc d
@@ -77,81 +78,103 @@ unfolding after
 after-few t zero = refl
 after-few t (suc k) = ap suc (after-few t k)
 
-module _ (book : List ℕ) (width : ℕ) (sc : List ℕ) (depth t : ℕ) (l : depth < 4096) (z : 16384 ≤ length sc) where
-  laid : (n : ℕ) → n < 65536 → entryOf t n ≡ partsOf book width t → length (partsOf book width t) ≤ 65535 → Pushed book width sc depth t (depth + 1) (set sc depth (t * 65536 + n))
+module _ (book : List ℕ) (sc : List ℕ) (depth t : ℕ) (l : depth < 4096) (z : 16384 ≤ length sc) (c : AdsTypeCategory) where
+  abbrev parts : List ℕ
+  parts = partsIn book t (partsKind c)
+
+  laid : (n : ℕ) → n < 65536 → entryOf t n ≡ parts → length parts ≤ 65535 → Pushed book c sc depth t (depth + 1) (set sc depth (t * 65536 + n))
   unfolding stackOf
   laid n h e f =
       let s = getD-set-same sc depth (t * 65536 + n) 0 (omega arith) in
       let a : (t * 65536 + n) / 65536 ≡ t = omega arith in
       let b : (t * 65536 + n) % 65536 ≡ n = omega arith in
-      let q : stackOf (set sc depth (t * 65536 + n)) (depth + 1) ≡ partsOf book width t ++ stackOf sc depth =
+      let q : stackOf (set sc depth (t * 65536 + n)) (depth + 1) ≡ parts ++ stackOf sc depth =
       ap (stackOf (set sc depth (t * 65536 + n))) (add-one depth)
       ∙ rw (s, stack-set sc depth (t * 65536 + n) depth (omega arith), a, b, e) in
       record { top = q; marks = λ u. marks-set sc depth (t * 65536 + n) u l; more = omega arith; few = rw (q, length-append) (omega arith) }
 
-  kept : [] ≡ partsOf book width t → Pushed book width sc depth t depth sc
+  kept : [] ≡ parts → Pushed book c sc depth t depth sc
   kept e = record { top = rw (← e); marks = λ u. refl; more = omega arith; few = omega arith }
 
-  module _ (c : AdsTypeCategory) (ec : c ≡ categoryOf book width t) (k : Parts) (ek : k ≡ partsKind c) where
-    kind-is : (x : Parts) → k ≡ x → partsOf book width t ≡ partsIn book t x
-    unfolding partsOf
-    kind-is x h = rw (← ec, ← ek, h)
+  module _ (k : Parts) (ek : k ≡ partsKind c) where
+    kind-is : (x : Parts) → k ≡ x → parts ≡ partsIn book t x
+    kind-is x h = ap (partsIn book t) (sym ek ∙ h)
 
-    pub push-element : k ≡ Element → Pushed book width sc depth t (depth + 1) (set sc depth (t * 65536))
+    pub push-element : k ≡ Element → Pushed book c sc depth t (depth + 1) (set sc depth (t * 65536))
     unfolding partsIn entryOf
     push-element h =
         let q : t * 65536 + 0 ≡ t * 65536 = omega arith in
         let p = kind-is Element h in
         rw q at (laid 0 (omega arith) (sym p) (rw p (omega arith)))
 
-    pub push-nothing : k ≡ Nothing → Pushed book width sc depth t depth sc
+    pub push-nothing : k ≡ Nothing → Pushed book c sc depth t depth sc
     unfolding partsIn
     push-nothing h = kept (sym (kind-is Nothing h))
 
     module _ (h : k ≡ Fields) (n : ℕ) (en : n ≡ fieldsOf book t) where
-      fields : partsOf book width t ≡ after t n
+      fields : parts ≡ after t n
       unfolding partsIn
       fields = kind-is Fields h ∙ rw (← en)
 
-      pub push-none : n ≡ 0 → Pushed book width sc depth t depth sc
+      pub push-none : n ≡ 0 → Pushed book c sc depth t depth sc
       unfolding after
       push-none e = kept (sym (fields ∙ ap (after t) e))
 
-      pub push-fields : ValidBook book → isType book t ≡ true → (n ≡ 0 → ⊥) → Pushed book width sc depth t (depth + 1) (set sc depth (t * 65536 + n))
+      pub push-fields : ValidBook book → isType book t ≡ true → (n ≡ 0 → ⊥) → Pushed book c sc depth t (depth + 1) (set sc depth (t * 65536 + n))
       unfolding entryOf
       push-fields v y e =
           let q : n ≡ suc (n - 1) = omega arith in
           let b : n < 65536 = fields-below book t v y n en in
           laid n b (ap (entryOf t) q ∙ ap (after t) (sym q) ∙ sym fields) (rw (fields, after-few) (omega arith))
 
--- ---- settle
+-- ---- expand, settle
 
-module _ (book : List ℕ) (width : ℕ) (sc : List ℕ) (depth t : ℕ) (y : isType book t ≡ true) (l : depth < 4096) {sc₁ : List ℕ} (m : Marked sc t sc₁) {a : Resolved}
+pub grow : (book sc : List ℕ) (depth t u : ℕ) (c : AdsTypeCategory) → depth < 4096 → {sc₁ : List ℕ} → Marked sc t sc₁ → {r : ℕ} {sc₂ : List ℕ}
+    → Pushed book c sc₁ depth u r sc₂ → Grown book c sc depth t u r sc₂
+grow book sc depth t u c l m p =
+    let s = m .stack depth (omega arith) in
+    record { top = rw (← s) (p .top); marks = λ u. p .marks u ∙ m .marks u; more = p .more; few = rw (← s) (p .few) }
+
+-- what a type of category c comes to, and its parts
+expanded : (book : List ℕ) (width : ℕ) (sc : List ℕ) (depth t u : ℕ) (c : AdsTypeCategory) → c ≡ categoryOf book width u → resolveAlias book width t ≡ Base u
+    → isType book u ≡ true → {r : ℕ} {sc₂ : List ℕ} → Grown book c sc depth t u r sc₂ → Settles book width sc depth t (New u r c) sc₂
+unfolding partsOf
+expanded book width sc depth t u c ec to y g =
+    record {
+      so = record {
+        kind = ec;
+        to = to;
+        typed = y;
+        top = rw (← ec) (g .top);
+        marks = g .marks;
+        more = g .more;
+        few = g .few;
+      };
+    }
+
+pub settle-own : (book : List ℕ) (width : ℕ) (sc : List ℕ) (depth t : ℕ) (c : AdsTypeCategory) → c ≡ categoryOf book width t → (g : Bool) → g ≡ goesOn false c → g ≡ false
+    → isType book t ≡ true → {r : ℕ} {sc₂ : List ℕ} → Grown book c sc depth t t r sc₂ → Settles book width sc depth t (New t r c) sc₂
+unfolding isFollowed
+settle-own book width sc depth t c ec g eg h y =
+    expanded book width sc depth t t c ec (follow-base (isFollowed false book width) book 31 t (rw (← ec) (sym eg ∙ h))) y
+
+module _ (book : List ℕ) (width : ℕ) (sc : List ℕ) (depth t : ℕ) (y : isType book t ≡ true) (l : depth < 4096) {a : Resolved}
     (ra : ResolvedIs book (resolveAlias book width t) a) where
-  dead : Dead sc depth t depth sc₁
-  dead = record { top = m .stack depth (omega arith); marks = m .marks; more = omega arith }
+  pub settle-base : (u : ℕ) → a ≡ Base u → (c : AdsTypeCategory) → c ≡ categoryOf book width u → {r : ℕ} {sc₂ : List ℕ} → Grown book c sc depth t u r sc₂
+      → Settles book width sc depth t (New u r c) sc₂
+  settle-base u e c ec = expanded book width sc depth t u c ec (sym (ra .is) ∙ e) (ra .typed u e)
 
-  pub settle-base : (u : ℕ) → a ≡ Base u → {r : ℕ} {sc₂ : List ℕ} → Pushed book width sc₁ depth u r sc₂ → Settles book width sc depth t (New u r) sc₂
-  settle-base u e p =
-      let s = m .stack depth (omega arith) in
-      record {
-        so = record {
-          to = sym (ra .is) ∙ e;
-          typed = ra .typed u e;
-          top = rw (← s) (p .top);
-          marks = λ u. p .marks u ∙ m .marks u;
-          more = p .more;
-          few = rw (← s) (p .few);
-        };
-      }
+  module _ {sc₁ : List ℕ} (m : Marked sc t sc₁) where
+    dead : Dead sc depth t depth sc₁
+    dead = record { top = m .stack depth (omega arith); marks = m .marks; more = omega arith }
 
-  pub settle-lacks : (c : ℕ) → a ≡ Lacks c → Settles book width sc depth t (Lacking c depth) sc₁
-  settle-lacks c e =
-      let q = sym (ra .is) ∙ e in
-      record { so = record { to = q; alias = alias-not-part book width t c y q; dead = dead } }
+    pub settle-lacks : (c : ℕ) → a ≡ Lacks c → Settles book width sc depth t (Lacking c depth) sc₁
+    settle-lacks c e =
+        let q = sym (ra .is) ∙ e in
+        record { so = record { to = q; alias = alias-not-part book width t c y q; dead = dead } }
 
-  pub settle-long : a ≡ Endless → Settles book width sc depth t (Long depth) sc₁
-  settle-long e = record { so = record { to = sym (ra .is) ∙ e; dead = dead } }
+    pub settle-long : a ≡ Endless → Settles book width sc depth t (Long depth) sc₁
+    settle-long e = record { so = record { to = sym (ra .is) ∙ e; dead = dead } }
 
 pub base-type : (book : List ℕ) (answer : Resolved) (u : ℕ) {a : Resolved} → ResolvedIs book answer a → a ≡ Base u → isType book u ≡ true
 base-type book answer u r h = r .typed u h

@@ -124,8 +124,9 @@ module _ (book : List ℕ) (width : ℕ) (ls : List ℕ) (v : List (List ℕ)) (
         is = met-as (Lacks c) (s .to);
         left-over = dead-left (s .dead) (ls ++ (c ∷ [])) (seen-alias book ls sc′ c (s .alias));
       }
-  settled-after (New u k) sc′ x =
+  settled-after (New u k c) sc′ x =
       record {
+        kind = x .kind;
         by = b;
         name = y;
         next = walk book width (left - 1) (y ∷ v) (partsOf book width u ++ stackOf sc d);
@@ -153,7 +154,7 @@ settled-falls : (book : List ℕ) (width : ℕ) (sc : List ℕ) (left d t m : �
 unfolding work
 settled-falls book width sc left d t m n h (Old k) sc′ s = absurd s
 settled-falls book width sc left d t m n h (Lacking c k) sc′ s = (n, omega (arith, ap length (s .dead .top)))
-settled-falls book width sc left d t m n h (New u k) sc′ x = (n, omega (arith, x .few))
+settled-falls book width sc left d t m n h (New u k c) sc′ x = (n, omega (arith, x .few))
 settled-falls book width sc left d t m n h (Long k) sc′ s = (n, omega (arith, ap length (s .dead .top)))
 settled-falls book width sc left d t m n h Full sc′ s = absurd s
 
@@ -302,7 +303,7 @@ none-seen book sc z y Nothing = refl
 settled-due : (book : List ℕ) (width : ℕ) (sc : List ℕ) (d t left : ℕ) → 0 < left → (r : Event) (sc′ : List ℕ) → Settled book width sc d t r sc′ → Due left r
 settled-due book width sc d t left n (Old k) sc′ s = absurd s
 settled-due book width sc d t left n (Lacking c k) sc′ s = n
-settled-due book width sc d t left n (New u k) sc′ x = n
+settled-due book width sc d t left n (New u k c) sc′ x = n
 settled-due book width sc d t left n (Long k) sc′ s = n
 settled-due book width sc d t left n Full sc′ s = absurd s
 

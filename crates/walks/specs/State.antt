@@ -10,6 +10,8 @@ use Rattle.typebook.specs.declared.type_provider.Found.{Found}
 use Rattle.typebook.specs.declared.type_provider.Found.the-variants.{At, Nothing}
 use Rattle.typebook.specs.Book.{isType, dimensionsOf, typeNameOf, sameName}
 use Rattle.typebook.specs.Find.{find}
+use Rattle.type_category.specs.declared.type_category.AdsTypeCategory.{AdsTypeCategory}
+use Rattle.type_category.specs.Category.{categoryOf}
 use Rattle.book_check.specs.Check.{ValidBook}
 use Rattle.resolvers.specs.declared.Resolved.the-variants.{Base, Lacks, Endless}
 use Rattle.resolvers.specs.Resolve.{resolveAlias}
@@ -20,7 +22,7 @@ use Rattle.walks.specs.declared.Turn.{Turn}
 use Rattle.walks.specs.declared.Turn.the-variants as turn
 use Rattle.walks.specs.declared.TurnRmw.{TurnRmw}
 use Rattle.walks.specs.declared.TurnRmw.the-variants as turnRmw
-use Rattle.walks.specs.Walk.{Walk, full, met, has, after, partsOf, walk, walkOf}
+use Rattle.walks.specs.Walk.{Walk, full, met, has, after, partsKind, partsIn, partsOf, walk, walkOf}
 use Rattle.walks.specs.Reads.{count, listed, whole, rmwOf}
 
 -- an entry t * 65536 + k: the k blocks after t, the last one first; with k = 0, t itself
@@ -70,9 +72,9 @@ pub record Took (sc : List ℕ) (depth : ℕ) (r : Taken) (sc′ : List ℕ) : T
   pub marks : (u : ℕ) → markedIn sc′ u ≡ markedIn sc u
   pub less : r .depth ≤ depth
 
--- the parts of type t are laid on
-pub record Pushed (book : List ℕ) (width : ℕ) (sc : List ℕ) (depth t r : ℕ) (sc′ : List ℕ) : Type 0 where
-  pub top : stackOf sc′ r ≡ partsOf book width t ++ stackOf sc depth
+-- the parts of type t, of category c, are laid on
+pub record Pushed (book : List ℕ) (c : AdsTypeCategory) (sc : List ℕ) (depth t r : ℕ) (sc′ : List ℕ) : Type 0 where
+  pub top : stackOf sc′ r ≡ partsIn book t (partsKind c) ++ stackOf sc depth
   pub marks : (u : ℕ) → markedIn sc′ u ≡ markedIn sc u
   pub more : r ≤ depth + 1
   pub few : length (stackOf sc′ r) < 65536 + length (stackOf sc depth)
@@ -82,8 +84,16 @@ pub record Marked (sc : List ℕ) (t : ℕ) (sc′ : List ℕ) : Type 0 where
   pub stack : (d : ℕ) → d ≤ 4096 → stackOf sc′ d ≡ stackOf sc d
   pub marks : (u : ℕ) → markedIn sc′ u ≡ eqb t u || markedIn sc u
 
--- type block t is marked, and the parts of what it comes to, u, are laid on
-pub record Expanded (book : List ℕ) (width : ℕ) (sc : List ℕ) (depth t u r : ℕ) (sc′ : List ℕ) : Type 0 where
+-- type block t is marked, and the parts of type u, of category c, are laid on
+pub record Grown (book : List ℕ) (c : AdsTypeCategory) (sc : List ℕ) (depth t u r : ℕ) (sc′ : List ℕ) : Type 0 where
+  pub top : stackOf sc′ r ≡ partsIn book u (partsKind c) ++ stackOf sc depth
+  pub marks : (u : ℕ) → markedIn sc′ u ≡ eqb t u || markedIn sc u
+  pub more : r ≤ depth + 1
+  pub few : length (stackOf sc′ r) < 65536 + length (stackOf sc depth)
+
+-- the same, where u is what t comes to, and c its category
+pub record Expanded (book : List ℕ) (width : ℕ) (sc : List ℕ) (depth t u : ℕ) (c : AdsTypeCategory) (r : ℕ) (sc′ : List ℕ) : Type 0 where
+  pub kind : c ≡ categoryOf book width u
   pub to : resolveAlias book width t ≡ Base u
   pub typed : isType book u ≡ true
   pub top : stackOf sc′ r ≡ partsOf book width u ++ stackOf sc depth
@@ -112,7 +122,7 @@ pub record Unending (book : List ℕ) (width : ℕ) (sc : List ℕ) (depth t r :
 abbrev pub Settled : List ℕ → ℕ → List ℕ → ℕ → ℕ → Event → List ℕ → Type 0
 Settled book width sc depth t (Old d) sc′ = ⊥
 Settled book width sc depth t (Lacking c d) sc′ = Broken book width sc depth t c d sc′
-Settled book width sc depth t (New u d) sc′ = Expanded book width sc depth t u d sc′
+Settled book width sc depth t (New u d c) sc′ = Expanded book width sc depth t u c d sc′
 Settled book width sc depth t (Long d) sc′ = Unending book width sc depth t d sc′
 Settled book width sc depth t Full sc′ = ⊥
 
@@ -121,7 +131,8 @@ pub record Settles (book : List ℕ) (width : ℕ) (sc : List ℕ) (depth t : �
   pub so : Settled book width sc depth t r sc′
 
 -- an event of a walk, and what is left to walk after it
-pub record AfterNew (book : List ℕ) (width : ℕ) (sc ls : List ℕ) (left t depth : ℕ) (w : Walk) : Type 0 where
+pub record AfterNew (book : List ℕ) (width : ℕ) (sc ls : List ℕ) (left t depth : ℕ) (c : AdsTypeCategory) (w : Walk) : Type 0 where
+  pub kind : c ≡ categoryOf book width t
   pub by : ℕ
   pub name : List ℕ
   pub next : Walk
@@ -152,7 +163,7 @@ pub record AfterFull (w : Walk) : Type 0 where
 abbrev pub After : List ℕ → ℕ → List ℕ → List ℕ → ℕ → Walk → Event → Type 0
 After book width sc ls left w (Old d) = Left book width sc ls left d w
 After book width sc ls left w (Lacking b d) = AfterLacking book width sc ls (left - 1) b d w
-After book width sc ls left w (New t d) = AfterNew book width sc ls (left - 1) t d w
+After book width sc ls left w (New t d c) = AfterNew book width sc ls (left - 1) t d c w
 After book width sc ls left w (Long d) = AfterLong book width sc ls (left - 1) d w
 After book width sc ls left w Full = AfterFull w
 
@@ -164,7 +175,7 @@ work sc left depth = left * 65536 + length (stackOf sc depth)
 abbrev pub Falls : List ℕ → ℕ → ℕ → Event → Type 0
 Falls sc left n (Old d) = work sc left d < n
 Falls sc left n (Lacking b d) = (0 < left) × (work sc (left - 1) d < n)
-Falls sc left n (New t d) = (0 < left) × (work sc (left - 1) d < n)
+Falls sc left n (New t d c) = (0 < left) × (work sc (left - 1) d < n)
 Falls sc left n (Long d) = (0 < left) × (work sc (left - 1) d < n)
 Falls sc left n Full = left ≡ 0
 
@@ -177,7 +188,7 @@ pub record Stepped (book : List ℕ) (width : ℕ) (sc ls : List ℕ) (left dept
 abbrev pub Due : ℕ → Event → Type 0
 Due left (Old d) = Unit {0}
 Due left (Lacking c d) = 0 < left
-Due left (New t d) = 0 < left
+Due left (New t d c) = 0 < left
 Due left (Long d) = 0 < left
 Due left Full = left ≡ 0
 
@@ -242,7 +253,7 @@ pub record Pending (book : List ℕ) (width : ℕ) (all : Walk) (list₀ sc list
 unfoldable pub pend : List ℕ → ℕ → Event → ℕ
 pend sc left (Old d) = 1 + work sc left d
 pend sc left (Lacking c d) = 1 + work sc (left - 1) d
-pend sc left (New t d) = 1 + work sc (left - 1) d
+pend sc left (New t d c) = 1 + work sc (left - 1) d
 pend sc left (Long d) = 1 + work sc (left - 1) d
 pend sc left Full = 0
 
@@ -265,8 +276,8 @@ workRmw sc (turnRmw.More l d) = 1 + work sc l d
 workRmw sc (turnRmw.Is a) = 0
 
 -- an event is decided
-pub record Decided (book : List ℕ) (width : ℕ) (e : Event) (left : ℕ) (r : TurnRmw) : Type 0 where
-  pub goes : (all : Walk) (sc : List ℕ) (w : Walk) → rmwOf book width all ≡ rmwOf book width w → After book width sc [] left w e → ThenRmw book width all sc r
+pub record Decided (e : Event) (left : ℕ) (r : TurnRmw) : Type 0 where
+  pub goes : (book : List ℕ) (width : ℕ) (all : Walk) (sc : List ℕ) (w : Walk) → rmwOf book width all ≡ rmwOf book width w → After book width sc [] left w e → ThenRmw book width all sc r
   pub falls : (sc : List ℕ) (m : ℕ) → Falls sc left m e → workRmw sc r < 1 + m
 
 -- a record, so that `search` takes it as it stands

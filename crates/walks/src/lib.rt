@@ -2,14 +2,15 @@
 // written, and which types the book lacks. The functions whose names end in `_in` take a book that was checked once; the others
 // check it.
 ghost use mathlib.Core.Path.{_≡_};
-ghost use mathlib.Core.Bool.{true, _&&_};
+ghost use mathlib.Core.Bool.{true, false, _&&_};
 ghost use Prim.Native.Nat.{_≤_, _<_, _+_};
 ghost use lib.ListN.{length, take as first, replicate};
 ghost use Rattle.typebook.specs.Book.{isType};
 ghost use Rattle.book_check.specs.Check.{ValidBook};
+ghost use Rattle.resolvers.specs.Resolve.{goesOn};
 ghost use Rattle.walks.specs.Walk.{partsKind};
 ghost use Rattle.walks.specs.Reads.{keepsState};
-ghost use Rattle.walks.specs.State.{markedIn, isPart, namesIt, hasRef, Took, Marked, Pushed, Settles, Stepped, IsDue, Applied, Decided, Started};
+ghost use Rattle.walks.specs.State.{markedIn, isPart, namesIt, hasRef, Took, Marked, Pushed, Grown, Settles, Stepped, IsDue, Applied, Decided, Started};
 ghost use Rattle.walks.specs.Calls.{scratchFits, listFits, rmwAnswer, Walked, RmwIn, RmwIs, MissingIn, MissingIs};
 use book_check::RootCheck;
 use resolvers::Resolved;
@@ -64,8 +65,8 @@ enum Event {
     Old(usize),
     // The type name of this block is not in the book.
     Lacking(u32, usize),
-    // The name is new, and comes to this type.
-    New(u32, usize),
+    // The name is new, and comes to this type, of this category.
+    New(u32, usize, AdsTypeCategory),
     // Its alias chain is too long.
     Long(usize),
     // It would be one name too many.
@@ -164,12 +165,12 @@ fn parts_of(category: AdsTypeCategory) -> Parts
     }
 }
 
-// Lays the parts of type t on the stack.
-fn push(book: &[u8], width: u8, scratch: &mut [u32], depth: usize, t: u32) -> usize
+// Lays the parts of type t, by its category, on the stack.
+fn push(book: &[u8], scratch: &mut [u32], depth: usize, t: u32, category: AdsTypeCategory) -> usize
     requires { ⌜ ValidBook (now book) × (isType (now book) t ≡ true) × (depth < 4096) × (16384 ≤ length (now scratch)) ⌝ }
-    ensures { λ r. ⌜ Pushed (now (book .entry)) width (now (scratch .entry)) depth t r (now (scratch .exit)) ⌝ }
+    ensures { λ r. ⌜ Pushed (now (book .entry)) category (now (scratch .entry)) depth t r (now (scratch .exit)) ⌝ }
 {
-    let kind = parts_of(AdsTypeCategory::determine(book, width, t));
+    let kind = parts_of(category);
     match kind {
         Parts::Element => {
             scratch[depth] = t * 65536;
@@ -187,19 +188,85 @@ fn push(book: &[u8], width: u8, scratch: &mut [u32], depth: usize, t: u32) -> us
     }
 }
 
-// Marks type block t visited, and lays on the parts of what it comes to. The alias's target is not marked: it may be met by its
-// own name later.
+// Marks type block t visited, and lays on the parts of u, which t comes to, by its category. The alias's target u is not marked:
+// it may be met by its own name later.
+fn expand(
+    book: &[u8],
+    scratch: &mut [u32],
+    depth: usize,
+    t: u32,
+    u: u32,
+    category: AdsTypeCategory,
+) -> usize
+    requires { ⌜ ValidBook (now book) × (isType (now book) t ≡ true) × (isType (now book) u ≡ true) × (depth < 4096) × (16384 ≤ length (now scratch)) ⌝ }
+    ensures { λ r. ⌜ Grown (now (book .entry)) category (now (scratch .entry)) depth t u r (now (scratch .exit)) ⌝ }
+{
+    mark(scratch, t);
+    push(book, scratch, depth, u, category)
+}
+
+fn is_alias(category: AdsTypeCategory) -> bool
+    ensures { λ r. ⌜ r ≡ goesOn false category ⌝ }
+{
+    match category {
+        AdsTypeCategory::Alias => true,
+        AdsTypeCategory::None => false,
+        AdsTypeCategory::Primitive => false,
+        AdsTypeCategory::Enum => false,
+        AdsTypeCategory::Array => false,
+        AdsTypeCategory::Struct => false,
+        AdsTypeCategory::FunctionBlock => false,
+        AdsTypeCategory::Program => false,
+        AdsTypeCategory::Function => false,
+        AdsTypeCategory::SubRange => false,
+        AdsTypeCategory::String => false,
+        AdsTypeCategory::Bitset => false,
+        AdsTypeCategory::Pointer => false,
+        AdsTypeCategory::Union => false,
+        AdsTypeCategory::Reference => false,
+        AdsTypeCategory::Interface => false,
+    }
+}
+
+// The event of the new name of alias t.
+fn settle_alias(
+    book: &[u8],
+    index: &[u32],
+    width: u8,
+    scratch: &mut [u32],
+    depth: usize,
+    t: u32,
+) -> Event
+    requires { ⌜ ValidBook (now book) × (isType (now book) t ≡ true) × (depth < 4096) × (16384 ≤ length (now scratch)) ⌝ }
+    ensures { λ r. ⌜ Settles (now (book .entry)) width (now (scratch .entry)) depth t r (now (scratch .exit)) ⌝ }
+{
+    let resolved = resolvers::resolve_alias_in(book, index, width, t);
+    match resolved {
+        Resolved::Base(u) => {
+            let category = AdsTypeCategory::determine(book, width, u);
+            Event::New(u, expand(book, scratch, depth, t, u, category), category)
+        }
+        Resolved::Lacks(c) => {
+            mark(scratch, t);
+            Event::Lacking(c, depth)
+        }
+        Resolved::Endless => {
+            mark(scratch, t);
+            Event::Long(depth)
+        }
+    }
+}
+
+// The event of the new name of type block t: it is visited now. Most types are no aliases: their category is determined once.
 fn settle(book: &[u8], index: &[u32], width: u8, scratch: &mut [u32], depth: usize, t: u32) -> Event
     requires { ⌜ ValidBook (now book) × (isType (now book) t ≡ true) × (depth < 4096) × (16384 ≤ length (now scratch)) ⌝ }
     ensures { λ r. ⌜ Settles (now (book .entry)) width (now (scratch .entry)) depth t r (now (scratch .exit)) ⌝ }
 {
-    mark(scratch, t);
-    let resolved = resolvers::resolve_alias_in(book, index, width, t);
-    match resolved {
-        Resolved::Base(u) => Event::New(u, push(book, width, scratch, depth, u)),
-        Resolved::Lacks(c) => Event::Lacking(c, depth),
-        Resolved::Endless => Event::Long(depth),
+    let category = AdsTypeCategory::determine(book, width, t);
+    if is_alias(category) {
+        return settle_alias(book, index, width, scratch, depth, t);
     }
+    Event::New(t, expand(book, scratch, depth, t, t, category), category)
 }
 
 // Whether block b names a type as a field or as an array, and is no alias: aliases have no dimensions.
@@ -294,7 +361,7 @@ fn apply(e: Event, list: &mut [u32], left: usize, n: usize, ok: bool) -> Turn
 {
     match e {
         Event::Old(d) => Turn::More(left, d, n, ok),
-        Event::New(_, d) => Turn::More(left - 1, d, n, ok),
+        Event::New(_, d, _) => Turn::More(left - 1, d, n, ok),
         Event::Lacking(b, d) => {
             list[n] = b;
             Turn::More(left - 1, d, n + 1, ok)
@@ -415,14 +482,14 @@ fn keeps_state(category: AdsTypeCategory) -> bool
 }
 
 // What an event is for read-modify-write.
-fn decide(book: &[u8], width: u8, e: Event, left: usize) -> TurnRmw
+fn decide(e: Event, left: usize) -> TurnRmw
     requires { ⌜ IsDue left e ⌝ }
-    ensures { λ r. ⌜ Decided (now (book .entry)) width e left r ⌝ }
+    ensures { λ r. ⌜ Decided e left r ⌝ }
 {
     match e {
         Event::Old(d) => TurnRmw::More(left, d),
-        Event::New(t, d) => {
-            if keeps_state(AdsTypeCategory::determine(book, width, t)) {
+        Event::New(_, d, category) => {
+            if keeps_state(category) {
                 return TurnRmw::Is(Rmw::Yes);
             }
             TurnRmw::More(left - 1, d)
@@ -440,7 +507,7 @@ fn rmw_walk(book: &[u8], index: &[u32], width: u8, root: u32, scratch: &mut [u32
 {
     let none: [u32; 1] = [0];
     let e = start(book, index, width, root, scratch);
-    let mut here = decide(book, width, e, MAX_TYPES_VISITED);
+    let mut here = decide(e, MAX_TYPES_VISITED);
     loop {
         match here {
             TurnRmw::Is(answer) => {
@@ -451,7 +518,7 @@ fn rmw_walk(book: &[u8], index: &[u32], width: u8, root: u32, scratch: &mut [u32
                     return Rmw::No;
                 }
                 let e = step(book, index, width, scratch, &none, 0, left, depth);
-                here = decide(book, width, e, left);
+                here = decide(e, left);
             }
         }
     }

@@ -1,10 +1,7 @@
+-- `gateway_check_book` meets its contract. Assumes nothing.
 use borrow.Author.Needs.{needs}
 use Rattle.gateway.proofs.gateway_check_book.Statement.{statement}
 use Rattle.gateway.proofs.gateway_check_book.Tie as tie
-use Rattle.gateway.proofs.gateway_check_book.Reads as reads
-use Rattle.gateway.proofs.gateway_check_book.Lts as lts
-use Rattle.book_check.proofs.check_book.Reads as check-book-reads
-use Rattle.gateway.proofs.refusal.Reads as refusal-reads
 
 check-book-requires : tie.Need-check-book-requires
 check-book-requires c κs = search needs

@@ -1,10 +1,7 @@
+-- `gateway_find` meets its contract. Assumes nothing.
 use borrow.Author.Needs.{needs}
 use Rattle.gateway.proofs.gateway_find.Statement.{statement}
 use Rattle.gateway.proofs.gateway_find.Tie as tie
-use Rattle.gateway.proofs.gateway_find.Reads as reads
-use Rattle.gateway.proofs.gateway_find.Lts as lts
-use Rattle.gateway.proofs.found.Reads as found-reads
-use Rattle.typebook.proofs.type_provider.find.Reads as find-reads
 
 find-requires : tie.Need-find-requires
 find-requires c κs = search needs

@@ -1,11 +1,8 @@
+-- `gateway_utf_16_decode` meets its contract. Assumes nothing.
 use Rattle.gateway.proofs.Numbers.{wrote-number}
 use borrow.Author.Needs.{needs}
 use Rattle.gateway.proofs.gateway_utf_16_decode.Statement.{statement}
 use Rattle.gateway.proofs.gateway_utf_16_decode.Tie as tie
-use Rattle.gateway.proofs.gateway_utf_16_decode.Reads as reads
-use Rattle.gateway.proofs.gateway_utf_16_decode.Lts as lts
-use Rattle.gateway.proofs.place.Reads as place-reads
-use Rattle.utf_16.proofs.decode.Reads as decode-reads
 
 decode-requires : tie.Need-decode-requires
 decode-requires c κs = search needs

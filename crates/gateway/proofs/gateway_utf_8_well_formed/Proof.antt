@@ -1,10 +1,7 @@
+-- `gateway_utf_8_well_formed` meets its contract. Assumes nothing.
 use borrow.Author.Needs.{needs}
 use Rattle.gateway.proofs.gateway_utf_8_well_formed.Statement.{statement}
 use Rattle.gateway.proofs.gateway_utf_8_well_formed.Tie as tie
-use Rattle.gateway.proofs.gateway_utf_8_well_formed.Reads as reads
-use Rattle.gateway.proofs.gateway_utf_8_well_formed.Lts as lts
-use Rattle.gateway.proofs.truth.Reads as truth-reads
-use Rattle.utf_8.proofs.decoder.well_formed.Reads as well-formed-reads
 
 well-formed-requires : tie.Need-well-formed-requires
 well-formed-requires c κs = search needs

@@ -1,11 +1,8 @@
+-- `gateway_windows_1252_decode` meets its contract. Assumes nothing.
 use Rattle.gateway.proofs.Numbers.{wrote-number}
 use borrow.Author.Needs.{needs}
 use Rattle.gateway.proofs.gateway_windows_1252_decode.Statement.{statement}
 use Rattle.gateway.proofs.gateway_windows_1252_decode.Tie as tie
-use Rattle.gateway.proofs.gateway_windows_1252_decode.Reads as reads
-use Rattle.gateway.proofs.gateway_windows_1252_decode.Lts as lts
-use Rattle.gateway.proofs.place.Reads as place-reads
-use Rattle.windows_1252.proofs.decode.Reads as decode-reads
 
 decode-requires : tie.Need-decode-requires
 decode-requires c κs = search needs

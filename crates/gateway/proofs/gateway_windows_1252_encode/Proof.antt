@@ -1,11 +1,8 @@
+-- `gateway_windows_1252_encode` meets its contract. Assumes nothing.
 use Rattle.gateway.proofs.Numbers.{wrote-number}
 use borrow.Author.Needs.{needs}
 use Rattle.gateway.proofs.gateway_windows_1252_encode.Statement.{statement}
 use Rattle.gateway.proofs.gateway_windows_1252_encode.Tie as tie
-use Rattle.gateway.proofs.gateway_windows_1252_encode.Reads as reads
-use Rattle.gateway.proofs.gateway_windows_1252_encode.Lts as lts
-use Rattle.gateway.proofs.place.Reads as place-reads
-use Rattle.windows_1252.proofs.encode.Reads as encode-reads
 
 encode-requires : tie.Need-encode-requires
 encode-requires c κs = search needs

@@ -13,17 +13,14 @@ enum-known-e c = search needs
 enum-known-e-2 : tie.Need-enum-known-e-2
 enum-known-e-2 c = search needs
 
-determine-requires : tie.Need-determine-requires
-determine-requires c κs = search needs
-
 keeps-state-requires : tie.Need-keeps-state-requires
 keeps-state-requires c κs = search needs
 
 returns : tie.Need-returns
 returns c = search exits
 
-sub-t13 : tie.Need-sub-t13
-sub-t13 c = search due-new
+sub-t10 : tie.Need-sub-t10
+sub-t10 c = search due-new
 
 enum-known-e-3 : tie.Need-enum-known-e-3
 enum-known-e-3 c = search needs
@@ -55,10 +52,9 @@ decide-spec =
     (tie.spec
     enum-known-e
     enum-known-e-2
-    determine-requires
     keeps-state-requires
     returns
-    sub-t13
+    sub-t10
     enum-known-e-3
     enum-told
     enum-told-2

@@ -7,9 +7,6 @@ use Rattle.walks.proofs.push.Tie as tie
 
 ruleset exits = (push-element, push-nothing, push-none, push-fields)
 
-determine-requires : tie.Need-determine-requires
-determine-requires c κs = search needs
-
 parts-of-requires : tie.Need-parts-of-requires
 parts-of-requires c κs = search needs
 
@@ -74,7 +71,6 @@ pub push-spec : {M : Type 1} → statement M
 push-spec =
     tie.close
     (tie.spec
-    determine-requires
     parts-of-requires
     enum-told
     mul-scratch

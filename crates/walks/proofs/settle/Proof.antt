@@ -1,61 +1,42 @@
 -- `settle` meets its contract. Assumes nothing.
-use Rattle.walks.proofs.Places.{type-below}
-use Rattle.walks.proofs.Stacks.{settle-base, settle-lacks, settle-long, base-type}
+use Rattle.walks.proofs.Stacks.{settle-own}
 use borrow.Author.Needs.{needs}
 use Rattle.walks.proofs.settle.Statement.{statement}
 use Rattle.walks.proofs.settle.Tie as tie
 
-ruleset exits = (settle-base, settle-lacks, settle-long)
+determine-requires : tie.Need-determine-requires
+determine-requires c κs = search needs
 
-mark-requires : tie.Need-mark-requires
-mark-requires c κs = (search type-below, search needs)
+is-alias-requires : tie.Need-is-alias-requires
+is-alias-requires c κs = search needs
 
-resolve-alias-in-requires : tie.Need-resolve-alias-in-requires
-resolve-alias-in-requires c κs = search needs
-
-enum-known-resolved : tie.Need-enum-known-resolved
-enum-known-resolved c = search needs
-
-push-requires : tie.Need-push-requires
-push-requires c κs = (search needs, search base-type, search needs, search needs)
-
-enum-known-resolved-2 : tie.Need-enum-known-resolved-2
-enum-known-resolved-2 c = search needs
-
-enum-told : tie.Need-enum-told
-enum-told c = search needs
+settle-alias-requires : tie.Need-settle-alias-requires
+settle-alias-requires c κs = search needs
 
 same-length : tie.Need-same-length
 same-length c = search needs
 
 returns : tie.Need-returns
-returns c = search exits
+returns c = search needs
+
+expand-requires : tie.Need-expand-requires
+expand-requires c κs = search needs
 
 same-length-2 : tie.Need-same-length-2
 same-length-2 c = search needs
 
 returns-2 : tie.Need-returns-2
-returns-2 c = search exits
-
-same-length-3 : tie.Need-same-length-3
-same-length-3 c = search needs
-
-returns-3 : tie.Need-returns-3
-returns-3 c = search exits
+returns-2 c = search settle-own
 
 pub settle-spec : {M : Type 1} → statement M
 settle-spec =
     tie.close
     (tie.spec
-    mark-requires
-    resolve-alias-in-requires
-    enum-known-resolved
-    push-requires
-    enum-known-resolved-2
-    enum-told
+    determine-requires
+    is-alias-requires
+    settle-alias-requires
     same-length
     returns
+    expand-requires
     same-length-2
-    returns-2
-    same-length-3
-    returns-3)
+    returns-2)

@@ -1,0 +1,54 @@
+-- What is printed, at each exit. Assumes nothing.
+use mathlib.Core.Path.{_≡_}
+use mathlib.Core.List.{List}
+use Prim.Native.Nat.{ℕ, _≤_, _<_}
+use lib.ListN.{length}
+use borrow.Author.Tests.{lt-ltb, le-ltb}
+use Rattle.utf_8.specs.declared.Put.{Put}
+use Rattle.book_check.specs.Check.{checkRoot}
+use Rattle.book_check.specs.declared.RootCheck.{RootCheck}
+use Rattle.book_check.specs.declared.RootCheck.the-variants as root
+use Rattle.de.specs.declared.deserializer.ReadAnswer.{ReadAnswer}
+use Rattle.de.specs.declared.deserializer.ReadAnswer.the-variants.{Done, NotFound, Refused}
+use Rattle.de.specs.Read.{readTrace, ReadIs}
+use Rattle.lines.specs.Puts.{Printed}
+use Rattle.lines.specs.Lines.{walkLines, refusedLine}
+use Rattle.adswalk.specs.Answer.{linesBy, walked, checkedLines, printed}
+use Rattle.adswalk.proofs.Emits.{emits-read}
+use Rattle.adswalk.proofs.Parses.{read-lines}
+
+module _ (book : List ℕ) (memory : ℕ) (tape txt : List ℕ) {out out′ : List ℕ} {r : Put} (a : ReadAnswer) where
+  pub of-done : (n m : ℕ) → a ≡ Done n m → Printed (walkLines book 0 memory tape n txt) out r out′ → Printed (linesBy a book memory tape txt) out r out′
+  unfolding linesBy
+  of-done n m e h = rw e h
+
+  pub of-lacks : (b : ℕ) → a ≡ NotFound b → Printed (refusedLine 7) out r out′ → Printed (linesBy a book memory tape txt) out r out′
+  unfolding linesBy
+  of-lacks b e h = rw e h
+
+  pub of-refused : (k : ℕ) → a ≡ Refused k → Printed (refusedLine k) out r out′ → Printed (linesBy a book memory tape txt) out r out′
+  unfolding linesBy
+  of-refused k e h = rw e h
+
+module _ (book mem : List ℕ) {out out′ : List ℕ} {r : Put} where
+  pub walk-long : (x y : ℕ) → 4096 < length mem → Printed (refusedLine 10) out r out′ → Printed (walked book mem x y) out r out′
+  unfolding walked
+  walk-long x y l h = rw (lt-ltb 4096 (length mem) l) h
+
+  pub walk-read : (tape txt : List ℕ) → length mem ≤ 4096 → length txt < 18446744073709551616 → (a : ReadAnswer) (tape′ txt′ : List ℕ) → ReadIs (readTrace book (length book) 8 0 mem) tape txt a tape′ txt′
+      → Printed (linesBy a book (length mem) tape′ txt′) out r out′ → Printed (walked book mem (length tape) (length txt)) out r out′
+  unfolding walked
+  walk-read tape txt l m a tape′ txt′ i h =
+      rw (le-ltb 4096 (length mem) l, ← read-lines book (length mem) tape txt m (readTrace book (length book) 8 0 mem) (emits-read book (length book) 8 0 mem) i) h
+
+  pub answer-long : (x y : ℕ) → 65536 < length book → Printed (refusedLine 1) out r out′ → Printed (printed book mem x y) out r out′
+  unfolding printed
+  answer-long x y l h = rw (lt-ltb 65536 (length book) l) h
+
+  pub answer-refused : (x y : ℕ) (c : RootCheck) (k : ℕ) → length book ≤ 65536 → c ≡ checkRoot book (length book) 0 → c ≡ root.Refused k → Printed (refusedLine k) out r out′ → Printed (printed book mem x y) out r out′
+  unfolding printed checkedLines
+  answer-refused x y c k l e q h = rw (le-ltb 65536 (length book) l, ← e, q) h
+
+  pub answer-walk : (x y : ℕ) (c : RootCheck) (n : ℕ) → length book ≤ 65536 → c ≡ checkRoot book (length book) 0 → c ≡ root.Root n → Printed (walked book mem x y) out r out′ → Printed (printed book mem x y) out r out′
+  unfolding printed checkedLines
+  answer-walk x y c n l e q h = rw (le-ltb 65536 (length book) l, ← e, q) h

@@ -1,0 +1,3 @@
+pub mod Emits
+pub mod Parses
+pub mod Exits

@@ -1,0 +1,73 @@
+// An answer as one number.
+ghost use mathlib.Core.Path.{_≡_};
+ghost use Rattle.book_check.specs.Check.{bookRefusal};
+ghost use Rattle.answers.specs.Numbers.{placeNumber, foundNumber, truthNumber, categoryNumber};
+use book_check::BookCheck;
+use type_category::type_category::AdsTypeCategory;
+use typebook::type_provider::Found;
+use utf_8::Put;
+
+// The place after the written bytes, or 2^64 - 1 where they do not fit.
+pub fn place(p: Put) -> u64
+    ensures { λ r. ⌜ r ≡ placeNumber p ⌝ }
+{
+    match p {
+        Put::Next(n) => n as u64,
+        Put::Full => 0xffff_ffff_ffff_ffff,
+    }
+}
+
+// The block, or 2^32 - 1 where there is none.
+pub fn found(f: Found) -> u32
+    ensures { λ r. ⌜ r ≡ foundNumber f ⌝ }
+{
+    match f {
+        Found::At(n) => n,
+        Found::Nothing => 0xffff_ffff,
+    }
+}
+
+pub fn truth(b: bool) -> u8
+    ensures { λ r. ⌜ r ≡ truthNumber b ⌝ }
+{
+    if b {
+        return 1;
+    }
+    0
+}
+
+pub fn refusal(check: BookCheck) -> u8
+    ensures { λ r. ⌜ r ≡ bookRefusal check ⌝ }
+{
+    match check {
+        BookCheck::Valid => 0,
+        BookCheck::Size => 1,
+        BookCheck::Sum => 2,
+        BookCheck::Form => 3,
+        BookCheck::Doubled => 4,
+    }
+}
+
+// A category's place in the list of categories.
+pub fn category(c: AdsTypeCategory) -> u64
+    ensures { λ r. ⌜ r ≡ categoryNumber c ⌝ }
+{
+    match c {
+        AdsTypeCategory::None => 0,
+        AdsTypeCategory::Primitive => 1,
+        AdsTypeCategory::Alias => 2,
+        AdsTypeCategory::Enum => 3,
+        AdsTypeCategory::Array => 4,
+        AdsTypeCategory::Struct => 5,
+        AdsTypeCategory::FunctionBlock => 6,
+        AdsTypeCategory::Program => 7,
+        AdsTypeCategory::Function => 8,
+        AdsTypeCategory::SubRange => 9,
+        AdsTypeCategory::String => 10,
+        AdsTypeCategory::Bitset => 11,
+        AdsTypeCategory::Pointer => 12,
+        AdsTypeCategory::Union => 13,
+        AdsTypeCategory::Reference => 14,
+        AdsTypeCategory::Interface => 15,
+    }
+}

@@ -1,0 +1,166 @@
+/* The calls of libgateway.a, for C on x86-64 Linux. Each equals a proved call; docs/CONTRACTS.md says what is proved.
+ *
+ * Slices. A slice is a pointer and its number of elements. The pointer is not null and aligned for its elements, also where the number
+ * is 0; then nothing is read or written through it. A slice that a call writes overlaps no other slice of that call. All slices are
+ * lent for the call alone: nothing is kept.
+ *
+ * What is returned. Unless the comment says otherwise: 0, or the number of the refusal (document 01's table):
+ *    1 the book is empty, not whole blocks of 512 bytes, over 65,536 blocks, or longer than its buffer
+ *    2 a block's sum differs               3 a block's form                     4 two type blocks of one name
+ *    5 the root is no type block           6 scratch or list too short          7 a type name that is not in the book
+ *    8 a chain of aliases of 32 hops       9 a 4,097th name (read-modify-write only)
+ *   10 a size    11 an id that cannot be read    12 an enum value without entry    13 a pointer's width is not 2, 4 or 8
+ *   14 level 65                           15 tape, text, records or book buffer too short
+ *
+ * Values. `values` takes a call's numbers over its first elements, as many as fit; its other elements stay as before. With refusal 7
+ * values[0] is the block whose type name is not in the book; any other refusal leaves `values` as before. Three elements are enough
+ * for every call.
+ *
+ * The book. `buffer` holds a type book in its first `len` bytes; a `len` beyond the buffer is refused (1). `width` is the size of
+ * the controller's pointers in bytes. `root` is a block's number, from 0 on; one that is no type block of the book is refused (5).
+ *
+ * The calls whose names end in _in are for many calls on one book and test neither book nor root. They may only be called with a
+ * `book` for which gateway_check_book(book, book_len, book_len) returned 0, unchanged since, and a `root` for which gateway_is_type
+ * returned 1. With any other book or root nothing is known of what they do. `index` may hold anything and may be empty; one that
+ * gateway_fill_index made of the book makes look-ups quick. The other calls take any bytes and any numbers.
+ *
+ * A call takes up to 256 KiB of stack (measured), and no other memory.
+ */
+#ifndef GATEWAY_H
+#define GATEWAY_H
+
+#include <stddef.h>
+#include <stdint.h>
+
+#ifdef __cplusplus
+extern "C" {
+#endif
+
+/* ---- texts: UTF-8 on one side, the controller's bytes on the other (WHATWG Encoding Standard) */
+
+/* Decodes Windows-1252 bytes to UTF-8, into `out` from byte `at` on: all the bytes, zeros too. Returns the place after the text; `out`
+ * then holds the text there, the rest as before. Returns 2^64 - 1 where the text does not fit; `out` is then as before. An empty text
+ * fits at any place. */
+uint64_t gateway_windows_1252_decode(const uint8_t *bytes, size_t bytes_len, uint8_t *out, size_t out_len, size_t at);
+
+/* Encodes UTF-8 to Windows-1252, into `out` from its start on; a character that has no byte becomes a reference, as &#8734; and what is
+ * not UTF-8 counts as U+FFFD. Returns the number of bytes; `out` then starts with them, the rest as before. Returns 2^64 - 1 where they
+ * do not fit; `out` is then as before. */
+uint64_t gateway_windows_1252_encode(const uint8_t *text, size_t text_len, uint8_t *out, size_t out_len);
+
+/* Decodes UTF-16, low byte first, to UTF-8; an unpaired surrogate or an odd byte gives U+FFFD, and no byte order mark is looked for.
+ * Otherwise as gateway_windows_1252_decode. */
+uint64_t gateway_utf_16_decode(const uint8_t *bytes, size_t bytes_len, uint8_t *out, size_t out_len, size_t at);
+
+/* Encodes UTF-8 to UTF-16, low byte first; what is not UTF-8 counts as U+FFFD. Otherwise as gateway_windows_1252_encode. */
+uint64_t gateway_utf_16_encode(const uint8_t *text, size_t text_len, uint8_t *out, size_t out_len);
+
+/* Returns 1 where the text is well-formed UTF-8, else 0. */
+uint8_t gateway_utf_8_well_formed(const uint8_t *text, size_t text_len);
+
+/* ---- look-ups: any bytes are taken for a book */
+
+/* Returns the first type block of that name, or 2^32 - 1 where the book has none. */
+uint32_t gateway_find(const uint8_t *book, size_t book_len, const uint8_t *name, size_t name_len);
+
+/* Returns a type block of that name, by an index of the book: the only one where the book is valid; or 2^32 - 1 where the book has
+ * none. Any index gives a right answer, one of gateway_fill_index gives it quickly. */
+uint32_t gateway_find_by(const uint8_t *book, size_t book_len, const uint32_t *index, size_t index_len, const uint8_t *name,
+                         size_t name_len);
+
+/* Fills `index` for the book: each element is 0, or one more than a type block's number. Four elements for each type serve well; 16,384
+ * do for any book of 4,096 types. */
+void gateway_fill_index(const uint8_t *book, size_t book_len, uint32_t *index, size_t index_len);
+
+/* ---- the book */
+
+/* Returns 0 where the first `len` bytes of the buffer are a valid book, else 1 to 4. */
+uint8_t gateway_check_book(const uint8_t *buffer, size_t buffer_len, size_t len);
+
+/* Returns 1 where that block of the book is a type block, else 0 (also past the book's end). Any bytes are taken for a book. */
+uint8_t gateway_is_type(const uint8_t *book, size_t book_len, uint32_t block);
+
+/* Returns 0. values: the offset of the block's name in the book, and its length in bytes. Any bytes are taken for a book: offset and
+ * length never lead past its end, and past it the length is 0. */
+uint8_t gateway_name(const uint8_t *book, size_t book_len, uint32_t block, uint64_t *values, size_t values_len);
+
+/* The same for the block's type name. */
+uint8_t gateway_type_name(const uint8_t *book, size_t book_len, uint32_t block, uint64_t *values, size_t values_len);
+
+/* Returns 0. values: the block's category: 0 none, 1 primitive, 2 alias, 3 enum, 4 array, 5 struct, 6 function block, 7 program,
+ * 8 function, 9 subrange, 10 string, 11 bitset, 12 pointer, 13 union, 14 reference, 15 interface. Any bytes are taken for a book. */
+uint8_t gateway_determine(const uint8_t *book, size_t book_len, uint8_t width, uint32_t block, uint64_t *values, size_t values_len);
+
+/* Appends one whole type (its block, its fields, its entries) to the book.
+ * 0: values: the book's new length; the buffer holds the book, the piece after it, and then its bytes as before.
+ * 1 to 3: the book's, then the piece's (3 also where it is not one whole type); 4: the book's, or its name is in the book; 15: no room in
+ * the buffer, or over 65,536 blocks. A refusal leaves the buffer as before. */
+uint8_t gateway_append(uint8_t *buffer, size_t buffer_len, size_t len, const uint8_t *piece, size_t piece_len, uint64_t *values,
+                       size_t values_len);
+
+/* ---- aliases, references, fields */
+
+/* 0: values: the block that the root comes to with its aliases resolved. Else 1 to 5, 7, 8. */
+uint8_t gateway_resolve_alias(const uint8_t *buffer, size_t buffer_len, size_t len, uint8_t width, uint64_t root, uint64_t *values,
+                              size_t values_len);
+
+/* The same with aliases and references resolved. */
+uint8_t gateway_resolve_indirection(const uint8_t *buffer, size_t buffer_len, size_t len, uint8_t width, uint64_t root,
+                                    uint64_t *values, size_t values_len);
+
+/* 0: values: the number of fields of the root block itself; `records` starts with four numbers for each field, in order (its offset, its
+ * size, the block of its type with aliases resolved, its own block), the rest as before.
+ * Else 1 to 5, 7, 8, or 15 where the records do not fit; `records` is then as before. */
+uint8_t gateway_resolve_fields(const uint8_t *buffer, size_t buffer_len, size_t len, uint8_t width, uint64_t root, uint32_t *records,
+                               size_t records_len, uint64_t *values, size_t values_len);
+
+/* gateway_resolve_alias in a checked book: 0, 7 or 8. The block of values is a type block. */
+uint8_t gateway_resolve_alias_in(const uint8_t *book, size_t book_len, const uint32_t *index, size_t index_len, uint8_t width,
+                                 uint32_t root, uint64_t *values, size_t values_len);
+
+/* gateway_resolve_indirection in a checked book: 0, 7 or 8. The block of values is a type block. */
+uint8_t gateway_resolve_indirection_in(const uint8_t *book, size_t book_len, const uint32_t *index, size_t index_len, uint8_t width,
+                                       uint32_t root, uint64_t *values, size_t values_len);
+
+/* ---- the walk of the types that a type is made of: 16,384 numbers of scratch, 4,096 of a list */
+
+/* 0: values: 1 where the memory of a value of the root's type must be read, changed and written back, else 0.
+ * Else 1 to 6, 7, 8, 9. Scratch: as before after 1 to 6, else all zero. */
+uint8_t gateway_requires_read_modify_write(const uint8_t *buffer, size_t buffer_len, size_t len, uint8_t width, uint64_t root,
+                                           uint32_t *scratch, size_t scratch_len, uint64_t *values, size_t values_len);
+
+/* 0: values: how many types that the root is made of are not in the book, 1 where the walk is whole (else 0), and how many distinct
+ * names were met. `list` starts with the blocks that name the missing types, in the order found, the rest as before; scratch all zero.
+ * Else 1 to 6; scratch and list are then as before. */
+uint8_t gateway_missing_types(const uint8_t *buffer, size_t buffer_len, size_t len, uint8_t width, uint64_t root, uint32_t *scratch,
+                              size_t scratch_len, uint32_t *list, size_t list_len, uint64_t *values, size_t values_len);
+
+/* gateway_requires_read_modify_write in a checked book: 0, 6, 7, 8, 9. Scratch: as before after 6, else all zero. */
+uint8_t gateway_requires_read_modify_write_in(const uint8_t *book, size_t book_len, const uint32_t *index, size_t index_len,
+                                              uint8_t width, uint32_t root, uint32_t *scratch, size_t scratch_len, uint64_t *values,
+                                              size_t values_len);
+
+/* gateway_missing_types in a checked book: 0 or 6; after 6 scratch and list are as before. */
+uint8_t gateway_missing_types_in(const uint8_t *book, size_t book_len, const uint32_t *index, size_t index_len, uint8_t width,
+                                 uint32_t root, uint32_t *scratch, size_t scratch_len, uint32_t *list, size_t list_len,
+                                 uint64_t *values, size_t values_len);
+
+/* ---- read */
+
+/* Reads the memory by the root's type.
+ * 0: values: the number of records and of text bytes; `tape` starts with the records of 24 bytes, `text` with the text bytes, the rest of
+ * each as before. Else 1 to 5, 7, 8, 10 to 15; tape and text are then all zero. */
+uint8_t gateway_read(const uint8_t *buffer, size_t buffer_len, size_t len, uint8_t width, uint64_t root, const uint8_t *memory,
+                     size_t memory_len, uint8_t *tape, size_t tape_len, uint8_t *text, size_t text_len, uint64_t *values,
+                     size_t values_len);
+
+/* The same in a checked book: 0, 7, 8, 10 to 15. */
+uint8_t gateway_read_in(const uint8_t *book, size_t book_len, const uint32_t *index, size_t index_len, uint8_t width, uint32_t root,
+                        const uint8_t *memory, size_t memory_len, uint8_t *tape, size_t tape_len, uint8_t *text, size_t text_len,
+                        uint64_t *values, size_t values_len);
+
+#ifdef __cplusplus
+}
+#endif
+
+#endif

@@ -1,0 +1,73 @@
+-- The exported calls: each gives, by numbers, what the call below it answers, and leaves the lent buffers as that does. Assumes nothing.
+use mathlib.Core.Path.{_≡_}
+use mathlib.Core.Bool.{Bool, true}
+use mathlib.Core.List.{List, [], _∷_}
+use Prim.Native.Nat.{ℕ, min}
+use lib.ListN.{length, take, drop}
+use Rattle.typebook.specs.Book.{isType}
+use Rattle.type_cache.specs.declared.Appended.{Appended}
+use Rattle.type_cache.specs.Append.{AppendIs}
+use Rattle.resolvers.specs.declared.Resolved.{Resolved}
+use Rattle.resolvers.specs.declared.Resolved.the-variants.{Base}
+use Rattle.resolvers.specs.declared.FieldsAnswer.{FieldsAnswer}
+use Rattle.resolvers.specs.Calls.{Filled}
+use Rattle.walks.specs.declared.Rmw.{Rmw}
+use Rattle.walks.specs.declared.Missing.{Missing}
+use Rattle.walks.specs.Calls.{RmwIn, RmwIs, MissingIn, MissingIs}
+use Rattle.de.specs.declared.deserializer.ReadAnswer.{ReadAnswer}
+use Rattle.de.specs.Trace.{Trace}
+use Rattle.de.specs.Read.{ReadIs}
+use Rattle.answers.specs.Values.{Gives, AppendedAs, ResolvedAs, FieldsAs, RmwAs, MissingAs, ReadAs}
+
+-- a part that starts at byte `start` stands there, or at the book's end where the book is shorter
+abbrev pub placeOf : List ℕ → ℕ → ℕ
+placeOf book start = min start (length book)
+
+-- a part of the book as offset and length, which lead to its bytes and never past the book's end
+pub record PartGiven (book part : List ℕ) (start : ℕ) (before : List ℕ) (r : ℕ) (after : List ℕ) : Type 0 where
+  pub gives : Gives 0 (placeOf book start ∷ length part ∷ []) before r after
+  pub is : take (length part) (drop (placeOf book start) book) ≡ part
+
+pub record AppendGiven (buffer : List ℕ) (len : ℕ) (piece before : List ℕ) (r : ℕ) (buffer′ after : List ℕ) : Type 0 where
+  pub answer : Appended
+  pub by : AppendIs buffer len piece answer buffer′
+  pub gives : AppendedAs answer before r after
+
+-- what a chain in a checked book comes to; its end is a type block
+pub record ChainGiven (book : List ℕ) (answer : Resolved) (before : List ℕ) (r : ℕ) (after : List ℕ) : Type 0 where
+  pub gives : ResolvedAs answer before r after
+  pub typed : (u : ℕ) → answer ≡ Base u → isType book u ≡ true
+
+-- the records `new` of the fields in the lent slice
+pub record FieldsGiven (is : FieldsAnswer) (new records before : List ℕ) (r : ℕ) (records′ after : List ℕ) : Type 0 where
+  pub answer : FieldsAnswer
+  pub by : Filled is new records answer records′
+  pub gives : FieldsAs answer before r after
+
+pub record RmwGiven (buffer : List ℕ) (len width root : ℕ) (scratch before : List ℕ) (r : ℕ) (scratch′ after : List ℕ) : Type 0 where
+  pub answer : Rmw
+  pub by : RmwIs buffer len width root scratch answer scratch′
+  pub gives : RmwAs answer before r after
+
+-- the same for type block `root` of a checked book, where the scratch fits or not
+pub record RmwInGiven (fits : Bool) (book : List ℕ) (width root : ℕ) (scratch before : List ℕ) (r : ℕ) (scratch′ after : List ℕ) : Type 0 where
+  pub answer : Rmw
+  pub by : RmwIn fits book width root scratch answer scratch′
+  pub gives : RmwAs answer before r after
+
+pub record MissingGiven (buffer : List ℕ) (len width root : ℕ) (scratch list before : List ℕ) (r : ℕ) (scratch′ list′ after : List ℕ) : Type 0 where
+  pub answer : Missing
+  pub by : MissingIs buffer len width root scratch list answer scratch′ list′
+  pub gives : MissingAs answer before r after
+
+-- the same for type block `root` of a checked book, where scratch and list fit or not
+pub record MissingInGiven (fits : Bool) (book : List ℕ) (width root : ℕ) (scratch list before : List ℕ) (r : ℕ) (scratch′ list′ after : List ℕ) : Type 0 where
+  pub answer : Missing
+  pub by : MissingIn fits book width root scratch list answer scratch′ list′
+  pub gives : MissingAs answer before r after
+
+-- what is read is a trace of the walk below it
+pub record ReadGiven (trace : Trace) (tape text before : List ℕ) (r : ℕ) (tape′ text′ after : List ℕ) : Type 0 where
+  pub answer : ReadAnswer
+  pub by : ReadIs trace tape text answer tape′ text′
+  pub gives : ReadAs answer before r after

@@ -1,0 +1,49 @@
+// The read. The call whose name ends in `_in` takes a book that was checked once.
+ghost use mathlib.Core.Path.{_≡_};
+ghost use mathlib.Core.Bool.{true};
+ghost use Rattle.typebook.specs.Book.{isType};
+ghost use Rattle.book_check.specs.Check.{ValidBook};
+ghost use Rattle.de.specs.Walk.{ctx};
+ghost use Rattle.de.specs.Read.{rootTrace, readTrace};
+ghost use Rattle.gateway.specs.Calls.{ReadGiven};
+use answers::values::give_read;
+
+// Reads the memory by the root's type: how many records and text bytes.
+#[no_mangle]
+pub extern "C" fn gateway_read(
+    buffer: &[u8],
+    len: usize,
+    width: u8,
+    root: u64,
+    memory: &[u8],
+    tape: &mut [u8],
+    text: &mut [u8],
+    values: &mut [u64],
+) -> u8
+    ensures { λ r. ⌜ ReadGiven (readTrace (now (buffer .entry)) len width root (now (memory .entry))) (now (tape .entry)) (now (text .entry)) (now (values .entry)) r (now (tape .exit)) (now (text .exit)) (now (values .exit)) ⌝ }
+{
+    give_read(
+        de::deserializer::read(buffer, len, width, root, memory, tape, text),
+        values,
+    )
+}
+
+#[no_mangle]
+pub extern "C" fn gateway_read_in(
+    book: &[u8],
+    index: &[u32],
+    width: u8,
+    root: u32,
+    memory: &[u8],
+    tape: &mut [u8],
+    text: &mut [u8],
+    values: &mut [u64],
+) -> u8
+    requires { ⌜ ValidBook (now book) × (isType (now book) root ≡ true) ⌝ }
+    ensures { λ r. ⌜ ReadGiven (rootTrace (ctx (now (book .entry)) width) root (now (memory .entry))) (now (tape .entry)) (now (text .entry)) (now (values .entry)) r (now (tape .exit)) (now (text .exit)) (now (values .exit)) ⌝ }
+{
+    give_read(
+        de::deserializer::read_in(book, index, width, root, memory, tape, text),
+        values,
+    )
+}

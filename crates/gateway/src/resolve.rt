@@ -1,0 +1,96 @@
+// Aliases, references and fields. The calls whose names end in `_in` take a book that was checked once.
+ghost use mathlib.Core.Path.{_≡_};
+ghost use mathlib.Core.Bool.{true};
+ghost use lib.ListN.{length};
+ghost use Rattle.typebook.specs.Book.{isType};
+ghost use Rattle.book_check.specs.Check.{ValidBook};
+ghost use Rattle.resolvers.specs.Resolve.{resolveAlias, resolveIndirection};
+ghost use Rattle.resolvers.specs.Calls.{rootAlias, rootIndirection, rootFields, rootRecords};
+ghost use Rattle.answers.specs.Values.{ResolutionAs};
+ghost use Rattle.gateway.specs.Calls.{ChainGiven, FieldsGiven};
+use answers::values::give_fields;
+use answers::values::give_resolution;
+use answers::values::give_resolved;
+
+// The block that the root comes to with its aliases resolved.
+#[no_mangle]
+pub extern "C" fn gateway_resolve_alias(
+    buffer: &[u8],
+    len: usize,
+    width: u8,
+    root: u64,
+    values: &mut [u64],
+) -> u8
+    ensures { λ r. ⌜ ResolutionAs (rootAlias (now (buffer .entry)) len width root) (now (values .entry)) r (now (values .exit)) ⌝ }
+{
+    give_resolution(resolvers::resolve_alias(buffer, len, width, root), values)
+}
+
+// The block that the root comes to with its aliases and references resolved.
+#[no_mangle]
+pub extern "C" fn gateway_resolve_indirection(
+    buffer: &[u8],
+    len: usize,
+    width: u8,
+    root: u64,
+    values: &mut [u64],
+) -> u8
+    ensures { λ r. ⌜ ResolutionAs (rootIndirection (now (buffer .entry)) len width root) (now (values .entry)) r (now (values .exit)) ⌝ }
+{
+    give_resolution(
+        resolvers::resolve_indirection(buffer, len, width, root),
+        values,
+    )
+}
+
+#[no_mangle]
+pub extern "C" fn gateway_resolve_alias_in(
+    book: &[u8],
+    index: &[u32],
+    width: u8,
+    root: u32,
+    values: &mut [u64],
+) -> u8
+    requires { ⌜ ValidBook (now book) × (isType (now book) root ≡ true) ⌝ }
+    ensures { λ r. ⌜ ChainGiven (now (book .entry)) (resolveAlias (now (book .entry)) width root) (now (values .entry)) r (now (values .exit)) ⌝ }
+{
+    give_resolved(
+        resolvers::resolve_alias_in(book, index, width, root),
+        values,
+    )
+}
+
+#[no_mangle]
+pub extern "C" fn gateway_resolve_indirection_in(
+    book: &[u8],
+    index: &[u32],
+    width: u8,
+    root: u32,
+    values: &mut [u64],
+) -> u8
+    requires { ⌜ ValidBook (now book) × (isType (now book) root ≡ true) ⌝ }
+    ensures { λ r. ⌜ ChainGiven (now (book .entry)) (resolveIndirection (now (book .entry)) width root) (now (values .entry)) r (now (values .exit)) ⌝ }
+{
+    give_resolved(
+        resolvers::resolve_indirection_in(book, index, width, root),
+        values,
+    )
+}
+
+// The records of the root's fields, and how many fields there are.
+#[no_mangle]
+pub extern "C" fn gateway_resolve_fields(
+    buffer: &[u8],
+    len: usize,
+    width: u8,
+    root: u64,
+    records: &mut [u32],
+    values: &mut [u64],
+) -> u8
+    ensures { λ r. ⌜ FieldsGiven (rootFields (now (buffer .entry)) len width root (length (now (records .entry)))) (rootRecords (now (buffer .entry)) len width root) (now (records .entry)) (now (values .entry)) r (now (records .exit)) (now (values .exit)) ⌝ }
+{
+    give_fields(
+        resolvers::resolve_fields(buffer, len, width, root, records),
+        values,
+    )
+}

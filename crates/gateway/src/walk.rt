@@ -1,0 +1,116 @@
+// The two walks of the types that a type is made of. The calls whose names end in `_in` take a book that was checked once.
+ghost use mathlib.Core.Path.{_≡_};
+ghost use mathlib.Core.Bool.{true, _&&_};
+ghost use Rattle.typebook.specs.Book.{isType};
+ghost use Rattle.book_check.specs.Check.{ValidBook};
+ghost use Rattle.walks.specs.Calls.{scratchFits, listFits, RmwIn, MissingIn};
+ghost use Rattle.gateway.specs.Calls.{RmwGiven, RmwInGiven, MissingGiven, MissingInGiven};
+use answers::values::give_missing;
+use answers::values::give_rmw;
+use walks::Missing;
+use walks::Rmw;
+
+// The numbers that a walk needs of the scratch, and of the list.
+const SCRATCH: usize = 16384;
+
+const LIST: usize = 4096;
+
+// 1 where a value's memory must be read before it is written, else 0.
+#[no_mangle]
+pub extern "C" fn gateway_requires_read_modify_write(
+    buffer: &[u8],
+    len: usize,
+    width: u8,
+    root: u64,
+    scratch: &mut [u32],
+    values: &mut [u64],
+) -> u8
+    ensures { λ r. ⌜ RmwGiven (now (buffer .entry)) len width root (now (scratch .entry)) (now (values .entry)) r (now (scratch .exit)) (now (values .exit)) ⌝ }
+{
+    give_rmw(
+        walks::requires_read_modify_write(buffer, len, width, root, scratch),
+        values,
+    )
+}
+
+// 6 for a short scratch, then the walk.
+fn rmw_in(book: &[u8], index: &[u32], width: u8, root: u32, scratch: &mut [u32]) -> Rmw
+    requires { ⌜ ValidBook (now book) × (isType (now book) root ≡ true) ⌝ }
+    ensures { λ r. ⌜ RmwIn (scratchFits (now (scratch .entry))) (now (book .entry)) width root (now (scratch .entry)) r (now (scratch .exit)) ⌝ }
+{
+    if scratch.len() < SCRATCH {
+        return Rmw::Refused(6);
+    }
+    walks::requires_read_modify_write_in(book, index, width, root, scratch)
+}
+
+#[no_mangle]
+pub extern "C" fn gateway_requires_read_modify_write_in(
+    book: &[u8],
+    index: &[u32],
+    width: u8,
+    root: u32,
+    scratch: &mut [u32],
+    values: &mut [u64],
+) -> u8
+    requires { ⌜ ValidBook (now book) × (isType (now book) root ≡ true) ⌝ }
+    ensures { λ r. ⌜ RmwInGiven (scratchFits (now (scratch .entry))) (now (book .entry)) width root (now (scratch .entry)) (now (values .entry)) r (now (scratch .exit)) (now (values .exit)) ⌝ }
+{
+    give_rmw(rmw_in(book, index, width, root, scratch), values)
+}
+
+// How many blocks are listed, 1 where the walk is whole, else 0, and how many names were met.
+#[no_mangle]
+pub extern "C" fn gateway_missing_types(
+    buffer: &[u8],
+    len: usize,
+    width: u8,
+    root: u64,
+    scratch: &mut [u32],
+    list: &mut [u32],
+    values: &mut [u64],
+) -> u8
+    ensures { λ r. ⌜ MissingGiven (now (buffer .entry)) len width root (now (scratch .entry)) (now (list .entry)) (now (values .entry)) r (now (scratch .exit)) (now (list .exit)) (now (values .exit)) ⌝ }
+{
+    give_missing(
+        walks::missing_types(buffer, len, width, root, scratch, list),
+        values,
+    )
+}
+
+// 6 for a short scratch or a short list, then the walk.
+fn missing_in(
+    book: &[u8],
+    index: &[u32],
+    width: u8,
+    root: u32,
+    scratch: &mut [u32],
+    list: &mut [u32],
+) -> Missing
+    requires { ⌜ ValidBook (now book) × (isType (now book) root ≡ true) ⌝ }
+    ensures { λ r. ⌜ MissingIn (scratchFits (now (scratch .entry)) && listFits (now (list .entry))) (now (book .entry)) width root (now (scratch .entry)) (now (list .entry)) r (now (scratch .exit)) (now (list .exit)) ⌝ }
+{
+    if scratch.len() < SCRATCH {
+        return Missing::Refused(6);
+    }
+    if list.len() < LIST {
+        return Missing::Refused(6);
+    }
+    walks::missing_types_in(book, index, width, root, scratch, list)
+}
+
+#[no_mangle]
+pub extern "C" fn gateway_missing_types_in(
+    book: &[u8],
+    index: &[u32],
+    width: u8,
+    root: u32,
+    scratch: &mut [u32],
+    list: &mut [u32],
+    values: &mut [u64],
+) -> u8
+    requires { ⌜ ValidBook (now book) × (isType (now book) root ≡ true) ⌝ }
+    ensures { λ r. ⌜ MissingInGiven (scratchFits (now (scratch .entry)) && listFits (now (list .entry))) (now (book .entry)) width root (now (scratch .entry)) (now (list .entry)) (now (values .entry)) r (now (scratch .exit)) (now (list .exit)) (now (values .exit)) ⌝ }
+{
+    give_missing(missing_in(book, index, width, root, scratch, list), values)
+}

@@ -1,0 +1,355 @@
+//! Times the port against the original Rust: both walks, and reads by a visitor that accepts all. The book is checked (the
+//! port) and decoded into the library's own descriptions behind a HashMap (the original) beforehand; what that takes is
+//! printed beside.
+
+use serde::de::{DeserializeSeed, Deserializer, EnumAccess, Error, MapAccess, SeqAccess, VariantAccess, Visitor};
+use speed::{head, keep, pair, shown, turns};
+use std::fmt;
+use tcads_core::{
+    AdsArrayInfo, AdsAttribute, AdsEnumInfo, AdsFieldInfo, AdsMethodInfo, AdsTypeFlags, AdsTypeId, AdsTypeInfo,
+};
+use tcads_serde::de::AdsDeserializer;
+use tcads_serde::resolvers::{missing_types, requires_read_modify_write};
+use tcads_serde::{AdsTypeCache, TypeProvider};
+use twin::block;
+use typebook::{Scratch, TypeBook};
+
+const WIDTH: u8 = 8;
+
+fn text(bytes: &[u8]) -> String {
+    String::from_utf8_lossy(bytes).into_owned()
+}
+
+/// A type block with its fields and entries, as the library describes it.
+fn described(book: &[u8], t: u32) -> AdsTypeInfo {
+    let first = t + 1 + block::fields(book, t);
+    AdsTypeInfo {
+        name: text(block::name(book, t)),
+        type_name: text(block::type_name(book, t)),
+        type_id: AdsTypeId::from(block::id(book, t)),
+        size: block::size(book, t),
+        flags: AdsTypeFlags {
+            plc_pointer_type: block::flag(book, t, 0),
+            reference_to: block::flag(book, t, 1),
+            enum_infos: block::flag(book, t, 2),
+        },
+        array_infos: block::dimensions(book, t)
+            .into_iter()
+            .map(|element_count| AdsArrayInfo { element_count })
+            .collect(),
+        field_infos: (t + 1..first)
+            .map(|f| AdsFieldInfo {
+                name: text(block::name(book, f)),
+                type_name: text(block::type_name(book, f)),
+                offset: block::offset(book, f),
+                size: block::size(book, f),
+            })
+            .collect(),
+        enum_infos: (first..first + block::entries(book, t))
+            .map(|e| AdsEnumInfo {
+                name: text(block::name(book, e)),
+                value: block::value(book, e).to_vec(),
+            })
+            .collect(),
+        method_infos: block::flag(book, t, 3).then_some(AdsMethodInfo).into_iter().collect(),
+        attributes: block::flag(book, t, 4)
+            .then(|| AdsAttribute {
+                name: "TcImplements".into(),
+            })
+            .into_iter()
+            .collect(),
+    }
+}
+
+fn cache(book: &[u8]) -> AdsTypeCache {
+    let mut cache = AdsTypeCache::new(WIDTH);
+    let types = (0..block::count(book)).filter(|&n| block::kind(book, n) == 1);
+    cache.insert_all(types.map(|t| described(book, t)));
+    cache
+}
+
+fn root(cache: &AdsTypeCache, book: &[u8]) -> AdsTypeInfo {
+    cache
+        .get_type_info(&text(block::name(book, 0)))
+        .expect("the root")
+        .clone()
+}
+
+/// What the visitor makes of the values.
+trait Sink {
+    fn record(&mut self, kind: u8, width: u8, a: u64, b: u64);
+    fn text(&mut self, text: &str);
+    fn name(&mut self, kind: u8, name: &str);
+}
+
+/// Nothing is kept but a count.
+#[derive(Default)]
+struct Counted {
+    records: u64,
+    sum: u64,
+}
+
+impl Sink for Counted {
+    fn record(&mut self, _: u8, _: u8, a: u64, b: u64) {
+        self.records += 1;
+        self.sum = self.sum.wrapping_add(a).wrapping_add(b);
+    }
+
+    fn text(&mut self, text: &str) {
+        self.record(11, 0, 0, text.len() as u64);
+    }
+
+    fn name(&mut self, kind: u8, name: &str) {
+        self.record(kind, 0, name.len() as u64, 0);
+    }
+}
+
+/// Records as document 01 has them, but with the length of a name in the place of its block, which the library doesn't tell.
+struct Taped<'t> {
+    tape: &'t mut [u8],
+    text: &'t mut [u8],
+    filled: usize,
+    texts: usize,
+}
+
+impl Sink for Taped<'_> {
+    fn record(&mut self, kind: u8, width: u8, a: u64, b: u64) {
+        let place = &mut self.tape[self.filled..self.filled + 24];
+        place[..8].copy_from_slice(&[kind, width, 0, 0, 0, 0, 0, 0]);
+        place[8..16].copy_from_slice(&a.to_le_bytes());
+        place[16..].copy_from_slice(&b.to_le_bytes());
+        self.filled += 24;
+    }
+
+    fn text(&mut self, text: &str) {
+        let start = self.texts;
+        self.text[start..start + text.len()].copy_from_slice(text.as_bytes());
+        self.texts += text.len();
+        self.record(11, 0, start as u64, text.len() as u64);
+    }
+
+    fn name(&mut self, kind: u8, name: &str) {
+        self.record(kind, 0, name.len() as u64, 0);
+    }
+}
+
+/// Accepts all, and descends by `deserialize_any`.
+struct Seed<'s, S>(&'s mut S);
+
+impl<'de, S: Sink> DeserializeSeed<'de> for Seed<'_, S> {
+    type Value = ();
+
+    fn deserialize<D: Deserializer<'de>>(self, deserializer: D) -> Result<(), D::Error> {
+        deserializer.deserialize_any(self)
+    }
+}
+
+macro_rules! numbers {
+    ($($visit:ident($ty:ident) $kind:literal $width:literal;)*) => {$(
+        fn $visit<E: Error>(self, v: $ty) -> Result<(), E> {
+            self.0.record($kind, $width, 0, v as u64);
+            Ok(())
+        }
+    )*};
+}
+
+impl<'de, S: Sink> Visitor<'de> for Seed<'_, S> {
+    type Value = ();
+
+    fn expecting(&self, f: &mut fmt::Formatter<'_>) -> fmt::Result {
+        f.write_str("anything")
+    }
+
+    numbers! {
+        visit_i8(i8) 7 1; visit_i16(i16) 7 2; visit_i32(i32) 7 4; visit_i64(i64) 7 8;
+        visit_u8(u8) 8 1; visit_u16(u16) 8 2; visit_u32(u32) 8 4; visit_u64(u64) 8 8; visit_bool(bool) 6 0;
+    }
+
+    fn visit_f32<E: Error>(self, v: f32) -> Result<(), E> {
+        self.0.record(9, 0, 0, u64::from(v.to_bits()));
+        Ok(())
+    }
+
+    fn visit_f64<E: Error>(self, v: f64) -> Result<(), E> {
+        self.0.record(10, 0, 0, v.to_bits());
+        Ok(())
+    }
+
+    fn visit_str<E: Error>(self, v: &str) -> Result<(), E> {
+        self.0.text(v);
+        Ok(())
+    }
+
+    fn visit_unit<E: Error>(self) -> Result<(), E> {
+        self.0.record(13, 0, 0, 0);
+        Ok(())
+    }
+
+    fn visit_seq<A: SeqAccess<'de>>(self, mut seq: A) -> Result<(), A::Error> {
+        let sink = self.0;
+        sink.record(1, 0, seq.size_hint().unwrap_or(0) as u64, 0);
+        while seq.next_element_seed(Seed(sink))?.is_some() {}
+        sink.record(2, 0, 0, 0);
+        Ok(())
+    }
+
+    fn visit_map<A: MapAccess<'de>>(self, mut map: A) -> Result<(), A::Error> {
+        let sink = self.0;
+        sink.record(3, 0, map.size_hint().unwrap_or(0) as u64, 0);
+        while map.next_key_seed(Name(sink, 4))?.is_some() {
+            map.next_value_seed(Seed(sink))?;
+        }
+        sink.record(5, 0, 0, 0);
+        Ok(())
+    }
+
+    fn visit_enum<A: EnumAccess<'de>>(self, data: A) -> Result<(), A::Error> {
+        data.variant_seed(Name(self.0, 12))?.1.unit_variant()
+    }
+}
+
+struct Name<'s, S>(&'s mut S, u8);
+
+impl<'de, S: Sink> DeserializeSeed<'de> for Name<'_, S> {
+    type Value = ();
+
+    fn deserialize<D: Deserializer<'de>>(self, deserializer: D) -> Result<(), D::Error> {
+        deserializer.deserialize_any(self)
+    }
+}
+
+impl<'de, S: Sink> Visitor<'de> for Name<'_, S> {
+    type Value = ();
+
+    fn expecting(&self, f: &mut fmt::Formatter<'_>) -> fmt::Result {
+        f.write_str("a name")
+    }
+
+    fn visit_str<E: Error>(self, v: &str) -> Result<(), E> {
+        self.0.name(self.1, v);
+        Ok(())
+    }
+}
+
+fn walks() {
+    let bytes = speed::reached();
+    let (book, cache) = (TypeBook::new(&bytes[..]).expect("valid"), cache(&bytes));
+    let (port, original) = (book.root(0).expect("a type"), root(&cache, &bytes));
+    let mut scratch = Scratch::new();
+    assert_eq!(port.requires_read_modify_write(WIDTH), Ok(false));
+    assert!(!requires_read_modify_write(&original, &cache).expect("no refusal"));
+    let missing = port.missing_types(WIDTH).expect("no refusal");
+    assert_eq!((missing.blocks.len(), missing.count), (0, speed::TYPES));
+    assert!(missing_types(&original, &cache).is_empty());
+
+    head("walks, 4,096 types of four fields, all reached", "original");
+    pair(
+        "requires_read_modify_write, book checked before",
+        41,
+        || port.requires_read_modify_write_with(WIDTH, &mut scratch),
+        || requires_read_modify_write(&original, &cache),
+    );
+    pair(
+        "missing_types, book checked before",
+        41,
+        || port.missing_types_with(WIDTH, &mut scratch),
+        || missing_types(&original, &cache),
+    );
+    let (mut numbers, mut list) = (vec![0; 16_384], vec![0; 4_096]);
+    pair(
+        "missing_types, whole call with its checks",
+        15,
+        || typebook::calls::missing_types(&bytes, bytes.len(), WIDTH, 0, &mut numbers, &mut list, &mut [0; 3]),
+        || missing_types(&original, &cache),
+    );
+    prepared(&bytes);
+}
+
+/// What each side does once for a book.
+fn prepared(bytes: &[u8]) {
+    pair(
+        "once: checks and index; decoding into the HashMap",
+        7,
+        || TypeBook::new(bytes),
+        || cache(bytes),
+    );
+}
+
+fn reads(what: &str, (bytes, memory): (Vec<u8>, Vec<u8>)) {
+    let (book, cache) = (TypeBook::new(&bytes[..]).expect("valid"), cache(&bytes));
+    let (port, original) = (book.root(0).expect("a type"), root(&cache, &bytes));
+    let tape = port.read(WIDTH, &memory).expect("read");
+    let (mut records, mut text) = (vec![0; tape.bytes().len()], vec![0; tape.text().len()]);
+    let (mut other, mut other_text) = (records.clone(), text.clone());
+    let counted = || {
+        let mut counted = Counted::default();
+        Seed(&mut counted)
+            .deserialize(AdsDeserializer::new(&memory, &original, &cache))
+            .map(|()| counted)
+    };
+    let mut taped = || {
+        let mut sink = Taped {
+            tape: &mut other,
+            text: &mut other_text,
+            filled: 0,
+            texts: 0,
+        };
+        Seed(&mut sink).deserialize(AdsDeserializer::new(&memory, &original, &cache))
+    };
+    assert_eq!(counted().expect("read").records as usize, tape.len());
+
+    head(&format!("read, {what}: {} records", tape.len()), "original");
+    let port = &mut || port.read_into(WIDTH, &memory, &mut records, &mut text);
+    pair(
+        "book checked before; the visitor keeps nothing",
+        101,
+        &mut *port,
+        counted,
+    );
+    pair("book checked before; the visitor makes records", 101, port, &mut taped);
+    assert_eq!(other_text, tape.text());
+    whole_read(&bytes, &memory, tape.bytes().len(), tape.text().len());
+}
+
+fn whole_read(bytes: &[u8], memory: &[u8], records: usize, texts: usize) {
+    let (mut tape, mut text, len) = (vec![0; records], vec![0; texts], bytes.len());
+    let t = turns(
+        9,
+        &mut [
+            &mut || {
+                keep(typebook::calls::read(
+                    bytes,
+                    len,
+                    WIDTH,
+                    0,
+                    memory,
+                    &mut tape,
+                    &mut text,
+                    &mut [0; 2],
+                ))
+            },
+            &mut || keep(typebook::calls::check_book(bytes, len)),
+        ],
+    );
+    println!(
+        "{:58} {:>12} of which the check {}",
+        "whole call",
+        shown(t[0]),
+        shown(t[1])
+    );
+}
+
+/// All tables, or those that are named: walks, struct, array.
+fn main() {
+    let named: Vec<String> = std::env::args().skip(1).collect();
+    let wanted = |table: &str| named.is_empty() || named.iter().any(|n| n == table);
+    if wanted("walks") {
+        walks();
+    }
+    if wanted("struct") {
+        reads("a struct of 200 fields among 4,096 types", speed::struct_of_200());
+    }
+    if wanted("array") {
+        reads("an array of 10,000 structs of 6 fields", speed::array_of_10_000());
+    }
+}

@@ -1,0 +1,171 @@
+//! Times the static library against the plain twin: walks, reads, look-ups, checks, encodings.
+//!
+//!     cargo run --release --offline -p speed
+//!
+//! Medians of rounds in which the two sides take turns; above 1 the port is quicker. Nothing of the gate needs it.
+
+use speed::{TYPES, head, keep, line, pair, turns};
+use twin::make::{Type, book};
+use typebook::{Scratch, TypeBook, calls};
+
+const WIDTH: u8 = 8;
+
+fn walks() {
+    let bytes = speed::reached();
+    let book = TypeBook::new(&bytes[..]).expect("valid");
+    let root = book.root(0).expect("a type");
+    let (twin, plain) = (twin::Book::new(&bytes), twin::Book::without_map(&bytes));
+    let mut s = Scratch::new();
+    let missing = root.missing_types(WIDTH).expect("no refusal");
+    assert_eq!((missing.blocks.len(), missing.whole, missing.count), (0, true, TYPES));
+
+    head("walks, 4,096 types of four fields, all reached", "twin");
+    pair(
+        "requires_read_modify_write, checked before; HashMap",
+        41,
+        || root.requires_read_modify_write_with(WIDTH, &mut s),
+        || twin::walk::requires_read_modify_write(&twin, WIDTH, 0),
+    );
+    pair(
+        "missing_types, checked before; HashMap",
+        41,
+        || root.missing_types_with(WIDTH, &mut s),
+        || twin::walk::missing_types(&twin, WIDTH, 0),
+    );
+    pair(
+        "missing_types, checked before; each look-up a scan",
+        3,
+        || root.missing_types_with(WIDTH, &mut s),
+        || twin::walk::missing_types(&plain, WIDTH, 0),
+    );
+    whole_walk(&bytes);
+}
+
+fn whole_walk(bytes: &[u8]) {
+    let (mut scratch, mut list) = (vec![0; 16_384], vec![0; 4_096]);
+    let (mut others, mut other_list) = (scratch.clone(), list.clone());
+    pair(
+        "missing_types, whole call",
+        9,
+        || calls::missing_types(bytes, bytes.len(), WIDTH, 0, &mut scratch, &mut list, &mut [0; 3]),
+        || twin::calls::missing_types(bytes, bytes.len(), WIDTH, 0, &mut others, &mut other_list, &mut [0; 3]),
+    );
+}
+
+fn reads(what: &str, (bytes, memory): (Vec<u8>, Vec<u8>)) {
+    let (book, twin) = (TypeBook::new(&bytes[..]).expect("valid"), twin::Book::new(&bytes));
+    let root = book.root(0).expect("a type");
+    let whole = root.read(WIDTH, &memory).expect("read");
+    let (mut tape, mut text) = (vec![0; whole.bytes().len()], vec![0; whole.text().len()]);
+    let (mut other, mut others) = (tape.clone(), text.clone());
+
+    head(&format!("read, {what}"), "twin");
+    pair(
+        &format!("{} records, checked before", whole.len()),
+        41,
+        || root.read_into(WIDTH, &memory, &mut tape, &mut text),
+        || twin::calls::read_in(&twin, WIDTH, 0, &memory, &mut other, &mut others),
+    );
+    assert!(tape == other && text == others);
+}
+
+/// So many types without fields.
+fn types(n: usize) -> Vec<u8> {
+    let types = (0..n).map(|i| Type::new(&format!("ST_Recipe{i}")).id(2).size(2));
+    book(&types.collect::<Vec<_>>())
+}
+
+fn checks() {
+    head("books", "twin");
+    for n in [TYPES, 65_536] {
+        let bytes = types(n);
+        let t = turns(
+            9,
+            &mut [
+                &mut || keep(calls::check_book(&bytes, bytes.len())),
+                &mut || keep(twin::check::check_book(&bytes, bytes.len())),
+                &mut || keep(twin::check::sums(&bytes)),
+            ],
+        );
+        line(&format!("check_book, {n} types"), t[0], t[1]);
+        line("  against a plain loop over the sums alone", t[0], t[2]);
+    }
+    let bytes = types(TYPES);
+    let mut buffer = [&bytes[..], &[0; 512]].concat();
+    let (piece, mut other) = (Type::new("X").bytes(), buffer.clone());
+    pair(
+        "append to 4,096 types",
+        9,
+        || calls::append(&mut buffer, bytes.len(), &piece, &mut [0]),
+        || twin::check::append(&mut other, bytes.len(), &piece),
+    );
+}
+
+fn look_ups() {
+    let bytes = types(TYPES);
+    let (book, twin) = (TypeBook::new(&bytes[..]).expect("valid"), twin::Book::new(&bytes));
+    let names: Vec<String> = (0..TYPES).step_by(41).map(|i| format!("ST_Recipe{i}")).collect();
+    head("100 look-ups among 4,096 types", "twin");
+    pair(
+        "find by the index; by a HashMap",
+        41,
+        || names.iter().for_each(|n| keep(book.find(n))),
+        || names.iter().for_each(|n| keep(twin.find(n.as_bytes()))),
+    );
+    pair(
+        "find by a scan",
+        41,
+        || names.iter().for_each(|n| keep(calls::find(&bytes, n.as_bytes()))),
+        || names.iter().for_each(|n| keep(twin::calls::find(&bytes, n.as_bytes()))),
+    );
+}
+
+/// A text of about a megabyte.
+fn made(pieces: &[&str]) -> String {
+    let size = pieces.iter().map(|p| p.len()).sum::<usize>() / pieces.len();
+    pieces.iter().copied().cycle().take((1 << 20) / size).collect()
+}
+
+fn texts(what: &str, text: &str) {
+    let (narrow, wide) = (twin::text::windows_1252_encode(text), twin::text::utf_16_encode(text));
+    let mut out = vec![0; 4 * text.len() + 64];
+    let mut other = out.clone();
+    let bytes = text.as_bytes();
+    pair(
+        &format!("windows_1252_decode, {what}"),
+        15,
+        || calls::windows_1252_decode(&narrow, &mut out, 0),
+        || twin::calls::windows_1252_decode(&narrow, &mut other, 0),
+    );
+    pair(
+        &format!("windows_1252_encode, {what}"),
+        15,
+        || calls::windows_1252_encode(bytes, &mut out),
+        || twin::calls::windows_1252_encode(bytes, &mut other),
+    );
+    pair(
+        &format!("utf_16_decode, {what}"),
+        15,
+        || calls::utf_16_decode(&wide, &mut out, 0),
+        || twin::calls::utf_16_decode(&wide, &mut other, 0),
+    );
+    pair(
+        &format!("utf_16_encode, {what}"),
+        15,
+        || calls::utf_16_encode(bytes, &mut out),
+        || twin::calls::utf_16_encode(bytes, &mut other),
+    );
+    assert!(out == other);
+}
+
+fn main() {
+    walks();
+    reads("a struct of 200 fields among 4,096 types", speed::struct_of_200());
+    reads("an array of 10,000 structs of 6 fields", speed::array_of_10_000());
+    checks();
+    look_ups();
+    head("texts of about 1 MB", "twin");
+    texts("ASCII", &made(&["plain text of a recipe, ", "0123456789 "]));
+    texts("Latin", &made(&["Gr\u{f6}\u{df}e 12 \u{20ac} ", "plain "]));
+    texts("Cyrillic", &made(&["\u{416}\u{437}\u{430}", "\u{431} "]));
+}

@@ -1,0 +1,198 @@
+//! The calls in the library's shape: any bytes, lent buffers, an answer by number and values.
+
+use crate::read::{Reader, Sink};
+use crate::resolve::{fields_within, resolve};
+use crate::{Book, Stop, block, category, check, text, walk};
+
+const SCRATCH: usize = 16_384;
+const LIST: usize = 4_096;
+
+/// Lays values over the first of the lent ones, as many as fit.
+fn lay(values: &mut [u64], new: &[u64]) -> u8 {
+    values.iter_mut().zip(new).for_each(|(old, &new)| *old = new);
+    0
+}
+
+fn stopped(stop: Stop, values: &mut [u64]) -> u8 {
+    match stop {
+        Stop::Number(n) => n,
+        Stop::Missing(by) => {
+            lay(values, &[u64::from(by)]);
+            7
+        }
+    }
+}
+
+/// Writes a text at a place, all of it or nothing.
+fn put(text: &[u8], out: &mut [u8], at: usize) -> Option<usize> {
+    if text.is_empty() {
+        return Some(at);
+    }
+    let end = at.checked_add(text.len())?;
+    out.get_mut(at..end)?.copy_from_slice(text);
+    Some(end)
+}
+
+/// As the library's `windows_1252_decode`.
+pub fn windows_1252_decode(bytes: &[u8], out: &mut [u8], at: usize) -> Option<usize> {
+    put(text::windows_1252_decode(bytes).as_bytes(), out, at)
+}
+
+/// As the library's `windows_1252_encode`.
+pub fn windows_1252_encode(bytes: &[u8], out: &mut [u8]) -> Option<usize> {
+    put(&text::windows_1252_encode(&String::from_utf8_lossy(bytes)), out, 0)
+}
+
+/// As the library's `utf_16_decode`.
+pub fn utf_16_decode(bytes: &[u8], out: &mut [u8], at: usize) -> Option<usize> {
+    put(text::utf_16_decode(bytes).as_bytes(), out, at)
+}
+
+/// As the library's `utf_16_encode`.
+pub fn utf_16_encode(bytes: &[u8], out: &mut [u8]) -> Option<usize> {
+    put(&text::utf_16_encode(&String::from_utf8_lossy(bytes)), out, 0)
+}
+
+/// As the library's `find`: a linear search.
+pub fn find(book: &[u8], name: &[u8]) -> Option<u32> {
+    (0..block::count(book)).find(|&n| block::kind(book, n) == 1 && block::name(book, n) == name)
+}
+
+/// As the library's `determine`.
+pub fn determine(book: &[u8], width: u8, n: u32, values: &mut [u64]) -> u8 {
+    lay(values, &[category::determine(book, width, n) as u64])
+}
+
+/// As the library's `append`.
+pub fn append(buffer: &mut [u8], len: usize, piece: &[u8], values: &mut [u64]) -> u8 {
+    match check::append(buffer, len, piece) {
+        Ok(new) => lay(values, &[new as u64]),
+        Err(number) => number,
+    }
+}
+
+/// As the library's `resolve_alias` and, with `references`, its `resolve_indirection`.
+pub fn resolved(buffer: &[u8], len: usize, width: u8, root: u64, references: bool, values: &mut [u64]) -> u8 {
+    let root = match check::check_root(buffer, len, root) {
+        Ok(root) => root,
+        Err(number) => return number,
+    };
+    match resolve(&Book::new(&buffer[..len]), width, root, references) {
+        Ok(block) => lay(values, &[u64::from(block)]),
+        Err(stop) => stopped(stop, values),
+    }
+}
+
+/// As the library's `resolve_fields`.
+pub fn resolve_fields(buffer: &[u8], len: usize, width: u8, root: u64, records: &mut [u32], values: &mut [u64]) -> u8 {
+    let root = match check::check_root(buffer, len, root) {
+        Ok(root) => root,
+        Err(number) => return number,
+    };
+    match fields_within(&Book::new(&buffer[..len]), width, root, records.len() / 4) {
+        Ok(fields) => {
+            for (record, f) in records.chunks_exact_mut(4).zip(&fields) {
+                record.copy_from_slice(&[f.offset, f.size, f.resolved, f.field]);
+            }
+            lay(values, &[fields.len() as u64])
+        }
+        Err(stop) => stopped(stop, values),
+    }
+}
+
+/// As the library's `requires_read_modify_write`.
+pub fn requires_read_modify_write(
+    buffer: &[u8],
+    len: usize,
+    width: u8,
+    root: u64,
+    scratch: &mut [u32],
+    values: &mut [u64],
+) -> u8 {
+    let root = match check::check_root(buffer, len, root) {
+        Ok(root) => root,
+        Err(number) => return number,
+    };
+    if scratch.len() < SCRATCH {
+        return 6;
+    }
+    scratch.fill(0);
+    match walk::requires_read_modify_write(&Book::new(&buffer[..len]), width, root) {
+        Ok(yes) => lay(values, &[u64::from(yes)]),
+        Err(stop) => stopped(stop, values),
+    }
+}
+
+/// As the library's `missing_types`.
+pub fn missing_types(
+    buffer: &[u8],
+    len: usize,
+    width: u8,
+    root: u64,
+    scratch: &mut [u32],
+    list: &mut [u32],
+    values: &mut [u64],
+) -> u8 {
+    let root = match check::check_root(buffer, len, root) {
+        Ok(root) => root,
+        Err(number) => return number,
+    };
+    if scratch.len() < SCRATCH || list.len() < LIST {
+        return 6;
+    }
+    scratch.fill(0);
+    let missing = walk::missing_types(&Book::new(&buffer[..len]), width, root);
+    list[..missing.blocks.len()].copy_from_slice(&missing.blocks);
+    lay(
+        values,
+        &[
+            missing.blocks.len() as u64,
+            u64::from(missing.whole),
+            missing.count as u64,
+        ],
+    )
+}
+
+/// As the library's `read`.
+#[allow(clippy::too_many_arguments)]
+pub fn read(
+    buffer: &[u8],
+    len: usize,
+    width: u8,
+    root: u64,
+    memory: &[u8],
+    tape: &mut [u8],
+    text: &mut [u8],
+    values: &mut [u64],
+) -> u8 {
+    let answer = match check::check_root(buffer, len, root) {
+        Ok(root) => read_in(&Book::new(&buffer[..len]), width, root, memory, tape, text),
+        Err(number) => Err(Stop::Number(number)),
+    };
+    match answer {
+        Ok((records, texts)) => lay(values, &[records as u64, texts as u64]),
+        Err(stop) => {
+            tape.fill(0);
+            text.fill(0);
+            stopped(stop, values)
+        }
+    }
+}
+
+/// A read of a checked book: the records on the tape and the bytes of text.
+pub fn read_in(
+    book: &Book,
+    width: u8,
+    root: u32,
+    memory: &[u8],
+    tape: &mut [u8],
+    text: &mut [u8],
+) -> Result<(usize, usize), Stop> {
+    let mut reader = Reader {
+        book,
+        width,
+        sink: Sink::new(tape, text),
+    };
+    reader.root(root, memory)?;
+    Ok((reader.sink.filled / 24, reader.sink.texts))
+}

@@ -1,0 +1,411 @@
+//! The type book, checked once, and its types.
+
+use crate::category::Category;
+use crate::ffi::{Checked, TypeBlock, total};
+use crate::refusal::Refusal;
+use crate::tape::Tape;
+use std::borrow::Cow;
+use std::fmt;
+
+const BLOCK: usize = 512;
+const SCRATCH: usize = 16_384;
+const LIST: usize = 4_096;
+
+/// 0 as success, any other number as its refusal.
+fn done(number: u8, values: &[u64]) -> Result<(), Refusal> {
+    match number {
+        0 => Ok(()),
+        n => Err(Refusal::from_number(n, values[0])),
+    }
+}
+
+/// A type book that was checked: document 01's refusals 1 to 4 are behind it.
+///
+/// It owns its bytes or borrows them, and keeps an index of its names, so that look-ups are quick. Nothing changes a checked
+/// book; [`append`](TypeBook::append) gives back a new one.
+#[derive(Clone)]
+pub struct TypeBook<'a> {
+    checked: Checked<'a>,
+}
+
+impl<'a> TypeBook<'a> {
+    /// Checks a book.
+    ///
+    /// ```
+    /// use typebook::{Refusal, TypeBook};
+    /// # let bytes = twin::make::example();
+    /// let borrowed = TypeBook::new(&bytes[..])?;
+    /// assert_eq!(borrowed.blocks(), 4);
+    /// let mut damaged = bytes.clone();
+    /// damaged[8] += 1;
+    /// assert_eq!(TypeBook::new(damaged).unwrap_err(), Refusal::Sum);
+    /// # Ok::<(), Refusal>(())
+    /// ```
+    pub fn new(bytes: impl Into<Cow<'a, [u8]>>) -> Result<Self, Refusal> {
+        match Checked::new(bytes.into()) {
+            Ok(checked) => Ok(Self { checked }),
+            Err(number) => Err(Refusal::from_number(number, 0)),
+        }
+    }
+
+    /// The book's bytes.
+    pub fn bytes(&self) -> &[u8] {
+        self.checked.bytes()
+    }
+
+    /// The book's bytes, given back.
+    pub fn into_bytes(self) -> Cow<'a, [u8]> {
+        self.checked.into_bytes()
+    }
+
+    /// The number of blocks; types, fields and enumeration entries have one each.
+    pub fn blocks(&self) -> u32 {
+        (self.bytes().len() / BLOCK) as u32
+    }
+
+    /// The book with one more type: its block, followed by those of its fields and entries. The old book stays as it is.
+    ///
+    /// ```
+    /// use typebook::{Refusal, TypeBook};
+    /// # let bytes = twin::make::example();
+    /// # let piece = twin::make::Type::new("BYTE").id(17).size(1).bytes();
+    /// let book = TypeBook::new(bytes)?;
+    /// assert!(book.find("BYTE").is_none());
+    /// let more = book.append(&piece)?;
+    /// assert!(more.find("BYTE").is_some());
+    /// // A type that is there already is refused.
+    /// assert_eq!(more.append(&piece).unwrap_err(), Refusal::DoubledName);
+    /// # Ok::<(), Refusal>(())
+    /// ```
+    pub fn append(&self, piece: &[u8]) -> Result<TypeBook<'static>, Refusal> {
+        let len = self.bytes().len();
+        let mut buffer = Vec::with_capacity(len + piece.len());
+        buffer.extend_from_slice(self.bytes());
+        buffer.resize(len + piece.len(), 0);
+        let mut values = [0; 1];
+        done(total::append(&mut buffer, len, piece, &mut values), &values)?;
+        buffer.truncate(values[0] as usize);
+        TypeBook::new(buffer)
+    }
+
+    /// The type at a block number; 5 if there is none.
+    pub fn root(&self, block: u64) -> Result<TypeRef<'_>, Refusal> {
+        let found = u32::try_from(block).ok().and_then(|n| self.checked.type_block(n));
+        found.map(|block| TypeRef { block }).ok_or(Refusal::Root)
+    }
+
+    /// The type of a name.
+    pub fn find(&self, name: &str) -> Option<TypeRef<'_>> {
+        let n = total::find_by(self.bytes(), self.checked.index(), name.as_bytes())?;
+        self.checked.type_block(n).map(|block| TypeRef { block })
+    }
+
+    /// All types, in the order of the book.
+    pub fn types(&self) -> impl Iterator<Item = TypeRef<'_>> {
+        (0..self.blocks())
+            .filter_map(|n| self.checked.type_block(n))
+            .map(|block| TypeRef { block })
+    }
+
+    /// The name that a block has: a type's, a field's or an enumeration entry's. Empty past the book.
+    pub fn name(&self, block: u32) -> &str {
+        name_in(self.bytes(), block, total::name)
+    }
+
+    /// The type name that a block has. After a refusal 7 this is the name that is missing.
+    ///
+    /// ```
+    /// use typebook::{Refusal, TypeBook};
+    /// # let bytes = twin::make::Type::new("S").size(2).field("x", "FOO", 0, 2).bytes();
+    /// let book = TypeBook::new(bytes)?;
+    /// let refused = book.root(0)?.read(8, &[1, 2]).unwrap_err();
+    /// let Refusal::NotFound { block } = refused else { panic!() };
+    /// assert_eq!(book.type_name(block), "FOO");
+    /// # Ok::<(), Refusal>(())
+    /// ```
+    pub fn type_name(&self, block: u32) -> &str {
+        name_in(self.bytes(), block, total::type_name)
+    }
+}
+
+impl fmt::Debug for TypeBook<'_> {
+    fn fmt(&self, f: &mut fmt::Formatter<'_>) -> fmt::Result {
+        f.debug_struct("TypeBook")
+            .field("blocks", &self.blocks())
+            .finish_non_exhaustive()
+    }
+}
+
+/// Working memory of the two walks, to be used again from call to call.
+#[derive(Debug, Clone)]
+pub struct Scratch {
+    numbers: Vec<u32>,
+    list: Vec<u32>,
+}
+
+impl Scratch {
+    /// As much as document 01 asks for.
+    pub fn new() -> Self {
+        Self {
+            numbers: vec![0; SCRATCH],
+            list: vec![0; LIST],
+        }
+    }
+}
+
+impl Default for Scratch {
+    fn default() -> Self {
+        Self::new()
+    }
+}
+
+/// How much a read may fill before it is refused with 15.
+#[derive(Debug, Clone, Copy, PartialEq, Eq)]
+pub struct Room {
+    /// Records on the tape, 24 bytes each.
+    pub records: usize,
+    /// Bytes of text.
+    pub text: usize,
+}
+
+impl Default for Room {
+    /// A million records and 16 MB of text.
+    fn default() -> Self {
+        Self {
+            records: 1 << 20,
+            text: 1 << 24,
+        }
+    }
+}
+
+/// What the book lacks for a type.
+#[derive(Debug, Clone, PartialEq, Eq)]
+pub struct Missing {
+    /// The blocks whose type names aren't in the book, in the order found; a name may be listed more than once.
+    pub blocks: Vec<u32>,
+    /// Whether the walk is whole: no alias chain was too long, and there were no more than 4,096 names.
+    pub whole: bool,
+    /// The number of distinct type names met.
+    pub count: usize,
+}
+
+/// A field of a type, its own type resolved.
+#[derive(Debug, Clone, Copy)]
+pub struct ResolvedField<'b> {
+    /// Where the field begins in its type.
+    pub offset: u32,
+    /// How many bytes it has.
+    pub size: u32,
+    /// Its type, aliases resolved.
+    pub resolved: TypeRef<'b>,
+    /// The field's block.
+    pub field: u32,
+    /// The field's name.
+    pub name: &'b str,
+}
+
+/// A type of a checked book.
+///
+/// `width` is the controller's pointer width in bytes throughout.
+#[derive(Clone, Copy)]
+pub struct TypeRef<'b> {
+    block: TypeBlock<'b>,
+}
+
+impl<'b> TypeRef<'b> {
+    /// The number of its block.
+    pub fn block(self) -> u32 {
+        self.block.number()
+    }
+
+    /// Its name.
+    pub fn name(self) -> &'b str {
+        self.part(total::name)
+    }
+
+    /// The name of the type that it is an alias or an array of; mostly empty for others.
+    pub fn type_name(self) -> &'b str {
+        self.part(total::type_name)
+    }
+
+    fn part(self, place: fn(&[u8], u32, &mut [u64]) -> u8) -> &'b str {
+        name_in(self.block.book().bytes(), self.block(), place)
+    }
+
+    /// What kind of type it is; its aliases are not resolved.
+    pub fn category(self, width: u8) -> Category {
+        let mut values = [0; 1];
+        total::determine(self.block.book().bytes(), width, self.block(), &mut values);
+        Category::from_number(values[0]).expect("there are 16 categories")
+    }
+
+    /// The type at a block number that the library gave for this book: what resolves is a type block.
+    fn at(self, block: u64) -> TypeRef<'b> {
+        let found = u32::try_from(block).ok().and_then(|n| self.block.book().type_block(n));
+        TypeRef {
+            block: found.expect("a resolved type is a type block"),
+        }
+    }
+
+    /// The type that its aliases come to: itself if it is none.
+    pub fn resolve_alias(self, width: u8) -> Result<TypeRef<'b>, Refusal> {
+        let mut values = [0; 1];
+        done(self.block.resolve_alias(width, &mut values), &values)?;
+        Ok(self.at(values[0]))
+    }
+
+    /// The type that its aliases and references come to.
+    pub fn resolve_indirection(self, width: u8) -> Result<TypeRef<'b>, Refusal> {
+        let mut values = [0; 1];
+        done(self.block.resolve_indirection(width, &mut values), &values)?;
+        Ok(self.at(values[0]))
+    }
+
+    /// Its own fields, in order, each with its type resolved. The library checks the book again in this call.
+    ///
+    /// ```
+    /// # use typebook::{Refusal, TypeBook};
+    /// # let book = TypeBook::new(twin::make::example())?;
+    /// let fields = book.root(0)?.fields(8)?;
+    /// assert_eq!(fields[1].name, "B");
+    /// assert_eq!((fields[1].offset, fields[1].size), (2, 2));
+    /// assert_eq!(fields[1].resolved.name(), "INT");
+    /// # Ok::<(), Refusal>(())
+    /// ```
+    pub fn fields(self, width: u8) -> Result<Vec<ResolvedField<'b>>, Refusal> {
+        let bytes = self.block.book().bytes();
+        // No type has more fields than the book has blocks.
+        let mut records = vec![0; 4 * (bytes.len() / BLOCK)];
+        let mut values = [0; 1];
+        let root = u64::from(self.block());
+        done(
+            total::resolve_fields(bytes, bytes.len(), width, root, &mut records, &mut values),
+            &values,
+        )?;
+        let filled = records.chunks_exact(4).take(values[0] as usize);
+        Ok(filled.map(|r| self.resolved_field([r[0], r[1], r[2], r[3]])).collect())
+    }
+
+    fn resolved_field(self, [offset, size, resolved, field]: [u32; 4]) -> ResolvedField<'b> {
+        ResolvedField {
+            offset,
+            size,
+            resolved: self.at(u64::from(resolved)),
+            field,
+            name: name_in(self.block.book().bytes(), field, total::name),
+        }
+    }
+
+    /// Whether a function block lies anywhere in it: then its memory must be read, altered and written back, since a fresh
+    /// image would clear the state that the block holds.
+    ///
+    /// ```
+    /// # use typebook::{Refusal, TypeBook};
+    /// # use twin::make::Type;
+    /// # let bytes = [Type::new("S").size(12).field("counter", "FB", 0, 12).bytes(), Type::new("FB").size(12).bytes()].concat();
+    /// let book = TypeBook::new(bytes)?;
+    /// assert!(book.root(0)?.requires_read_modify_write(8)?);
+    /// # Ok::<(), Refusal>(())
+    /// ```
+    pub fn requires_read_modify_write(self, width: u8) -> Result<bool, Refusal> {
+        self.requires_read_modify_write_with(width, &mut Scratch::new())
+    }
+
+    /// The same with working memory that is there already.
+    pub fn requires_read_modify_write_with(self, width: u8, scratch: &mut Scratch) -> Result<bool, Refusal> {
+        let mut values = [0; 1];
+        done(
+            self.block
+                .requires_read_modify_write(width, &mut scratch.numbers, &mut values),
+            &values,
+        )?;
+        Ok(values[0] == 1)
+    }
+
+    /// The types that it is made of and that the book lacks.
+    ///
+    /// ```
+    /// # use typebook::{Refusal, TypeBook};
+    /// # let bytes = twin::make::Type::new("S").size(4).field("x", "FOO", 0, 2).field("y", "BAR", 2, 2).bytes();
+    /// let book = TypeBook::new(bytes)?;
+    /// let missing = book.root(0)?.missing_types(8)?;
+    /// let names: Vec<&str> = missing.blocks.iter().map(|&b| book.type_name(b)).collect();
+    /// assert_eq!(names, ["BAR", "FOO"]);
+    /// assert!(missing.whole);
+    /// # Ok::<(), Refusal>(())
+    /// ```
+    pub fn missing_types(self, width: u8) -> Result<Missing, Refusal> {
+        self.missing_types_with(width, &mut Scratch::new())
+    }
+
+    /// The same with working memory that is there already.
+    pub fn missing_types_with(self, width: u8, scratch: &mut Scratch) -> Result<Missing, Refusal> {
+        let mut values = [0; 3];
+        let Scratch { numbers, list } = scratch;
+        done(self.block.missing_types(width, numbers, list, &mut values), &values)?;
+        let [listed, whole, count] = values;
+        Ok(Missing {
+            blocks: list[..listed as usize].to_vec(),
+            whole: whole == 1,
+            count: count as usize,
+        })
+    }
+
+    /// Reads a memory of this type, with the default [`Room`].
+    pub fn read(self, width: u8, memory: &[u8]) -> Result<Tape<'b>, Refusal> {
+        self.read_within(width, memory, Room::default())
+    }
+
+    /// Reads a memory of this type. Buffers are made larger until the answer fits or the room is used up.
+    pub fn read_within(self, width: u8, memory: &[u8], room: Room) -> Result<Tape<'b>, Refusal> {
+        let mut records = (64 + memory.len()).min(room.records);
+        let mut bytes = (64 + memory.len()).min(room.text);
+        loop {
+            let mut tape = vec![0; 24 * records];
+            let mut text = vec![0; bytes];
+            match self.read_into(width, memory, &mut tape, &mut text) {
+                Err(Refusal::NoRoom) if records < room.records || bytes < room.text => {
+                    records = records.saturating_mul(8).min(room.records);
+                    bytes = bytes.saturating_mul(8).min(room.text);
+                }
+                Err(refusal) => return Err(refusal),
+                Ok((filled, texts)) => {
+                    tape.truncate(24 * filled);
+                    text.truncate(texts);
+                    return Ok(Tape::new(self.block.book().bytes(), tape, text));
+                }
+            }
+        }
+    }
+
+    /// Reads into buffers of the caller; answers the records on the tape and the bytes of text. After a refusal both buffers
+    /// are zero; after a success what follows is as before.
+    pub fn read_into(
+        self,
+        width: u8,
+        memory: &[u8],
+        tape: &mut [u8],
+        text: &mut [u8],
+    ) -> Result<(usize, usize), Refusal> {
+        let mut values = [0; 2];
+        done(self.block.read(width, memory, tape, text, &mut values), &values)?;
+        Ok((values[0] as usize, values[1] as usize))
+    }
+}
+
+impl fmt::Debug for TypeRef<'_> {
+    fn fmt(&self, f: &mut fmt::Formatter<'_>) -> fmt::Result {
+        f.debug_struct("TypeRef")
+            .field("block", &self.block())
+            .field("name", &self.name())
+            .finish()
+    }
+}
+
+/// A name in a checked book, where the call says that it stands.
+pub(crate) fn name_in(book: &[u8], block: u32, place: fn(&[u8], u32, &mut [u64]) -> u8) -> &str {
+    let mut values = [0; 2];
+    place(book, block, &mut values);
+    let [at, len] = values.map(|v| v as usize);
+    std::str::from_utf8(&book[at..at + len]).expect("a checked book's names are of the bytes 20h to 7Eh")
+}

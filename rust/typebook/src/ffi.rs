@@ -1,0 +1,696 @@
+//! The library's functions, declared, and this crate's only unsafe code.
+//!
+//! The calls of [`total`] take any bytes: each is proved for all of them. The forms whose names end in `_in` need a book
+//! that was checked and a root that is one of its type blocks; [`Checked`] and [`TypeBlock`] can only be had by those checks,
+//! and their bytes can't change while they are lent.
+
+use std::borrow::Cow;
+
+mod raw {
+    // A slice crosses as a pointer and a length. tests/declarations.rs holds these against the exports of crates/gateway.
+    unsafe extern "C" {
+        pub fn gateway_windows_1252_decode(
+            bytes: *const u8,
+            bytes_len: usize,
+            out: *mut u8,
+            out_len: usize,
+            at: usize,
+        ) -> u64;
+        pub fn gateway_windows_1252_encode(text: *const u8, text_len: usize, out: *mut u8, out_len: usize) -> u64;
+        pub fn gateway_utf_16_decode(
+            bytes: *const u8,
+            bytes_len: usize,
+            out: *mut u8,
+            out_len: usize,
+            at: usize,
+        ) -> u64;
+        pub fn gateway_utf_16_encode(text: *const u8, text_len: usize, out: *mut u8, out_len: usize) -> u64;
+        pub fn gateway_utf_8_well_formed(text: *const u8, text_len: usize) -> u8;
+        pub fn gateway_find(book: *const u8, book_len: usize, name: *const u8, name_len: usize) -> u32;
+        pub fn gateway_find_by(
+            book: *const u8,
+            book_len: usize,
+            index: *const u32,
+            index_len: usize,
+            name: *const u8,
+            name_len: usize,
+        ) -> u32;
+        pub fn gateway_fill_index(book: *const u8, book_len: usize, index: *mut u32, index_len: usize);
+        pub fn gateway_check_book(buffer: *const u8, buffer_len: usize, len: usize) -> u8;
+        pub fn gateway_is_type(book: *const u8, book_len: usize, block: u32) -> u8;
+        pub fn gateway_name(book: *const u8, book_len: usize, block: u32, values: *mut u64, values_len: usize) -> u8;
+        pub fn gateway_type_name(
+            book: *const u8,
+            book_len: usize,
+            block: u32,
+            values: *mut u64,
+            values_len: usize,
+        ) -> u8;
+        pub fn gateway_determine(
+            book: *const u8,
+            book_len: usize,
+            width: u8,
+            block: u32,
+            values: *mut u64,
+            values_len: usize,
+        ) -> u8;
+        pub fn gateway_append(
+            buffer: *mut u8,
+            buffer_len: usize,
+            len: usize,
+            piece: *const u8,
+            piece_len: usize,
+            values: *mut u64,
+            values_len: usize,
+        ) -> u8;
+        pub fn gateway_resolve_alias(
+            buffer: *const u8,
+            buffer_len: usize,
+            len: usize,
+            width: u8,
+            root: u64,
+            values: *mut u64,
+            values_len: usize,
+        ) -> u8;
+        pub fn gateway_resolve_indirection(
+            buffer: *const u8,
+            buffer_len: usize,
+            len: usize,
+            width: u8,
+            root: u64,
+            values: *mut u64,
+            values_len: usize,
+        ) -> u8;
+        pub fn gateway_resolve_fields(
+            buffer: *const u8,
+            buffer_len: usize,
+            len: usize,
+            width: u8,
+            root: u64,
+            records: *mut u32,
+            records_len: usize,
+            values: *mut u64,
+            values_len: usize,
+        ) -> u8;
+        pub fn gateway_requires_read_modify_write(
+            buffer: *const u8,
+            buffer_len: usize,
+            len: usize,
+            width: u8,
+            root: u64,
+            scratch: *mut u32,
+            scratch_len: usize,
+            values: *mut u64,
+            values_len: usize,
+        ) -> u8;
+        pub fn gateway_missing_types(
+            buffer: *const u8,
+            buffer_len: usize,
+            len: usize,
+            width: u8,
+            root: u64,
+            scratch: *mut u32,
+            scratch_len: usize,
+            list: *mut u32,
+            list_len: usize,
+            values: *mut u64,
+            values_len: usize,
+        ) -> u8;
+        pub fn gateway_read(
+            buffer: *const u8,
+            buffer_len: usize,
+            len: usize,
+            width: u8,
+            root: u64,
+            memory: *const u8,
+            memory_len: usize,
+            tape: *mut u8,
+            tape_len: usize,
+            text: *mut u8,
+            text_len: usize,
+            values: *mut u64,
+            values_len: usize,
+        ) -> u8;
+        pub fn gateway_resolve_alias_in(
+            book: *const u8,
+            book_len: usize,
+            index: *const u32,
+            index_len: usize,
+            width: u8,
+            root: u32,
+            values: *mut u64,
+            values_len: usize,
+        ) -> u8;
+        pub fn gateway_resolve_indirection_in(
+            book: *const u8,
+            book_len: usize,
+            index: *const u32,
+            index_len: usize,
+            width: u8,
+            root: u32,
+            values: *mut u64,
+            values_len: usize,
+        ) -> u8;
+        pub fn gateway_requires_read_modify_write_in(
+            book: *const u8,
+            book_len: usize,
+            index: *const u32,
+            index_len: usize,
+            width: u8,
+            root: u32,
+            scratch: *mut u32,
+            scratch_len: usize,
+            values: *mut u64,
+            values_len: usize,
+        ) -> u8;
+        pub fn gateway_missing_types_in(
+            book: *const u8,
+            book_len: usize,
+            index: *const u32,
+            index_len: usize,
+            width: u8,
+            root: u32,
+            scratch: *mut u32,
+            scratch_len: usize,
+            list: *mut u32,
+            list_len: usize,
+            values: *mut u64,
+            values_len: usize,
+        ) -> u8;
+        pub fn gateway_read_in(
+            book: *const u8,
+            book_len: usize,
+            index: *const u32,
+            index_len: usize,
+            width: u8,
+            root: u32,
+            memory: *const u8,
+            memory_len: usize,
+            tape: *mut u8,
+            tape_len: usize,
+            text: *mut u8,
+            text_len: usize,
+            values: *mut u64,
+            values_len: usize,
+        ) -> u8;
+    }
+}
+
+/// The library's calls as they are, by numbers and slices, for any bytes.
+///
+/// An answer of 0 is success, any other number is a refusal of document 01. A call lays its values over the first numbers of
+/// `values`, as many as fit; after refusal 7 the first is the block whose type name isn't in the book, and any other refusal
+/// leaves them as before.
+pub mod total {
+    use super::raw;
+
+    /// The place after the decoded text, which begins at `at` of `out`; none where it doesn't fit.
+    fn place(answer: u64) -> Option<usize> {
+        (answer != u64::MAX).then_some(answer as usize)
+    }
+
+    /// Decodes Windows-1252 into UTF-8 from `at` on; answers the place after it, or none, and `out` is then as before.
+    pub fn windows_1252_decode(bytes: &[u8], out: &mut [u8], at: usize) -> Option<usize> {
+        // SAFETY, here and below: every pointer and length is one slice's, lent for the call alone.
+        place(unsafe { raw::gateway_windows_1252_decode(bytes.as_ptr(), bytes.len(), out.as_mut_ptr(), out.len(), at) })
+    }
+
+    /// Encodes UTF-8 as Windows-1252; what it lacks becomes `&#`, the decimal number and `;`.
+    pub fn windows_1252_encode(text: &[u8], out: &mut [u8]) -> Option<usize> {
+        place(unsafe { raw::gateway_windows_1252_encode(text.as_ptr(), text.len(), out.as_mut_ptr(), out.len()) })
+    }
+
+    /// Decodes UTF-16, low byte first, into UTF-8 from `at` on.
+    pub fn utf_16_decode(bytes: &[u8], out: &mut [u8], at: usize) -> Option<usize> {
+        place(unsafe { raw::gateway_utf_16_decode(bytes.as_ptr(), bytes.len(), out.as_mut_ptr(), out.len(), at) })
+    }
+
+    /// Encodes UTF-8 as UTF-16, low byte first.
+    pub fn utf_16_encode(text: &[u8], out: &mut [u8]) -> Option<usize> {
+        place(unsafe { raw::gateway_utf_16_encode(text.as_ptr(), text.len(), out.as_mut_ptr(), out.len()) })
+    }
+
+    /// Whether a text is well-formed UTF-8.
+    pub fn utf_8_well_formed(text: &[u8]) -> bool {
+        unsafe { raw::gateway_utf_8_well_formed(text.as_ptr(), text.len()) == 1 }
+    }
+
+    /// The block that a look-up gives, none for 2^32 - 1.
+    fn block(answer: u32) -> Option<u32> {
+        (answer != u32::MAX).then_some(answer)
+    }
+
+    /// The first type block of that name.
+    pub fn find(book: &[u8], name: &[u8]) -> Option<u32> {
+        block(unsafe { raw::gateway_find(book.as_ptr(), book.len(), name.as_ptr(), name.len()) })
+    }
+
+    /// The same where names are unique, quickly where the index is one of [`fill_index`]; any index is allowed.
+    pub fn find_by(book: &[u8], index: &[u32], name: &[u8]) -> Option<u32> {
+        let (b, i) = (book, index);
+        block(unsafe { raw::gateway_find_by(b.as_ptr(), b.len(), i.as_ptr(), i.len(), name.as_ptr(), name.len()) })
+    }
+
+    /// Makes an index of the book's names for [`find_by`]; four slots a type serve well.
+    pub fn fill_index(book: &[u8], index: &mut [u32]) {
+        unsafe { raw::gateway_fill_index(book.as_ptr(), book.len(), index.as_mut_ptr(), index.len()) }
+    }
+
+    /// Refusals 1 to 4 of the book in the first `len` bytes of the buffer.
+    pub fn check_book(buffer: &[u8], len: usize) -> u8 {
+        unsafe { raw::gateway_check_book(buffer.as_ptr(), buffer.len(), len) }
+    }
+
+    /// Whether a block is a type block.
+    pub fn is_type(book: &[u8], block: u32) -> bool {
+        unsafe { raw::gateway_is_type(book.as_ptr(), book.len(), block) == 1 }
+    }
+
+    /// Values: offset and length of the block's name in the book.
+    pub fn name(book: &[u8], block: u32, values: &mut [u64]) -> u8 {
+        unsafe { raw::gateway_name(book.as_ptr(), book.len(), block, values.as_mut_ptr(), values.len()) }
+    }
+
+    /// Values: offset and length of the block's type name in the book.
+    pub fn type_name(book: &[u8], block: u32, values: &mut [u64]) -> u8 {
+        unsafe { raw::gateway_type_name(book.as_ptr(), book.len(), block, values.as_mut_ptr(), values.len()) }
+    }
+
+    /// Value: the category's place in the list of [`Category`](crate::Category).
+    pub fn determine(book: &[u8], width: u8, block: u32, values: &mut [u64]) -> u8 {
+        unsafe {
+            raw::gateway_determine(
+                book.as_ptr(),
+                book.len(),
+                width,
+                block,
+                values.as_mut_ptr(),
+                values.len(),
+            )
+        }
+    }
+
+    /// Appends one type's blocks to the book in the first `len` bytes of the buffer. Value: the new length.
+    pub fn append(buffer: &mut [u8], len: usize, piece: &[u8], values: &mut [u64]) -> u8 {
+        unsafe {
+            raw::gateway_append(
+                buffer.as_mut_ptr(),
+                buffer.len(),
+                len,
+                piece.as_ptr(),
+                piece.len(),
+                values.as_mut_ptr(),
+                values.len(),
+            )
+        }
+    }
+
+    /// Value: the block that the root's aliases come to.
+    pub fn resolve_alias(buffer: &[u8], len: usize, width: u8, root: u64, values: &mut [u64]) -> u8 {
+        let v = values;
+        unsafe { raw::gateway_resolve_alias(buffer.as_ptr(), buffer.len(), len, width, root, v.as_mut_ptr(), v.len()) }
+    }
+
+    /// Value: the block that the root's aliases and references come to.
+    pub fn resolve_indirection(buffer: &[u8], len: usize, width: u8, root: u64, values: &mut [u64]) -> u8 {
+        let v = values;
+        unsafe {
+            raw::gateway_resolve_indirection(buffer.as_ptr(), buffer.len(), len, width, root, v.as_mut_ptr(), v.len())
+        }
+    }
+
+    /// Records of four numbers (offset, size, resolved type's block, field's block). Value: the number of fields.
+    pub fn resolve_fields(
+        buffer: &[u8],
+        len: usize,
+        width: u8,
+        root: u64,
+        records: &mut [u32],
+        values: &mut [u64],
+    ) -> u8 {
+        unsafe {
+            raw::gateway_resolve_fields(
+                buffer.as_ptr(),
+                buffer.len(),
+                len,
+                width,
+                root,
+                records.as_mut_ptr(),
+                records.len(),
+                values.as_mut_ptr(),
+                values.len(),
+            )
+        }
+    }
+
+    /// Value: 1 if a function block lies anywhere in the root, else 0.
+    pub fn requires_read_modify_write(
+        buffer: &[u8],
+        len: usize,
+        width: u8,
+        root: u64,
+        scratch: &mut [u32],
+        values: &mut [u64],
+    ) -> u8 {
+        unsafe {
+            raw::gateway_requires_read_modify_write(
+                buffer.as_ptr(),
+                buffer.len(),
+                len,
+                width,
+                root,
+                scratch.as_mut_ptr(),
+                scratch.len(),
+                values.as_mut_ptr(),
+                values.len(),
+            )
+        }
+    }
+
+    /// Values: blocks listed, 1 if the walk is whole, distinct names met.
+    pub fn missing_types(
+        buffer: &[u8],
+        len: usize,
+        width: u8,
+        root: u64,
+        scratch: &mut [u32],
+        list: &mut [u32],
+        values: &mut [u64],
+    ) -> u8 {
+        unsafe {
+            raw::gateway_missing_types(
+                buffer.as_ptr(),
+                buffer.len(),
+                len,
+                width,
+                root,
+                scratch.as_mut_ptr(),
+                scratch.len(),
+                list.as_mut_ptr(),
+                list.len(),
+                values.as_mut_ptr(),
+                values.len(),
+            )
+        }
+    }
+
+    /// Values: records on the tape, bytes in the text buffer.
+    #[allow(clippy::too_many_arguments)]
+    pub fn read(
+        buffer: &[u8],
+        len: usize,
+        width: u8,
+        root: u64,
+        memory: &[u8],
+        tape: &mut [u8],
+        text: &mut [u8],
+        values: &mut [u64],
+    ) -> u8 {
+        unsafe {
+            raw::gateway_read(
+                buffer.as_ptr(),
+                buffer.len(),
+                len,
+                width,
+                root,
+                memory.as_ptr(),
+                memory.len(),
+                tape.as_mut_ptr(),
+                tape.len(),
+                text.as_mut_ptr(),
+                text.len(),
+                values.as_mut_ptr(),
+                values.len(),
+            )
+        }
+    }
+
+    /// The same calls where a caller lends nothing at all: a null pointer and the length 0.
+    #[cfg(test)]
+    mod tests {
+        use super::raw;
+        use std::ptr::{null, null_mut};
+
+        #[test]
+        fn null_and_no_length() {
+            // SAFETY: a slice of no bytes is read and written nowhere.
+            unsafe {
+                assert_eq!(raw::gateway_check_book(null(), 0, 0), 1);
+                assert_eq!(raw::gateway_check_book(null(), 0, usize::MAX), 1);
+                assert_eq!(raw::gateway_find(null(), 0, null(), 0), u32::MAX);
+                assert_eq!(raw::gateway_find_by(null(), 0, null(), 0, null(), 0), u32::MAX);
+                raw::gateway_fill_index(null(), 0, null_mut(), 0);
+                assert_eq!(raw::gateway_is_type(null(), 0, 0), 0);
+                assert_eq!(raw::gateway_name(null(), 0, 7, null_mut(), 0), 0);
+                assert_eq!(raw::gateway_type_name(null(), 0, 7, null_mut(), 0), 0);
+                assert_eq!(raw::gateway_determine(null(), 0, 8, 0, null_mut(), 0), 0);
+            }
+        }
+
+        #[test]
+        fn null_and_no_length_in_calls_on_books() {
+            // SAFETY: as above.
+            unsafe {
+                assert_eq!(raw::gateway_append(null_mut(), 0, 0, null(), 0, null_mut(), 0), 1);
+                assert_eq!(raw::gateway_resolve_alias(null(), 0, 0, 8, 0, null_mut(), 0), 1);
+                assert_eq!(raw::gateway_resolve_indirection(null(), 0, 0, 8, 0, null_mut(), 0), 1);
+                assert_eq!(
+                    raw::gateway_resolve_fields(null(), 0, 0, 8, 0, null_mut(), 0, null_mut(), 0),
+                    1
+                );
+                assert_eq!(
+                    raw::gateway_requires_read_modify_write(null(), 0, 0, 8, 0, null_mut(), 0, null_mut(), 0),
+                    1
+                );
+                assert_eq!(
+                    raw::gateway_missing_types(null(), 0, 0, 8, 0, null_mut(), 0, null_mut(), 0, null_mut(), 0),
+                    1
+                );
+                assert_eq!(
+                    raw::gateway_read(
+                        null(),
+                        0,
+                        0,
+                        8,
+                        0,
+                        null(),
+                        0,
+                        null_mut(),
+                        0,
+                        null_mut(),
+                        0,
+                        null_mut(),
+                        0
+                    ),
+                    1
+                );
+            }
+        }
+
+        #[test]
+        fn null_and_no_length_in_texts() {
+            // SAFETY: as above.
+            unsafe {
+                assert_eq!(raw::gateway_windows_1252_decode(null(), 0, null_mut(), 0, 0), 0);
+                assert_eq!(raw::gateway_windows_1252_encode(null(), 0, null_mut(), 0), 0);
+                assert_eq!(raw::gateway_utf_16_decode(null(), 0, null_mut(), 0, 0), 0);
+                assert_eq!(raw::gateway_utf_16_encode(null(), 0, null_mut(), 0), 0);
+                assert_eq!(raw::gateway_utf_8_well_formed(null(), 0), 1);
+            }
+        }
+    }
+}
+
+/// A book that the library has found valid, with an index of its names.
+#[derive(Clone)]
+pub(crate) struct Checked<'a> {
+    bytes: Cow<'a, [u8]>,
+    index: Vec<u32>,
+}
+
+impl<'a> Checked<'a> {
+    /// The checks of document 01's refusals 1 to 4; the number of the one that is met first.
+    pub(crate) fn new(bytes: Cow<'a, [u8]>) -> Result<Self, u8> {
+        match total::check_book(&bytes, bytes.len()) {
+            0 => {
+                // Four slots a type serve well; a block that isn't a type leaves more room.
+                let mut index = vec![0; 4 * (bytes.len() / 512)];
+                total::fill_index(&bytes, &mut index);
+                Ok(Self { bytes, index })
+            }
+            number => Err(number),
+        }
+    }
+
+    pub(crate) fn bytes(&self) -> &[u8] {
+        &self.bytes
+    }
+
+    pub(crate) fn into_bytes(self) -> Cow<'a, [u8]> {
+        self.bytes
+    }
+
+    pub(crate) fn index(&self) -> &[u32] {
+        &self.index
+    }
+
+    /// The block, if it is one of this book's type blocks.
+    pub(crate) fn type_block(&self, block: u32) -> Option<TypeBlock<'_>> {
+        total::is_type(&self.bytes, block).then_some(TypeBlock { book: self, block })
+    }
+}
+
+/// A type block of a checked book: what the forms without a check need.
+#[derive(Clone, Copy)]
+pub(crate) struct TypeBlock<'b> {
+    book: &'b Checked<'b>,
+    block: u32,
+}
+
+// SAFETY, in each call below: the book was checked and its bytes are lent unchanged, the root is one of its type blocks, and
+// every pointer and length is one slice's, lent for the call alone.
+impl<'b> TypeBlock<'b> {
+    pub(crate) fn book(self) -> &'b Checked<'b> {
+        self.book
+    }
+
+    pub(crate) fn number(self) -> u32 {
+        self.block
+    }
+
+    pub(crate) fn resolve_alias(self, width: u8, values: &mut [u64]) -> u8 {
+        let (b, i, v) = (self.book.bytes(), self.book.index(), values);
+        unsafe {
+            raw::gateway_resolve_alias_in(
+                b.as_ptr(),
+                b.len(),
+                i.as_ptr(),
+                i.len(),
+                width,
+                self.block,
+                v.as_mut_ptr(),
+                v.len(),
+            )
+        }
+    }
+
+    pub(crate) fn resolve_indirection(self, width: u8, values: &mut [u64]) -> u8 {
+        let (b, i, v) = (self.book.bytes(), self.book.index(), values);
+        unsafe {
+            raw::gateway_resolve_indirection_in(
+                b.as_ptr(),
+                b.len(),
+                i.as_ptr(),
+                i.len(),
+                width,
+                self.block,
+                v.as_mut_ptr(),
+                v.len(),
+            )
+        }
+    }
+
+    pub(crate) fn requires_read_modify_write(self, width: u8, scratch: &mut [u32], values: &mut [u64]) -> u8 {
+        let (b, i, v) = (self.book.bytes(), self.book.index(), values);
+        unsafe {
+            raw::gateway_requires_read_modify_write_in(
+                b.as_ptr(),
+                b.len(),
+                i.as_ptr(),
+                i.len(),
+                width,
+                self.block,
+                scratch.as_mut_ptr(),
+                scratch.len(),
+                v.as_mut_ptr(),
+                v.len(),
+            )
+        }
+    }
+
+    pub(crate) fn missing_types(self, width: u8, scratch: &mut [u32], list: &mut [u32], values: &mut [u64]) -> u8 {
+        let (b, i, v) = (self.book.bytes(), self.book.index(), values);
+        unsafe {
+            raw::gateway_missing_types_in(
+                b.as_ptr(),
+                b.len(),
+                i.as_ptr(),
+                i.len(),
+                width,
+                self.block,
+                scratch.as_mut_ptr(),
+                scratch.len(),
+                list.as_mut_ptr(),
+                list.len(),
+                v.as_mut_ptr(),
+                v.len(),
+            )
+        }
+    }
+
+    pub(crate) fn read(self, width: u8, memory: &[u8], tape: &mut [u8], text: &mut [u8], values: &mut [u64]) -> u8 {
+        let (b, i, v) = (self.book.bytes(), self.book.index(), values);
+        unsafe {
+            raw::gateway_read_in(
+                b.as_ptr(),
+                b.len(),
+                i.as_ptr(),
+                i.len(),
+                width,
+                self.block,
+                memory.as_ptr(),
+                memory.len(),
+                tape.as_mut_ptr(),
+                tape.len(),
+                text.as_mut_ptr(),
+                text.len(),
+                v.as_mut_ptr(),
+                v.len(),
+            )
+        }
+    }
+}
+
+#[cfg(test)]
+mod tests {
+    use super::*;
+    use twin::random::{Rng, made, memory};
+
+    /// Every answer of the forms for a checked book, and what they leave in the buffers.
+    fn answers(t: TypeBlock, width: u8, memory: &[u8]) -> (Vec<u8>, Vec<u64>, Vec<u32>, Vec<u8>) {
+        let mut v = vec![9; 9];
+        let (mut scratch, mut list) = (vec![1; 16_384], vec![7; 4_096]);
+        let (mut tape, mut text) = (vec![3; 24 * 300], vec![3; 2_000]);
+        let numbers = vec![
+            t.resolve_alias(width, &mut v[..1]),
+            t.resolve_indirection(width, &mut v[1..2]),
+            t.requires_read_modify_write(width, &mut scratch, &mut v[2..3]),
+            t.missing_types(width, &mut scratch, &mut list, &mut v[3..6]),
+            t.read(width, memory, &mut tape, &mut text, &mut v[6..8]),
+            t.requires_read_modify_write(width, &mut scratch[..16_383], &mut v[8..]),
+            t.missing_types(width, &mut scratch, &mut list[..4_095], &mut v[8..]),
+        ];
+        (numbers, v, [scratch, list].concat(), [tape, text].concat())
+    }
+
+    /// Any index is allowed: an empty one, one of another book, one of random numbers.
+    #[test]
+    fn foreign_indexes_change_no_answer() {
+        for seed in 0..400 {
+            let rng = &mut Rng::new(seed);
+            let made = made(rng);
+            let memory = memory(rng, &made);
+            let mut book = Checked::new(Cow::Borrowed(&made.book)).expect("valid");
+            let told = answers(book.type_block(made.root).expect("a type"), made.width, &memory);
+            assert_eq!((told.0[5], told.0[6], told.1[8]), (6, 6, 9));
+            let blocks = book.bytes().len() as u64 / 512;
+            for most in [1, 2, blocks + 3, u64::from(u32::MAX) + 1] {
+                book.index = (0..rng.below(200)).map(|_| (rng.number() % most) as u32).collect();
+                assert_eq!(
+                    answers(book.type_block(made.root).expect("a type"), made.width, &memory),
+                    told
+                );
+            }
+        }
+    }
+}

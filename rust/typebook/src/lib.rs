@@ -1,0 +1,46 @@
+//! TwinCAT memory by its type book: the proved reader, resolvers and type walks, called safely.
+//!
+//! A [`TypeBook`] is checked once. From it come [`TypeRef`]s, each known to be a type of that book, and these answer:
+//! does a function block lie anywhere in it, which types does the book lack, what do these bytes hold. Every answer is that of
+//! functions proved against document 01 for all bytes; this crate only hands slices over and puts names to numbers.
+//!
+//! ```
+//! use typebook::{TypeBook, Value};
+//! # let bytes = twin::make::example();
+//! // The book of document 01's example: S is a struct of two INTs.
+//! let book = TypeBook::new(bytes)?;
+//! let root = book.root(0)?;
+//! assert_eq!(root.name(), "S");
+//! assert!(!root.requires_read_modify_write(8)?);
+//!
+//! let tape = root.read(8, &[0xFE, 0xFF, 0x05, 0x00])?;
+//! let values: Vec<Value> = tape.iter().map(|r| r.value).collect();
+//! assert_eq!(values[1], Value::Key("A"));
+//! assert_eq!(values[2], Value::Int { bits: 16, value: -2 });
+//! # Ok::<(), typebook::Refusal>(())
+//! ```
+//!
+//! A refusal says which of document 01's nineteen it is, and what to do about it:
+//!
+//! ```
+//! use typebook::{Refusal, TypeBook};
+//!
+//! let refused = TypeBook::new(vec![0; 511]).unwrap_err();
+//! assert_eq!(refused, Refusal::BookSize);
+//! assert_eq!(refused.number(), 1);
+//! ```
+#![deny(unsafe_code)]
+
+mod book;
+mod category;
+#[allow(unsafe_code)]
+mod ffi;
+mod refusal;
+mod tape;
+pub mod text;
+
+pub use book::{Missing, ResolvedField, Room, Scratch, TypeBook, TypeRef};
+pub use category::Category;
+pub use ffi::total as calls;
+pub use refusal::Refusal;
+pub use tape::{Record, Records, Tape, Value};

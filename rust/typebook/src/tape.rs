@@ -1,0 +1,234 @@
+//! What a read gives: records, each with its value and, for keys and enumeration entries, its name.
+
+use crate::book::name_in;
+use crate::ffi::total;
+use std::fmt;
+
+const RECORD: usize = 24;
+
+/// What one record says.
+#[derive(Debug, Clone, Copy, PartialEq)]
+pub enum Value<'t> {
+    /// An array of so many elements; they follow, then [`End`](Value::End).
+    Array(u64),
+    /// A struct, union or function block of so many fields; for each follow its key and its value, then [`End`](Value::End).
+    Map(u64),
+    /// The end of an array or a map.
+    End,
+    /// The name of the field whose value follows.
+    Key(&'t str),
+    /// A bool.
+    Bool(bool),
+    /// A signed integer of 8, 16, 32 or 64 bits.
+    Int {
+        /// Its width in bits.
+        bits: u32,
+        /// Its value.
+        value: i64,
+    },
+    /// An unsigned integer of 8, 16, 32 or 64 bits, or a pointer.
+    Nat {
+        /// Its width in bits.
+        bits: u32,
+        /// Its value.
+        value: u64,
+    },
+    /// A real of 4 bytes, by its bits: a NaN keeps them.
+    Real32(u32),
+    /// A real of 8 bytes, by its bits.
+    Real64(u64),
+    /// A text.
+    Text(&'t str),
+    /// The name of an enumeration's entry.
+    Enum(&'t str),
+    /// The value of a type that holds nothing readable.
+    Unit,
+}
+
+impl Value<'_> {
+    /// A real as a number; none for other values.
+    ///
+    /// ```
+    /// use typebook::Value;
+    /// assert_eq!(Value::Real32(0x3FC0_0000).as_f64(), Some(1.5));
+    /// assert_eq!(Value::Unit.as_f64(), None);
+    /// ```
+    pub fn as_f64(&self) -> Option<f64> {
+        match *self {
+            Value::Real32(bits) => Some(f64::from(f32::from_bits(bits))),
+            Value::Real64(bits) => Some(f64::from_bits(bits)),
+            _ => None,
+        }
+    }
+}
+
+/// A value without its name: numbers as they are, a text in quotes.
+impl fmt::Display for Value<'_> {
+    fn fmt(&self, f: &mut fmt::Formatter<'_>) -> fmt::Result {
+        match *self {
+            Value::Array(count) => write!(f, "array of {count}"),
+            Value::Map(count) => write!(f, "{count} fields"),
+            Value::End => f.write_str("end"),
+            Value::Key(name) => f.write_str(name),
+            Value::Bool(value) => write!(f, "{value}"),
+            Value::Int { value, .. } => write!(f, "{value}"),
+            Value::Nat { value, .. } => write!(f, "{value}"),
+            Value::Real32(bits) => write!(f, "{}", f32::from_bits(bits)),
+            Value::Real64(bits) => write!(f, "{}", f64::from_bits(bits)),
+            Value::Text(text) => write!(f, "{text:?}"),
+            Value::Enum(name) => f.write_str(name),
+            Value::Unit => f.write_str("-"),
+        }
+    }
+}
+
+/// One record of a tape.
+#[derive(Debug, Clone, Copy, PartialEq)]
+pub struct Record<'t> {
+    /// How deep it stands: 1 for the root, one more for each array or map around it. A key stands as deep as its value.
+    pub level: u32,
+    /// The field's or entry's block, of a key or an enumeration's entry.
+    pub block: Option<u32>,
+    /// What it says.
+    pub value: Value<'t>,
+}
+
+/// The records of a read, and their texts.
+#[derive(Clone)]
+pub struct Tape<'b> {
+    book: &'b [u8],
+    records: Vec<u8>,
+    text: Vec<u8>,
+}
+
+impl<'b> Tape<'b> {
+    pub(crate) fn new(book: &'b [u8], records: Vec<u8>, text: Vec<u8>) -> Self {
+        Self { book, records, text }
+    }
+
+    /// The number of records.
+    pub fn len(&self) -> usize {
+        self.records.len() / RECORD
+    }
+
+    /// No read gives an empty tape.
+    pub fn is_empty(&self) -> bool {
+        self.records.is_empty()
+    }
+
+    /// Document 01's tape: 24 bytes a record.
+    pub fn bytes(&self) -> &[u8] {
+        &self.records
+    }
+
+    /// Document 01's text buffer: the texts one after the other, UTF-8.
+    pub fn text(&self) -> &[u8] {
+        &self.text
+    }
+
+    /// The records in order.
+    ///
+    /// ```
+    /// # use typebook::{Refusal, TypeBook, Value};
+    /// # let book = TypeBook::new(twin::make::example())?;
+    /// let tape = book.root(0)?.read(8, &[1, 0, 2, 0])?;
+    /// let mut sum = 0;
+    /// for record in &tape {
+    ///     if let Value::Int { value, .. } = record.value {
+    ///         sum += value;
+    ///     }
+    /// }
+    /// assert_eq!(sum, 3);
+    /// # Ok::<(), Refusal>(())
+    /// ```
+    pub fn iter(&self) -> Records<'_> {
+        Records {
+            tape: self,
+            at: 0,
+            level: 1,
+        }
+    }
+
+    fn number(&self, at: usize) -> u64 {
+        let mut bytes = [0; 8];
+        bytes.copy_from_slice(&self.records[at..at + 8]);
+        u64::from_le_bytes(bytes)
+    }
+
+    fn value(&self, at: usize) -> (Option<u32>, Value<'_>) {
+        let bits = 8 * u32::from(self.records[at + 1]);
+        let (a, b) = (self.number(at + 8), self.number(at + 16));
+        let name = || name_in(self.book, a as u32, total::name);
+        match self.records[at] {
+            1 => (None, Value::Array(a)),
+            3 => (None, Value::Map(a)),
+            2 | 5 => (None, Value::End),
+            4 => (Some(a as u32), Value::Key(name())),
+            6 => (None, Value::Bool(b == 1)),
+            7 => (None, Value::Int { bits, value: b as i64 }),
+            8 => (None, Value::Nat { bits, value: b }),
+            9 => (None, Value::Real32(b as u32)),
+            10 => (None, Value::Real64(b)),
+            11 => (None, Value::Text(self.text_part(a, b))),
+            12 => (Some(a as u32), Value::Enum(name())),
+            13 => (None, Value::Unit),
+            kind => unreachable!("no record has the kind {kind}"),
+        }
+    }
+
+    fn text_part(&self, start: u64, len: u64) -> &str {
+        let bytes = &self.text[start as usize..(start + len) as usize];
+        std::str::from_utf8(bytes).expect("the reader's texts are UTF-8")
+    }
+}
+
+impl fmt::Debug for Tape<'_> {
+    fn fmt(&self, f: &mut fmt::Formatter<'_>) -> fmt::Result {
+        f.debug_list().entries(self.iter().map(|r| r.value)).finish()
+    }
+}
+
+impl<'t> IntoIterator for &'t Tape<'_> {
+    type Item = Record<'t>;
+    type IntoIter = Records<'t>;
+
+    fn into_iter(self) -> Records<'t> {
+        self.iter()
+    }
+}
+
+/// The records of a [`Tape`], in order.
+#[derive(Debug, Clone)]
+pub struct Records<'t> {
+    tape: &'t Tape<'t>,
+    at: usize,
+    level: u32,
+}
+
+impl<'t> Iterator for Records<'t> {
+    type Item = Record<'t>;
+
+    fn next(&mut self) -> Option<Record<'t>> {
+        if self.tape.records.len() < self.at + RECORD {
+            return None;
+        }
+        let (block, value) = self.tape.value(self.at);
+        self.at += RECORD;
+        let level = match value {
+            Value::End => self.level.saturating_sub(1).max(1),
+            _ => self.level,
+        };
+        self.level = match value {
+            Value::Array(_) | Value::Map(_) => level + 1,
+            _ => level,
+        };
+        Some(Record { level, block, value })
+    }
+
+    fn size_hint(&self) -> (usize, Option<usize>) {
+        let left = (self.tape.records.len() - self.at) / RECORD;
+        (left, Some(left))
+    }
+}
+
+impl ExactSizeIterator for Records<'_> {}

@@ -1,0 +1,48 @@
+//! The recipes of examples/ and document 01's own example, read from Rust: the lines that the program `adswalk` prints.
+
+use std::path::Path;
+use typebook::{TypeBook, Value};
+
+/// The line of a value, as document 01 prints it.
+fn line(value: Value) -> String {
+    let hex = |text: &str| text.bytes().map(|b| format!("{b:02X}")).collect::<String>();
+    match value {
+        Value::Array(count) => format!("array {count}"),
+        Value::Map(count) => format!("map {count}"),
+        Value::End => "end".into(),
+        Value::Key(name) => format!("key {name}"),
+        Value::Bool(value) => format!("bool {}", u8::from(value)),
+        Value::Int { bits, value } => format!("int {bits} {value}"),
+        Value::Nat { bits, value } => format!("nat {bits} {value}"),
+        Value::Real32(bits) => format!("real 4 {bits:08X}"),
+        Value::Real64(bits) => format!("real 8 {bits:016X}"),
+        Value::Text("") => "text".into(),
+        Value::Text(text) => format!("text {}", hex(text)),
+        Value::Enum(name) => format!("enum {name}"),
+        Value::Unit => "unit".into(),
+    }
+}
+
+/// What is read from a folder's book.bin and mem.bin.
+fn printed(folder: &Path) -> String {
+    let file = |name: &str| std::fs::read(folder.join(name)).expect("a file");
+    let (book, memory) = (TypeBook::new(file("book.bin")).expect("valid"), file("mem.bin"));
+    let root = book.root(0).expect("a type");
+    let tape = root.read(8, &memory).expect("read");
+    let head = format!("walk {} {}\n", root.name(), memory.len());
+    tape.iter().fold(head, |out, record| out + &line(record.value) + "\n")
+}
+
+#[test]
+fn the_glue_recipe() {
+    let folder = Path::new(env!("CARGO_MANIFEST_DIR")).join("../../examples/glue");
+    let wanted = std::fs::read_to_string(folder.join("stdout")).expect("the lines");
+    assert_eq!(printed(&folder), wanted);
+}
+
+#[test]
+fn the_example_of_document_01() {
+    let program = Path::new(env!("CARGO_MANIFEST_DIR")).join("../../crates/adswalk");
+    let wanted = std::fs::read_to_string(program.join("stdout")).expect("the lines");
+    assert_eq!(printed(&program.join("data")), wanted);
+}

@@ -1,0 +1,2 @@
+use Rattle.lines.proofs.Prints.{counted-put}
+returns => search counted-put

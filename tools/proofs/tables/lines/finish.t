@@ -1,0 +1,3 @@
+use Rattle.lines.proofs.Joins.{ended-next, ended-full}
+returns => search ended-next
+returns-2 => search ended-full

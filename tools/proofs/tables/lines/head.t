@@ -1,0 +1,2 @@
+use Rattle.lines.proofs.Prints.{head-put}
+returns => search head-put

@@ -1,0 +1,2 @@
+use Rattle.lines.proofs.Prints.{int-put}
+returns => search int-put

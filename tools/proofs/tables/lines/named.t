@@ -1,0 +1,2 @@
+use Rattle.lines.proofs.Prints.{named-put}
+returns => search named-put

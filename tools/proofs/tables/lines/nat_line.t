@@ -1,0 +1,2 @@
+use Rattle.lines.proofs.Prints.{nat-put}
+returns => search nat-put

@@ -1,0 +1,2 @@
+use Rattle.lines.proofs.Prints.{real-put}
+returns => search real-put

@@ -1,0 +1,2 @@
+use Rattle.lines.proofs.Prints.{sized-put}
+returns => search sized-put
