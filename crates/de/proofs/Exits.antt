@@ -13,61 +13,79 @@ use Rattle.book_check.specs.Check.{ValidBook}
 use Rattle.book_check.proofs.Valid.{valid-size, valid-type}
 use mir.Syntax.{w8, w32, w64}
 use mir.Val.{Fits}
-use Rattle.resolvers.specs.Resolve.{fieldsCheck, LookedUp, FieldResolved}
-use Rattle.resolvers.specs.declared.ResolvedField.{ResolvedField}
+use Rattle.type_category.specs.Category.{categoryOf}
+use Rattle.type_category.specs.declared.type_category.AdsTypeCategory.{AdsTypeCategory}
+use Rattle.resolvers.specs.Resolve.{LookedUp}
 use Rattle.resolvers.specs.declared.Resolved.{Resolved}
 use Rattle.resolvers.specs.declared.Resolved.the-variants as resolved
-use Rattle.resolvers.specs.declared.FieldAnswer.{FieldAnswer}
-use Rattle.resolvers.specs.declared.FieldAnswer.the-variants as answer
 use Rattle.resolvers.specs.declared.FieldsCheck.{FieldsCheck}
 use Rattle.resolvers.specs.declared.FieldsCheck.the-variants as check
+use Rattle.field_plan.specs.declared.PlannedField.{PlannedField}
+use Rattle.field_plan.specs.declared.Planned.{Planned}
+use Rattle.field_plan.specs.declared.Planned.the-variants as planned
+use Rattle.field_plan.specs.Plan.{PlannedIs, Entries, Ready, PlanIs}
+use Rattle.field_plan.proofs.Plans.{ready-none}
 use Rattle.de.specs.declared.step.Step.{Step}
 use Rattle.de.specs.declared.step.Step.the-variants.{Next, Stop}
 use Rattle.de.specs.declared.deserializer.Shape.{Shape}
 use Rattle.de.specs.declared.deserializer.Shape.the-variants as shape
 use Rattle.de.specs.Trace.{Trace, rec, one, refuse, From, Halts}
-use Rattle.de.specs.Walk.{Ctx, whole, Child, cut, shapeAt, leafOf, checked, memberOf, membersFrom, membersOf, mapOf, productFrom, strideOf, isLast, elementItem, elementCheck, elementsFrom, elementsOf, dimensionOf, bytesOf, arrayBy, arrayOf, shapeWalk, walk, Fills, FillsNext, StrideIs}
+use Rattle.de.specs.Plans.{Given, GivenElement, ElementChecked}
+use Rattle.de.specs.Walk.{Ctx, ctx, whole, Child, cut, shapeOf, shapeAt, shapeCheck, leafOf, checked, memberOf, membersFrom, membersOf, mapOf, productFrom, strideOf, isLast, elementItem, elementCheck, elementsFrom, elementsOf, dimensionOf, bytesOf, arrayBy, arrayOf, shapeWalk, walk, Fills, FillsNext, StrideIs}
 use Rattle.de.proofs.Runs.{Rest, from-as, from-held, halted, chain, rest-all, rest-next}
 use Rattle.de.proofs.Walks as walks
 
 -- ---- value
 
+-- the shape of a category that is the type's own
+pub shape-is : (c : Ctx) (t : ℕ) (k : Shape) (y : AdsTypeCategory) → y ≡ categoryOf (c .book) (c .width) t → k ≡ shapeOf y → k ≡ shapeAt c t
+unfolding shapeAt
+shape-is c t k y ey ek = ek ∙ ap shapeOf ey
+
+-- a plan that was given for a type with fields is ready
+pub map-ready : (book : List ℕ) (width t : ℕ) (plan : List ℕ) (k : Shape) (y : AdsTypeCategory) → y ≡ categoryOf book width t → k ≡ shapeOf y → k ≡ shape.Map → Given (ctx book width) t plan → Ready book width t plan
+map-ready book width t plan k y ey ek z g = g .given (sym (shape-is (ctx book width) t k y ey ek) ∙ z)
+
+-- no plan is given
+pub given-none : (c : Ctx) (t : ℕ) (l : List ℕ) → Given c t (take (0 - 0) (drop 0 l))
+given-none c t l = record { given = λ h. ready-none (c .book) (c .width) t }
+
 module _ (c : Ctx) (left t : ℕ) (mem : List ℕ) {tape tape′ txt txt′ : List ℕ} {s r : Step} where
   pub value-deep : left ≡ 0 → Halts s 14 0 r → From (walk c left (whole t) mem) tape txt s r tape′ txt′
   value-deep e h = from-as (walks.walk-deep c left mem (whole t) e) (halted h)
 
-  module _ (n : left ≡ 0 → ⊥) (k : Shape) (e : k ≡ shapeAt c t) where
+  module _ (n : left ≡ 0 → ⊥) (k : Shape) (y : AdsTypeCategory) (ey : y ≡ categoryOf (c .book) (c .width) t) (ek : k ≡ shapeOf y) where
     pub value-map : k ≡ shape.Map → From (mapOf (walk c (left - 1)) c t mem) tape txt s r tape′ txt′ → From (walk c left (whole t) mem) tape txt s r tape′ txt′
     unfolding shapeWalk
-    value-map q h = from-as (walks.walk-shape c left mem t shape.Map n (sym q ∙ e)) h
+    value-map q h = from-as (walks.walk-shape c left mem t shape.Map n (sym q ∙ shape-is c t k y ey ek)) h
 
     pub value-array : k ≡ shape.Array → From (arrayOf (walk c (left - 1)) c t mem) tape txt s r tape′ txt′ → From (walk c left (whole t) mem) tape txt s r tape′ txt′
     unfolding shapeWalk
-    value-array q h = from-as (walks.walk-shape c left mem t shape.Array n (sym q ∙ e)) h
+    value-array q h = from-as (walks.walk-shape c left mem t shape.Array n (sym q ∙ shape-is c t k y ey ek)) h
 
     pub value-leaf : k ≡ shape.Leaf → From (leafOf c t mem) tape txt s r tape′ txt′ → From (walk c left (whole t) mem) tape txt s r tape′ txt′
     unfolding shapeWalk
-    value-leaf q h = from-as (walks.walk-shape c left mem t shape.Leaf n (sym q ∙ e)) h
+    value-leaf q h = from-as (walks.walk-shape c left mem t shape.Leaf n (sym q ∙ shape-is c t k y ey ek)) h
 
 -- ---- member
 
 module _ (child : Child) (c : Ctx) (mem : List ℕ) (f : ℕ) {tape tape₁ txt txt₁ : List ℕ} {s k r : Step} (key : From (one (rec 4 0 f 0)) tape txt s k tape₁ txt₁)
-    (a : FieldAnswer) (q : FieldResolved (c .book) (c .width) f a) {tape₂ txt₂ : List ℕ} where
-  pub member-lacks : (b : ℕ) → a ≡ answer.Lacks b → Halts k 7 b r → From (memberOf child c mem f) tape txt s r tape₂ txt₂
-  member-lacks b e h = from-as (walks.member-lacks child c mem f a (q .is) b e) (chain key (halted h))
+    (a : Planned) (q : PlannedIs (c .book) (c .width) f a) {tape₂ txt₂ : List ℕ} where
+  pub member-lacks : (b : ℕ) → a ≡ planned.Lacks b → Halts k 7 b r → From (memberOf child c mem f) tape txt s r tape₂ txt₂
+  member-lacks b e h = from-as (walks.member-lacks child c mem f b (q .lacks b e)) (chain key (halted h))
 
-  pub member-endless : a ≡ answer.Endless → Halts k 8 0 r → From (memberOf child c mem f) tape txt s r tape₂ txt₂
-  member-endless e h = from-as (walks.member-endless child c mem f a (q .is) e) (chain key (halted h))
+  pub member-endless : a ≡ planned.Endless → Halts k 8 0 r → From (memberOf child c mem f) tape txt s r tape₂ txt₂
+  member-endless e h = from-as (walks.member-endless child c mem f (q .endless e)) (chain key (halted h))
 
-  module _ (x : ResolvedField) (e : a ≡ answer.Field x) where
+  module _ (x : PlannedField) (e : a ≡ planned.Field x) where
     pub member-over : length mem < x .offset + x .size → Halts k 10 0 r → From (memberOf child c mem f) tape txt s r tape₂ txt₂
-    member-over l h = from-as (walks.member-over child c mem f a (q .is) x e l) (chain key (halted h))
+    member-over l h = from-as (walks.member-over child c mem f x (q .field x e) l) (chain key (halted h))
 
     pub member-value : x .offset + x .size ≤ length mem → From (child (whole (x .resolved)) (take (x .offset + x .size - x .offset) (drop (x .offset) mem))) tape₁ txt₁ k r tape₂ txt₂
         → From (memberOf child c mem f) tape txt s r tape₂ txt₂
     member-value l v =
         let z : x .offset + x .size - x .offset ≡ x .size = omega arith in
-        from-as (walks.member-in child c mem f a (q .is) x e l) (chain key (rw z at v))
+        from-as (walks.member-in child c mem f x (q .field x e) l) (chain key (rw z at v))
 
 -- ---- members
 
@@ -96,18 +114,22 @@ module _ (child : Child) (c : Ctx) (t size : ℕ) (sz : size ≡ sizeOf (c .book
   pub map-odd : (length mem ≡ size → ⊥) → Halts s 10 0 r → From (mapOf child c t mem) tape txt s r tape′ txt′
   map-odd o h = from-as (walks.map-odd child c mem t size sz o) (halted h)
 
-  module _ (ev : length mem ≡ size) (k : FieldsCheck) (q : k ≡ fieldsCheck (c .book) (c .width) t) where
+  pub map-given : (plan : List ℕ) → length mem ≡ size → Ready (c .book) (c .width) t plan → 0 < length plan → From (membersOf child c t mem) tape txt s r tape′ txt′ → From (mapOf child c t mem) tape txt s r tape′ txt′
+  unfolding checked
+  map-given plan ev g l h = from-as (walks.map-even child c mem t size sz ev check.Fine (sym (g .fine (λ z. absurd (omega arith))))) h
+
+  module _ (ev : length mem ≡ size) (k : FieldsCheck) (after : List ℕ) (p : PlanIs (c .book) (c .width) t k after) where
     pub map-fine : k ≡ check.Fine → From (membersOf child c t mem) tape txt s r tape′ txt′ → From (mapOf child c t mem) tape txt s r tape′ txt′
     unfolding checked
-    map-fine e h = from-as (walks.map-even child c mem t size sz ev check.Fine (sym e ∙ q)) h
+    map-fine e h = from-as (walks.map-even child c mem t size sz ev check.Fine (sym e ∙ p .is)) h
 
     pub map-lacks : (b : ℕ) → k ≡ check.Lacks b → Halts s 7 b r → From (mapOf child c t mem) tape txt s r tape′ txt′
     unfolding checked
-    map-lacks b e h = from-as (walks.map-even child c mem t size sz ev (check.Lacks b) (sym e ∙ q)) (halted h)
+    map-lacks b e h = from-as (walks.map-even child c mem t size sz ev (check.Lacks b) (sym e ∙ p .is)) (halted h)
 
     pub map-endless : k ≡ check.Endless → Halts s 8 0 r → From (mapOf child c t mem) tape txt s r tape′ txt′
     unfolding checked
-    map-endless e h = from-as (walks.map-even child c mem t size sz ev check.Endless (sym e ∙ q)) (halted h)
+    map-endless e h = from-as (walks.map-even child c mem t size sz ev check.Endless (sym e ∙ p .is)) (halted h)
 
 -- ---- array
 
@@ -135,18 +157,18 @@ module _ (child : Child) (c : Ctx) (t size : ℕ) (sz : size ≡ sizeOf (c .book
 
 -- ---- dimension
 
-module _ (child : Child) (c : Ctx) (d t e : ℕ) (mem : List ℕ) {tape tape′ txt txt′ : List ℕ} {s r : Step} (k : FieldsCheck) (q : k ≡ elementCheck c d t e) where
+module _ (child : Child) (c : Ctx) (d t e : ℕ) (mem : List ℕ) {tape tape′ txt txt′ : List ℕ} {s r : Step} (k : FieldsCheck) (after : List ℕ) (p : ElementChecked c d t e k after) where
   pub dimension-fine : k ≡ check.Fine → From (elementsOf child c d t e mem) tape txt s r tape′ txt′ → From (dimensionOf child c d t e mem) tape txt s r tape′ txt′
   unfolding checked
-  dimension-fine z h = from-as (walks.dimension-by child c mem d t e check.Fine (sym z ∙ q)) h
+  dimension-fine z h = from-as (walks.dimension-by child c mem d t e check.Fine (sym z ∙ p .is)) h
 
   pub dimension-lacks : (b : ℕ) → k ≡ check.Lacks b → Halts s 7 b r → From (dimensionOf child c d t e mem) tape txt s r tape′ txt′
   unfolding checked
-  dimension-lacks b z h = from-as (walks.dimension-by child c mem d t e (check.Lacks b) (sym z ∙ q)) (halted h)
+  dimension-lacks b z h = from-as (walks.dimension-by child c mem d t e (check.Lacks b) (sym z ∙ p .is)) (halted h)
 
   pub dimension-endless : k ≡ check.Endless → Halts s 8 0 r → From (dimensionOf child c d t e mem) tape txt s r tape′ txt′
   unfolding checked
-  dimension-endless z h = from-as (walks.dimension-by child c mem d t e check.Endless (sym z ∙ q)) (halted h)
+  dimension-endless z h = from-as (walks.dimension-by child c mem d t e check.Endless (sym z ∙ p .is)) (halted h)
 
 -- ---- elements
 
@@ -234,8 +256,27 @@ field-first book t n i v y e l = record { fits = omega (arith, leaf-inside book 
 pub typed-base : {book : List ℕ} {width b : ℕ} {r : Resolved} {e : ℕ} → LookedUp book width b r → r ≡ resolved.Base e → isType book e ≡ true
 typed-base {e = e} h q = h .typed e q
 
-pub typed-field : {book : List ℕ} {width f : ℕ} {r : FieldAnswer} {x : ResolvedField} → FieldResolved book width f r → r ≡ answer.Field x → isType book (x .resolved) ≡ true
-typed-field {x = x} h q = h .typed x q
+-- a field's type is a type block, of the category that comes with it
+pub typed-field : {book : List ℕ} {width f : ℕ} {r : Planned} {x : PlannedField} → PlannedIs book width f r → r ≡ planned.Field x → isType book (x .resolved) ≡ true
+typed-field {x = x} h q = h .field x q .typed
+
+pub category-field : {book : List ℕ} {width f : ℕ} {r : Planned} {x : PlannedField} → PlannedIs book width f r → r ≡ planned.Field x → x .category ≡ categoryOf book width (x .resolved)
+category-field {x = x} h q = h .field x q .category-is
+
+-- a plan that was filled has its entries
+pub own-entries : (book : List ℕ) (width t : ℕ) (k : FieldsCheck) (after : List ℕ) → PlanIs book width t k after → k ≡ check.Fine → Entries book width t after
+own-entries book width t k after p z = p .entries z
+
+-- the same for the elements of an array, none of whose fields is refused
+pub own-elements : (c : Ctx) (d t e : ℕ) (k : FieldsCheck) (after : List ℕ) → ElementChecked c d t e k after → k ≡ check.Fine → GivenElement c d t e after
+unfolding elementCheck shapeCheck
+own-elements c d t e k after p z =
+    let h : elementCheck c d t e ≡ check.Fine = sym (p .is) ∙ z in
+    record { given = λ l. record { given = λ m. record { entries = p .entries z l m; fine = λ _. (rw (l, m) at h) } } }
+
+-- in the last dimension what is given is given for the element
+pub last-given : (c : Ctx) (d t e : ℕ) (plan : List ℕ) (b : Bool) → b ≡ isLast (c .book) d t → b ≡ true → GivenElement c d t e plan → Given c e plan
+last-given c d t e plan b q h g = g .given (sym q ∙ h)
 
 -- a dimension that is not the last has a next one
 pub next-dimension : (book : List ℕ) (d t : ℕ) (b : Bool) → b ≡ isLast book d t → b ≡ false → ((i : ℕ) → Fits w8 (getD book i 0)) → Fits w8 (d + 1)

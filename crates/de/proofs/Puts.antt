@@ -21,7 +21,10 @@ use Rattle.de.specs.declared.step.Step.{Step}
 use Rattle.de.specs.declared.step.Step.the-variants.{Next, Stop}
 use Rattle.de.specs.Trace.{Event, rec, text, bytesOf, textBytes, tapeBytes, Trace, eventsOf, endOf, one, fits, stepOf, Ran, From, Halts}
 use Rattle.de.specs.Leaves.{decodedBy, traceOf}
-use Rattle.leaves.specs.Leaf.{leafAt}
+use Rattle.type_category.specs.Category.{categoryOf}
+use Rattle.type_category.specs.declared.type_category.AdsTypeCategory.{AdsTypeCategory}
+use Rattle.leaves.specs.Leaf.{leafBy, kindOfLeaf}
+use Rattle.leaves.proofs.Leaves.{leaf-own}
 use Rattle.de.specs.Walk.{Ctx, leafOf}
 use Rattle.de.proofs.Runs.{next-stop, from-next, halted}
 
@@ -123,9 +126,9 @@ pub leaf-refused : (mem : List ℕ) {tape tape′ txt txt′ : List ℕ} {s r : 
 leaf-refused mem k e h = rw e (halted h)
 
 -- the leaf of a type
-pub leaf-at : (c : Ctx) (t : ℕ) (mem : List ℕ) {tape tape′ txt txt′ : List ℕ} {s r : Step} (v : LeafValue) → v ≡ leafAt (c .book) (c .width) t mem → From (traceOf v mem) tape txt s r tape′ txt′ → From (leafOf c t mem) tape txt s r tape′ txt′
+pub leaf-at : (c : Ctx) (t : ℕ) (mem : List ℕ) {tape tape′ txt txt′ : List ℕ} {s r : Step} (v : LeafValue) (y : AdsTypeCategory) → y ≡ categoryOf (c .book) (c .width) t → v ≡ leafBy (c .book) (c .width) t mem (kindOfLeaf y) → From (traceOf v mem) tape txt s r tape′ txt′ → From (leafOf c t mem) tape txt s r tape′ txt′
 unfolding leafOf
-leaf-at c t mem v e h = rw (← e) h
+leaf-at c t mem v y k e h = rw (← leaf-own (c .book) (c .width) t mem y v k e) h
 
 -- ---- after a step
 

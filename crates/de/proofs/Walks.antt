@@ -10,17 +10,20 @@ use lib.Dec.{leb, eqb}
 use borrow.Author.Tests.{le-leb, lt-leb, eq-eqb, ne-eqb, eqb-true, leb-false}
 use Rattle.typebook.specs.Book.{sizeOf, fieldsOf, countOf, dimensionsOf}
 use Rattle.resolvers.specs.Resolve.{lookUp, resolveField, fieldsCheck}
-use Rattle.resolvers.specs.declared.ResolvedField.{ResolvedField}
 use Rattle.resolvers.specs.declared.Resolved.{Resolved}
 use Rattle.resolvers.specs.declared.Resolved.the-variants as resolved
-use Rattle.resolvers.specs.declared.FieldAnswer.{FieldAnswer}
 use Rattle.resolvers.specs.declared.FieldAnswer.the-variants as answer
 use Rattle.resolvers.specs.declared.FieldsCheck.{FieldsCheck}
 use Rattle.resolvers.specs.declared.FieldsCheck.the-variants as check
+use Rattle.type_category.specs.Category.{categoryOf}
+use Rattle.type_category.specs.declared.type_category.AdsTypeCategory.{AdsTypeCategory}
+use Rattle.field_plan.specs.declared.PlannedField.{PlannedField}
+use Rattle.field_plan.specs.Plan.{FieldIs, PlanIs}
+use Rattle.de.specs.Plans.{ElementChecked}
 use Rattle.de.specs.declared.deserializer.Shape.{Shape}
 use Rattle.de.specs.declared.deserializer.Shape.the-variants as shape
 use Rattle.de.specs.Trace.{Trace, rec, one, refuse, _then_}
-use Rattle.de.specs.Walk.{Ctx, Item, whole, further, Child, cut, shapeAt, leafOf, checked, fieldValue, memberOf, membersFrom, membersOf, mapOf, productFrom, strideOf, isLast, elementItem, shapeCheck, elementCheck, elementsFrom, elementsOf, dimensionOf, bytesOf, arrayBy, arrayOf, shapeWalk, itemWalk, walk, Fills, FillsNext}
+use Rattle.de.specs.Walk.{Ctx, Item, whole, further, Child, cut, shapeOf, shapeAt, leafOf, checked, fieldValue, memberOf, membersFrom, membersOf, mapOf, productFrom, strideOf, isLast, elementItem, shapeCheck, elementCheck, elementsFrom, elementsOf, dimensionOf, bytesOf, arrayBy, arrayOf, shapeWalk, itemWalk, walk, Fills, FillsNext}
 
 -- ---- a value
 
@@ -44,23 +47,23 @@ module _ (c : Ctx) (left : ℕ) (mem : List ℕ) where
 -- ---- a field, and the fields
 
 module _ (child : Child) (c : Ctx) (mem : List ℕ) where
-  module _ (f : ℕ) (a : FieldAnswer) (q : a ≡ resolveField (c .book) (c .width) f) where
-    pub member-lacks : (b : ℕ) → a ≡ answer.Lacks b → memberOf child c mem f ≡ one (rec 4 0 f 0) then refuse 7 b
+  module _ (f : ℕ) where
+    pub member-lacks : (b : ℕ) → resolveField (c .book) (c .width) f ≡ answer.Lacks b → memberOf child c mem f ≡ one (rec 4 0 f 0) then refuse 7 b
     unfolding memberOf fieldValue
-    member-lacks b e = rw (← q, e)
+    member-lacks b e = rw e
 
-    pub member-endless : a ≡ answer.Endless → memberOf child c mem f ≡ one (rec 4 0 f 0) then refuse 8 0
+    pub member-endless : resolveField (c .book) (c .width) f ≡ answer.Endless → memberOf child c mem f ≡ one (rec 4 0 f 0) then refuse 8 0
     unfolding memberOf fieldValue
-    member-endless e = rw (← q, e)
+    member-endless e = rw e
 
-    module _ (x : ResolvedField) (e : a ≡ answer.Field x) where
+    module _ (x : PlannedField) (h : FieldIs (c .book) (c .width) f x) where
       pub member-over : length mem < x .offset + x .size → memberOf child c mem f ≡ one (rec 4 0 f 0) then refuse 10 0
       unfolding memberOf fieldValue
-      member-over l = rw (← q, e, lt-leb (x .offset + x .size) (length mem) l)
+      member-over l = rw (h .found, h .offset-is, h .size-is, lt-leb (x .offset + x .size) (length mem) l)
 
       pub member-in : x .offset + x .size ≤ length mem → memberOf child c mem f ≡ one (rec 4 0 f 0) then child (whole (x .resolved)) (cut (x .offset) (x .size) mem)
       unfolding memberOf fieldValue
-      member-in l = rw (← q, e, le-leb (x .offset + x .size) (length mem) l)
+      member-in l = rw (h .found, h .offset-is, h .size-is, h .resolved-is, le-leb (x .offset + x .size) (length mem) l)
 
   pub members-all : (t n : ℕ) → membersFrom child c mem (t + 1) n ≡ membersFrom child c mem (t + 1 + 0) (n - 0)
   members-all t n =
@@ -136,22 +139,26 @@ module _ (c : Ctx) (d t e : ℕ) (b : Bool) (q : b ≡ isLast (c .book) d t) whe
   unfolding elementItem
   item-further h = rw (← q, h)
 
-  pub check-not-last : b ≡ false → check.Fine ≡ elementCheck c d t e
+  pub check-not-last : (plan : List ℕ) → b ≡ false → ElementChecked c d t e check.Fine plan
   unfolding elementCheck
-  check-not-last h = rw (← q, h)
+  check-not-last plan h = record { is = rw (← q, h); entries = λ f l m. absurd (let z : _≡_ {A = ℕ} 0 1 = cc in omega arith) }
 
-  module _ (h : b ≡ true) (k : Shape) (s : k ≡ shapeAt c e) where
-    pub check-map : k ≡ shape.Map → (r : FieldsCheck) → r ≡ fieldsCheck (c .book) (c .width) e → r ≡ elementCheck c d t e
-    unfolding elementCheck shapeCheck
-    check-map z r x = rw (← q, h, ← s, z) x
+  module _ (h : b ≡ true) (k : Shape) (y : AdsTypeCategory) (ey : y ≡ categoryOf (c .book) (c .width) e) (ek : k ≡ shapeOf y) (plan : List ℕ) where
+    s : k ≡ shapeAt c e
+    unfolding shapeAt
+    s = ek ∙ ap shapeOf ey
 
-    pub check-array : k ≡ shape.Array → check.Fine ≡ elementCheck c d t e
+    pub check-map : k ≡ shape.Map → (r : FieldsCheck) → PlanIs (c .book) (c .width) e r plan → ElementChecked c d t e r plan
     unfolding elementCheck shapeCheck
-    check-array z = rw (← q, h, ← s, z)
+    check-map z r x = record { is = rw (← q, h, ← s, z) (x .is); entries = λ f l m. x .entries f }
 
-    pub check-leaf : k ≡ shape.Leaf → check.Fine ≡ elementCheck c d t e
+    pub check-array : k ≡ shape.Array → ElementChecked c d t e check.Fine plan
     unfolding elementCheck shapeCheck
-    check-leaf z = rw (← q, h, ← s, z)
+    check-array z = record { is = rw (← q, h, ← s, z); entries = λ f l m. absurd (let o : k ≡ shape.Map = s ∙ m in let w : _≡_ {A = ℕ} 0 1 = cc in omega arith) }
+
+    pub check-leaf : k ≡ shape.Leaf → ElementChecked c d t e check.Fine plan
+    unfolding elementCheck shapeCheck
+    check-leaf z = record { is = rw (← q, h, ← s, z); entries = λ f l m. absurd (let o : k ≡ shape.Map = s ∙ m in let w : _≡_ {A = ℕ} 0 1 = cc in omega arith) }
 
 -- ---- the bytes of an array's elements
 

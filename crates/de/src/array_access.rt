@@ -6,16 +6,19 @@ ghost use lib.Dec.{eqb};
 ghost use lib.ListN.{length};
 ghost use Rattle.book_check.specs.Check.{ValidBook};
 ghost use Rattle.typebook.specs.Book.{isType};
+ghost use Rattle.type_category.specs.Category.{categoryOf};
+ghost use Rattle.de.specs.Plans.{GivenElement, ElementChecked};
 ghost use Rattle.de.specs.Trace.{From};
-ghost use Rattle.de.specs.Walk.{ctx, walk, arrayOf, dimensionOf, elementsOf, elementItem, elementCheck, isLast, bytesOf, Fills, FillsNext, StrideIs};
+ghost use Rattle.de.specs.Walk.{ctx, walk, arrayOf, dimensionOf, elementsOf, elementItem, isLast, bytesOf, Fills, FillsNext, StrideIs};
 use crate::deserializer::Shape;
-use crate::deserializer::shape_at;
+use crate::deserializer::shape_of;
 use crate::deserializer::value;
 use crate::step::Step;
 use crate::step::put;
 use crate::step::stop;
 use resolvers::FieldsCheck;
 use resolvers::Resolved;
+use type_category::type_category::AdsTypeCategory;
 
 // No length reaches this, so a product that does needs not be known.
 const TOP: u64 = 0x8000_0000_0000_0000;
@@ -80,7 +83,21 @@ pub(crate) fn array(
     match element {
         Resolved::Base(e) => {
             if product_is(book, t, e, bytes) {
-                return dimension(s, book, index, width, 0, t, e, bytes, left, tape, text);
+                let category = AdsTypeCategory::determine(book, width, e);
+                return dimension(
+                    s,
+                    book,
+                    index,
+                    width,
+                    0,
+                    t,
+                    e,
+                    category,
+                    bytes,
+                    left,
+                    tape,
+                    text,
+                );
             }
             stop(s, 10, 0)
         }
@@ -89,7 +106,7 @@ pub(crate) fn array(
     }
 }
 
-// The fields of an element that has any are resolved in the last dimension, before the array record.
+// The fields of an element that has any are resolved in the last dimension, before the array record, and kept in a plan.
 pub(crate) fn element_check(
     book: &[u8],
     index: &[u32],
@@ -97,14 +114,16 @@ pub(crate) fn element_check(
     d: u8,
     t: u32,
     e: u32,
+    category: AdsTypeCategory,
+    plan: &mut [u32],
 ) -> FieldsCheck
-    requires { ⌜ ValidBook (now book) × (isType (now book) e ≡ true) ⌝ }
-    ensures { λ r. ⌜ r ≡ elementCheck (ctx (now (book .entry)) width) d t e ⌝ }
+    requires { ⌜ ValidBook (now book) × (isType (now book) e ≡ true) × (category ≡ categoryOf (now book) width e) ⌝ }
+    ensures { λ r. ⌜ ElementChecked (ctx (now (book .entry)) width) d t e r (now (plan .exit)) ⌝ }
 {
     if is_last(book, d, t) {
-        let form = shape_at(book, width, e);
+        let form = shape_of(category);
         match form {
-            Shape::Map => resolvers::check_fields_in(book, index, width, e),
+            Shape::Map => field_plan::plan_fields_in(book, index, width, e, plan),
             Shape::Array => FieldsCheck::Fine,
             Shape::Leaf => FieldsCheck::Fine,
         }
@@ -122,17 +141,33 @@ pub(crate) fn dimension(
     d: u8,
     t: u32,
     e: u32,
+    category: AdsTypeCategory,
     bytes: &[u8],
     left: usize,
     tape: &mut [u8],
     text: &mut [u8],
 ) -> Step
-    requires { ⌜ ValidBook (now book) × (isType (now book) e ≡ true) × Fills (now book) d t e (length (now bytes)) ⌝ }
+    requires { ⌜ ValidBook (now book) × (isType (now book) e ≡ true) × (category ≡ categoryOf (now book) width e) × Fills (now book) d t e (length (now bytes)) ⌝ }
     ensures { λ r. ⌜ From (dimensionOf (walk (ctx (now (book .entry)) width) left) (ctx (now (book .entry)) width) d t e (now (bytes .entry))) (now (tape .entry)) (now (text .entry)) s r (now (tape .exit)) (now (text .exit)) ⌝ }
 {
-    let fields = element_check(book, index, width, d, t, e);
+    let mut plan = [0u32; 256];
+    let fields = element_check(book, index, width, d, t, e, category, &mut plan);
     match fields {
-        FieldsCheck::Fine => elements(s, book, index, width, d, t, e, bytes, left, tape, text),
+        FieldsCheck::Fine => elements(
+            s,
+            book,
+            index,
+            width,
+            d,
+            t,
+            e,
+            category,
+            &plan,
+            bytes,
+            left,
+            tape,
+            text,
+        ),
         FieldsCheck::Lacks(b) => stop(s, 7, b),
         FieldsCheck::Endless => stop(s, 8, 0),
     }
@@ -147,12 +182,14 @@ pub(crate) fn elements(
     d: u8,
     t: u32,
     e: u32,
+    category: AdsTypeCategory,
+    plan: &[u32],
     bytes: &[u8],
     left: usize,
     tape: &mut [u8],
     text: &mut [u8],
 ) -> Step
-    requires { ⌜ ValidBook (now book) × (isType (now book) e ≡ true) × Fills (now book) d t e (length (now bytes)) ⌝ }
+    requires { ⌜ ValidBook (now book) × (isType (now book) e ≡ true) × (category ≡ categoryOf (now book) width e) × GivenElement (ctx (now book) width) d t e (now plan) × Fills (now book) d t e (length (now bytes)) ⌝ }
     ensures { λ r. ⌜ From (elementsOf (walk (ctx (now (book .entry)) width) left) (ctx (now (book .entry)) width) d t e (now (bytes .entry))) (now (tape .entry)) (now (text .entry)) s r (now (tape .exit)) (now (text .exit)) ⌝ }
 {
     let n = typebook::block::count(book, t, d) as usize;
@@ -173,6 +210,8 @@ pub(crate) fn elements(
             d,
             t,
             e,
+            category,
+            plan,
             &bytes[from..to],
             left,
             tape,
@@ -203,16 +242,30 @@ pub(crate) fn element(
     d: u8,
     t: u32,
     e: u32,
+    category: AdsTypeCategory,
+    plan: &[u32],
     bytes: &[u8],
     left: usize,
     tape: &mut [u8],
     text: &mut [u8],
 ) -> Step
-    requires { ⌜ ValidBook (now book) × (isType (now book) e ≡ true) × FillsNext (now book) d t e (length (now bytes)) ⌝ }
+    requires { ⌜ ValidBook (now book) × (isType (now book) e ≡ true) × (category ≡ categoryOf (now book) width e) × GivenElement (ctx (now book) width) d t e (now plan) × FillsNext (now book) d t e (length (now bytes)) ⌝ }
     ensures { λ r. ⌜ From (walk (ctx (now (book .entry)) width) left (elementItem (ctx (now (book .entry)) width) d t e) (now (bytes .entry))) (now (tape .entry)) (now (text .entry)) s r (now (tape .exit)) (now (text .exit)) ⌝ }
 {
     if is_last(book, d, t) {
-        return value(s, book, index, width, e, bytes, left, tape, text);
+        return value(
+            s,
+            book,
+            index,
+            width,
+            e,
+            category,
+            plan,
+            bytes,
+            left,
+            tape,
+            text,
+        );
     }
     if left == 0 {
         return stop(s, 14, 0);
@@ -225,6 +278,7 @@ pub(crate) fn element(
         d + 1,
         t,
         e,
+        category,
         bytes,
         left - 1,
         tape,

@@ -4,8 +4,10 @@ ghost use Rattle.book_check.specs.Check.{ValidBook};
 ghost use Prim.Native.Nat.{_+_, _<_};
 ghost use Rattle.typebook.specs.Book.{isType, fieldsOf, entriesOf};
 ghost use mathlib.Core.Bool.{true};
+ghost use Rattle.type_category.specs.Category.{categoryOf};
+ghost use Rattle.de.specs.Plans.{Given};
 ghost use Rattle.de.specs.Trace.{From};
-ghost use Rattle.de.specs.Walk.{ctx, walk, whole, shapeOf, shapeAt, leafOf};
+ghost use Rattle.de.specs.Walk.{ctx, walk, whole, shapeOf, leafOf};
 ghost use lib.ListN.{length, replicate};
 ghost use Rattle.de.specs.Read.{refusalOf, Finished, ReadIs, rootTrace, readTrace};
 use crate::array_access::array;
@@ -45,57 +47,54 @@ pub(crate) fn shape_of(category: AdsTypeCategory) -> Shape
     }
 }
 
-pub(crate) fn shape_at(book: &[u8], width: u8, t: u32) -> Shape
-    ensures { λ r. ⌜ r ≡ shapeAt (ctx (now (book .entry)) width) t ⌝ }
-{
-    shape_of(AdsTypeCategory::determine(book, width, t))
-}
-
 // The value of a type that is neither struct nor array.
 pub(crate) fn leaf(
     s: Step,
     book: &[u8],
     width: u8,
     t: u32,
+    category: AdsTypeCategory,
     bytes: &[u8],
     tape: &mut [u8],
     text: &mut [u8],
 ) -> Step
-    requires { ⌜ t + fieldsOf (now book) t + entriesOf (now book) t < 65536 ⌝ }
+    requires { ⌜ (t + fieldsOf (now book) t + entriesOf (now book) t < 65536) × (category ≡ categoryOf (now book) width t) ⌝ }
     ensures { λ r. ⌜ From (leafOf (ctx (now (book .entry)) width) t (now (bytes .entry))) (now (tape .entry)) (now (text .entry)) s r (now (tape .exit)) (now (text .exit)) ⌝ }
 {
     crate::step::put_leaf(
         s,
-        leaves::leaf::leaf_in(book, width, t, bytes),
+        leaves::leaf::leaf_by(book, width, t, category, bytes),
         bytes,
         tape,
         text,
     )
 }
 
-// The value of resolved type t in `bytes`, with `left` levels left.
+// The value of resolved type t in `bytes`, with `left` levels left. The plan is that of t's fields, or empty.
 pub(crate) fn value(
     s: Step,
     book: &[u8],
     index: &[u32],
     width: u8,
     t: u32,
+    category: AdsTypeCategory,
+    plan: &[u32],
     bytes: &[u8],
     left: usize,
     tape: &mut [u8],
     text: &mut [u8],
 ) -> Step
-    requires { ⌜ ValidBook (now book) × (isType (now book) t ≡ true) ⌝ }
+    requires { ⌜ ValidBook (now book) × (isType (now book) t ≡ true) × (category ≡ categoryOf (now book) width t) × Given (ctx (now book) width) t (now plan) ⌝ }
     ensures { λ r. ⌜ From (walk (ctx (now (book .entry)) width) left (whole t) (now (bytes .entry))) (now (tape .entry)) (now (text .entry)) s r (now (tape .exit)) (now (text .exit)) ⌝ }
 {
     if left == 0 {
         return crate::step::stop(s, 14, 0);
     }
-    let form = shape_at(book, width, t);
+    let form = shape_of(category);
     match form {
-        Shape::Map => map(s, book, index, width, t, bytes, left - 1, tape, text),
+        Shape::Map => map(s, book, index, width, t, plan, bytes, left - 1, tape, text),
         Shape::Array => array(s, book, index, width, t, bytes, left - 1, tape, text),
-        Shape::Leaf => leaf(s, book, width, t, bytes, tape, text),
+        Shape::Leaf => leaf(s, book, width, t, category, bytes, tape, text),
     }
 }
 
@@ -156,12 +155,15 @@ pub fn read_in(
     let resolved = resolvers::resolve_alias_in(book, index, width, root);
     match resolved {
         Resolved::Base(t) => {
+            let category = AdsTypeCategory::determine(book, width, t);
             let s = value(
                 Step::Next(0, 0),
                 book,
                 index,
                 width,
                 t,
+                category,
+                &index[0..0],
                 memory,
                 64,
                 tape,

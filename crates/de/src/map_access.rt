@@ -4,36 +4,42 @@ ghost use mathlib.Core.Bool.{true};
 ghost use Prim.Native.Nat.{_+_, _<_};
 ghost use Rattle.book_check.specs.Check.{ValidBook};
 ghost use Rattle.typebook.specs.Book.{isType};
+ghost use Rattle.field_plan.specs.Plan.{PlanEntry, Entries, Ready};
 ghost use Rattle.de.specs.Trace.{From};
 ghost use Rattle.de.specs.Walk.{ctx, walk, mapOf, membersOf, memberOf};
 use crate::deserializer::value;
 use crate::step::Step;
 use crate::step::put;
 use crate::step::stop;
-use resolvers::FieldAnswer;
+use field_plan::Planned;
 use resolvers::FieldsCheck;
 
-// The fields of type block t, after all of them were resolved once.
+// The fields of type block t, after all of them were resolved once: by whoever gave a plan, or here.
 pub(crate) fn map(
     s: Step,
     book: &[u8],
     index: &[u32],
     width: u8,
     t: u32,
+    plan: &[u32],
     bytes: &[u8],
     left: usize,
     tape: &mut [u8],
     text: &mut [u8],
 ) -> Step
-    requires { ⌜ ValidBook (now book) × (isType (now book) t ≡ true) ⌝ }
+    requires { ⌜ ValidBook (now book) × (isType (now book) t ≡ true) × Ready (now book) width t (now plan) ⌝ }
     ensures { λ r. ⌜ From (mapOf (walk (ctx (now (book .entry)) width) left) (ctx (now (book .entry)) width) t (now (bytes .entry))) (now (tape .entry)) (now (text .entry)) s r (now (tape .exit)) (now (text .exit)) ⌝ }
 {
     if bytes.len() != typebook::block::size(book, t) as usize {
         return stop(s, 10, 0);
     }
-    let fields = resolvers::check_fields_in(book, index, width, t);
+    if 0 < plan.len() {
+        return members(s, book, index, width, t, plan, bytes, left, tape, text);
+    }
+    let mut own = [0u32; 256];
+    let fields = field_plan::plan_fields_in(book, index, width, t, &mut own);
     match fields {
-        FieldsCheck::Fine => members(s, book, index, width, t, bytes, left, tape, text),
+        FieldsCheck::Fine => members(s, book, index, width, t, &own, bytes, left, tape, text),
         FieldsCheck::Lacks(b) => stop(s, 7, b),
         FieldsCheck::Endless => stop(s, 8, 0),
     }
@@ -46,12 +52,13 @@ pub(crate) fn members(
     index: &[u32],
     width: u8,
     t: u32,
+    plan: &[u32],
     bytes: &[u8],
     left: usize,
     tape: &mut [u8],
     text: &mut [u8],
 ) -> Step
-    requires { ⌜ ValidBook (now book) × (isType (now book) t ≡ true) ⌝ }
+    requires { ⌜ ValidBook (now book) × (isType (now book) t ≡ true) × Entries (now book) width t (now plan) ⌝ }
     ensures { λ r. ⌜ From (membersOf (walk (ctx (now (book .entry)) width) left) (ctx (now (book .entry)) width) t (now (bytes .entry))) (now (tape .entry)) (now (text .entry)) s r (now (tape .exit)) (now (text .exit)) ⌝ }
 {
     let n = typebook::block::fields(book, t);
@@ -61,49 +68,65 @@ pub(crate) fn members(
         let Step::Next(_, _) = here else {
             return here;
         };
-        here = member(here, book, index, width, t + 1 + i, bytes, left, tape, text);
+        let entry = field_plan::entry_at(plan, i);
+        here = member(
+            here,
+            book,
+            index,
+            width,
+            t + 1 + i,
+            entry,
+            bytes,
+            left,
+            tape,
+            text,
+        );
         i += 1;
     }
     put(here, tape, text, 5, 0, 0, 0)
 }
 
-// Field block f: its key, then its value.
+// Field block f, by its entry of a plan: its key, then its value.
 pub(crate) fn member(
     s: Step,
     book: &[u8],
     index: &[u32],
     width: u8,
     f: u32,
+    entry: u32,
     bytes: &[u8],
     left: usize,
     tape: &mut [u8],
     text: &mut [u8],
 ) -> Step
-    requires { ⌜ ValidBook (now book) ⌝ }
+    requires { ⌜ ValidBook (now book) × PlanEntry (now book) width f entry ⌝ }
     ensures { λ r. ⌜ From (memberOf (walk (ctx (now (book .entry)) width) left) (ctx (now (book .entry)) width) (now (bytes .entry)) f) (now (tape .entry)) (now (text .entry)) s r (now (tape .exit)) (now (text .exit)) ⌝ }
 {
     let key = put(s, tape, text, 4, 0, f as u64, 0);
-    let found = resolvers::resolve_field_in(book, index, width, f);
+    let found = field_plan::planned_field(book, index, width, f, entry);
     match found {
-        FieldAnswer::Field(x) => {
+        Planned::Field(x) => {
             let from = x.offset as usize;
             let to = from + x.size as usize;
             if to > bytes.len() {
                 return stop(key, 10, 0);
             }
+            let category = x.category;
             value(
                 key,
                 book,
                 index,
                 width,
                 x.resolved,
+                category,
+                &index[0..0],
                 &bytes[from..to],
                 left,
                 tape,
                 text,
             )
         }
-        FieldAnswer::Lacks(b) => stop(key, 7, b),
-        FieldAnswer::Endless => stop(key, 8, 0),
+        Planned::Lacks(b) => stop(key, 7, b),
+        Planned::Endless => stop(key, 8, 0),
     }
 }

@@ -191,31 +191,35 @@ module _ (book : List ℕ) (t : ℕ) (mem : List ℕ) (size : ℕ) (es : size �
 
 -- ---- by the category
 
-module _ (book : List ℕ) (width t : ℕ) (mem : List ℕ) (c : AdsTypeCategory) (ec : c ≡ categoryOf book width t) (k : LeafKind) (ek : k ≡ kindOfLeaf c) (r : LeafValue) where
-  leaf-by : r ≡ leafBy book width t mem k → r ≡ leafAt book width t mem
-  unfolding leafAt
-  leaf-by e = rw (← ec, ← ek) e
+-- the category is the type's own
+pub leaf-own : (book : List ℕ) (width t : ℕ) (mem : List ℕ) (c : AdsTypeCategory) (r : LeafValue) → c ≡ categoryOf book width t → r ≡ leafBy book width t mem (kindOfLeaf c) → r ≡ leafAt book width t mem
+unfolding leafAt
+leaf-own book width t mem c r ec e = rw (← ec) e
 
-  pub leaf-number : k ≡ kind.Number → r ≡ numberLeaf book t mem → r ≡ leafAt book width t mem
+module _ (book : List ℕ) (width t : ℕ) (mem : List ℕ) (c : AdsTypeCategory) (k : LeafKind) (ek : k ≡ kindOfLeaf c) (r : LeafValue) where
+  leaf-by : r ≡ leafBy book width t mem k → r ≡ leafBy book width t mem (kindOfLeaf c)
+  leaf-by e = rw (← ek) e
+
+  pub leaf-number : k ≡ kind.Number → r ≡ numberLeaf book t mem → r ≡ leafBy book width t mem (kindOfLeaf c)
   unfolding leafBy
   leaf-number q e = leaf-by (rw q e)
 
-  pub leaf-text : k ≡ kind.Text → r ≡ textLeaf book t mem → r ≡ leafAt book width t mem
+  pub leaf-text : k ≡ kind.Text → r ≡ textLeaf book t mem → r ≡ leafBy book width t mem (kindOfLeaf c)
   unfolding leafBy
   leaf-text q e = leaf-by (rw q e)
 
-  pub leaf-enum : k ≡ kind.Enum → r ≡ enumLeaf book t mem → r ≡ leafAt book width t mem
+  pub leaf-enum : k ≡ kind.Enum → r ≡ enumLeaf book t mem → r ≡ leafBy book width t mem (kindOfLeaf c)
   unfolding leafBy
   leaf-enum q e = leaf-by (rw q e)
 
-  pub leaf-pointer : k ≡ kind.Pointer → r ≡ pointerLeaf width mem → r ≡ leafAt book width t mem
+  pub leaf-pointer : k ≡ kind.Pointer → r ≡ pointerLeaf width mem → r ≡ leafBy book width t mem (kindOfLeaf c)
   unfolding leafBy
   leaf-pointer q e = leaf-by (rw q e)
 
-  pub leaf-unit : k ≡ kind.Unit → r ≡ leaf.Unit → r ≡ leafAt book width t mem
+  pub leaf-unit : k ≡ kind.Unit → r ≡ leaf.Unit → r ≡ leafBy book width t mem (kindOfLeaf c)
   unfolding leafBy
   leaf-unit q e = leaf-by (rw q e)
 
-  pub leaf-none : k ≡ kind.None → r ≡ leaf.Refused 11 → r ≡ leafAt book width t mem
+  pub leaf-none : k ≡ kind.None → r ≡ leaf.Refused 11 → r ≡ leafBy book width t mem (kindOfLeaf c)
   unfolding leafBy
   leaf-none q e = leaf-by (rw q e)

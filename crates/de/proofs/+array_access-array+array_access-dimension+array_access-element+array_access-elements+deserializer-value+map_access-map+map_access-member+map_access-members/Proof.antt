@@ -5,7 +5,8 @@ use lib.ListN.{length}
 use Rattle.de.specs.Walk.{ctx, walk, membersFrom, elementsFrom, elementItem, strideOf}
 use Rattle.de.proofs.Runs.{Rest}
 use Rattle.de.proofs.Walks.{fills-first, fills-further}
-use Rattle.de.proofs.Exits.{value-deep, value-map, value-array, value-leaf, member-lacks, member-endless, member-over, member-value, members-start, members-again, members-end, members-stop, map-odd, map-fine, map-lacks, map-endless, array-odd, array-lacks, array-endless, array-other, array-base, dimension-fine, dimension-lacks, dimension-endless, Along, along-start, along-again, along-end, elements-start, elements-again, elements-end, elements-stop, element-last, element-deep, element-further, element-fills, field-number, field-first, along-fits, typed-base, typed-field, next-dimension, leaf-inside}
+use Rattle.de.proofs.Exits.{value-deep, value-map, value-array, value-leaf, member-lacks, member-endless, member-over, member-value, members-start, members-again, members-end, members-stop, map-odd, map-fine, map-lacks, map-endless, array-odd, array-lacks, array-endless, array-other, array-base, dimension-fine, dimension-lacks, dimension-endless, Along, along-start, along-again, along-end, elements-start, elements-again, elements-end, elements-stop, element-last, element-deep, element-further, element-fills, field-number, field-first, along-fits, typed-base, typed-field, category-field, next-dimension, leaf-inside, map-ready, given-none, map-given, own-entries, own-elements, last-given}
+use Rattle.field_plan.proofs.Plans.{entry-of}
 use borrow.Fn.Kinds.{In}
 use borrow.Fn.PlainCycle.{Measures, is, falls, and}
 use Rattle.de.proofs.array_access.array.Reads as array-access·array
@@ -37,12 +38,14 @@ use Rattle.de.proofs.array_access.is_last.Reads as is-last-reads
 use Rattle.de.proofs.array_access.product_is.Reads as product-is-reads
 use Rattle.de.proofs.array_access.stride_of.Reads as stride-of-reads
 use Rattle.de.proofs.deserializer.leaf.Reads as leaf-reads
-use Rattle.de.proofs.deserializer.shape_at.Reads as shape-at-reads
+use Rattle.de.proofs.deserializer.shape_of.Reads as shape-of-reads
 use Rattle.de.proofs.step.put.Reads as put-reads
 use Rattle.de.proofs.step.stop.Reads as stop-reads
-use Rattle.resolvers.proofs.check_fields_in.Reads as check-fields-in-reads
+use Rattle.field_plan.proofs.entry_at.Reads as entry-at-reads
+use Rattle.field_plan.proofs.plan_fields_in.Reads as plan-fields-in-reads
+use Rattle.field_plan.proofs.planned_field.Reads as planned-field-reads
 use Rattle.resolvers.proofs.look_up_in.Reads as look-up-in-reads
-use Rattle.resolvers.proofs.resolve_field_in.Reads as resolve-field-in-reads
+use Rattle.type_category.proofs.type_category.AdsTypeCategory.determine.Reads as determine-reads
 use Rattle.typebook.proofs.block.count.Reads as count-reads
 use Rattle.typebook.proofs.block.fields.Reads as fields-reads
 use Rattle.typebook.proofs.block.size.Reads as size-reads
@@ -57,7 +60,7 @@ ruleset value-exits = (value-deep, value-map, value-array, value-leaf)
 
 ruleset member-exits = (member-lacks, member-endless, member-over, member-value)
 
-ruleset map-exits = (map-odd, map-fine, map-lacks, map-endless)
+ruleset map-exits = (map-odd, map-given, map-fine, map-lacks, map-endless)
 
 ruleset array-exits = (array-odd, array-lacks, array-endless, array-other, array-base)
 
@@ -73,31 +76,31 @@ abbrev μ-array-access·array : Measures 5 array-access·array-kinds.ps ℕ
 
 abbrev μ-array-access·dimension : Measures 5 array-access·dimension-kinds.ps ℕ
 μ-array-access·dimension κs a =
-    6 * a .1 .1 .1 .1 .1 .1 .1 .1 .0 + 3
+    6 * a .1 .1 .1 .1 .1 .1 .1 .1 .1 .0 + 3
 
-abbrev μ-array-access·element : Measures 5 array-access·element-kinds.ps ℕ
+abbrev μ-array-access·element : Measures 6 array-access·element-kinds.ps ℕ
 μ-array-access·element κs a =
-    6 * a .1 .1 .1 .1 .1 .1 .1 .1 .0 + 1
+    6 * a .1 .1 .1 .1 .1 .1 .1 .1 .1 .1 .0 + 1
 
-abbrev μ-array-access·elements : Measures 5 array-access·elements-kinds.ps ℕ
+abbrev μ-array-access·elements : Measures 6 array-access·elements-kinds.ps ℕ
 μ-array-access·elements κs a =
-    6 * a .1 .1 .1 .1 .1 .1 .1 .1 .0 + 2
+    6 * a .1 .1 .1 .1 .1 .1 .1 .1 .1 .1 .0 + 2
 
-abbrev μ-deserializer·value : Measures 5 deserializer·value-kinds.ps ℕ
+abbrev μ-deserializer·value : Measures 6 deserializer·value-kinds.ps ℕ
 μ-deserializer·value κs a =
-    6 * a .1 .1 .1 .1 .1 .1 .0
+    6 * a .1 .1 .1 .1 .1 .1 .1 .1 .0
 
-abbrev μ-map-access·map : Measures 5 map-access·map-kinds.ps ℕ
+abbrev μ-map-access·map : Measures 6 map-access·map-kinds.ps ℕ
 μ-map-access·map κs a =
-    6 * a .1 .1 .1 .1 .1 .1 .0 + 3
+    6 * a .1 .1 .1 .1 .1 .1 .1 .0 + 3
 
 abbrev μ-map-access·member : Measures 5 map-access·member-kinds.ps ℕ
 μ-map-access·member κs a =
-    6 * a .1 .1 .1 .1 .1 .1 .0 + 1
+    6 * a .1 .1 .1 .1 .1 .1 .1 .0 + 1
 
-abbrev μ-map-access·members : Measures 5 map-access·members-kinds.ps ℕ
+abbrev μ-map-access·members : Measures 6 map-access·members-kinds.ps ℕ
 μ-map-access·members κs a =
-    6 * a .1 .1 .1 .1 .1 .1 .0 + 2
+    6 * a .1 .1 .1 .1 .1 .1 .1 .0 + 2
 
 abbrev array-access·array-at : ℕ → In 5 array-access·array-kinds.ps
 array-access·array-at t =
@@ -131,68 +134,68 @@ array-access·dimension-below t =
     (falls 5 array-access·dimension-kinds.ps _<_ μ-array-access·dimension t)
     array-access·dimension.Pre
 
-abbrev array-access·element-at : ℕ → In 5 array-access·element-kinds.ps
+abbrev array-access·element-at : ℕ → In 6 array-access·element-kinds.ps
 array-access·element-at t =
     and
-    5
+    6
     array-access·element-kinds.ps
-    (is 5 array-access·element-kinds.ps μ-array-access·element t)
+    (is 6 array-access·element-kinds.ps μ-array-access·element t)
     array-access·element.Pre
 
-abbrev array-access·element-below : ℕ → In 5 array-access·element-kinds.ps
+abbrev array-access·element-below : ℕ → In 6 array-access·element-kinds.ps
 array-access·element-below t =
     and
-    5
+    6
     array-access·element-kinds.ps
-    (falls 5 array-access·element-kinds.ps _<_ μ-array-access·element t)
+    (falls 6 array-access·element-kinds.ps _<_ μ-array-access·element t)
     array-access·element.Pre
 
-abbrev array-access·elements-at : ℕ → In 5 array-access·elements-kinds.ps
+abbrev array-access·elements-at : ℕ → In 6 array-access·elements-kinds.ps
 array-access·elements-at t =
     and
-    5
+    6
     array-access·elements-kinds.ps
-    (is 5 array-access·elements-kinds.ps μ-array-access·elements t)
+    (is 6 array-access·elements-kinds.ps μ-array-access·elements t)
     array-access·elements.Pre
 
-abbrev array-access·elements-below : ℕ → In 5 array-access·elements-kinds.ps
+abbrev array-access·elements-below : ℕ → In 6 array-access·elements-kinds.ps
 array-access·elements-below t =
     and
-    5
+    6
     array-access·elements-kinds.ps
-    (falls 5 array-access·elements-kinds.ps _<_ μ-array-access·elements t)
+    (falls 6 array-access·elements-kinds.ps _<_ μ-array-access·elements t)
     array-access·elements.Pre
 
-abbrev deserializer·value-at : ℕ → In 5 deserializer·value-kinds.ps
+abbrev deserializer·value-at : ℕ → In 6 deserializer·value-kinds.ps
 deserializer·value-at t =
     and
-    5
+    6
     deserializer·value-kinds.ps
-    (is 5 deserializer·value-kinds.ps μ-deserializer·value t)
+    (is 6 deserializer·value-kinds.ps μ-deserializer·value t)
     deserializer·value.Pre
 
-abbrev deserializer·value-below : ℕ → In 5 deserializer·value-kinds.ps
+abbrev deserializer·value-below : ℕ → In 6 deserializer·value-kinds.ps
 deserializer·value-below t =
     and
-    5
+    6
     deserializer·value-kinds.ps
-    (falls 5 deserializer·value-kinds.ps _<_ μ-deserializer·value t)
+    (falls 6 deserializer·value-kinds.ps _<_ μ-deserializer·value t)
     deserializer·value.Pre
 
-abbrev map-access·map-at : ℕ → In 5 map-access·map-kinds.ps
+abbrev map-access·map-at : ℕ → In 6 map-access·map-kinds.ps
 map-access·map-at t =
     and
-    5
+    6
     map-access·map-kinds.ps
-    (is 5 map-access·map-kinds.ps μ-map-access·map t)
+    (is 6 map-access·map-kinds.ps μ-map-access·map t)
     map-access·map.Pre
 
-abbrev map-access·map-below : ℕ → In 5 map-access·map-kinds.ps
+abbrev map-access·map-below : ℕ → In 6 map-access·map-kinds.ps
 map-access·map-below t =
     and
-    5
+    6
     map-access·map-kinds.ps
-    (falls 5 map-access·map-kinds.ps _<_ μ-map-access·map t)
+    (falls 6 map-access·map-kinds.ps _<_ μ-map-access·map t)
     map-access·map.Pre
 
 abbrev map-access·member-at : ℕ → In 5 map-access·member-kinds.ps
@@ -211,24 +214,24 @@ map-access·member-below t =
     (falls 5 map-access·member-kinds.ps _<_ μ-map-access·member t)
     map-access·member.Pre
 
-abbrev map-access·members-at : ℕ → In 5 map-access·members-kinds.ps
+abbrev map-access·members-at : ℕ → In 6 map-access·members-kinds.ps
 map-access·members-at t =
     and
-    5
+    6
     map-access·members-kinds.ps
-    (is 5 map-access·members-kinds.ps μ-map-access·members t)
+    (is 6 map-access·members-kinds.ps μ-map-access·members t)
     map-access·members.Pre
 
-abbrev map-access·members-below : ℕ → In 5 map-access·members-kinds.ps
+abbrev map-access·members-below : ℕ → In 6 map-access·members-kinds.ps
 map-access·members-below t =
     and
-    5
+    6
     map-access·members-kinds.ps
-    (falls 5 map-access·members-kinds.ps _<_ μ-map-access·members t)
+    (falls 6 map-access·members-kinds.ps _<_ μ-map-access·members t)
     map-access·members.Pre
 
 abbrev array-access·array-calls : ℕ → array-access·array-lts.Claims
-array-access·array-calls t = (size-reads.Asked, size-reads.Learnt, stop-reads.Asked, stop-reads.Learnt, look-up-in-reads.Asked, look-up-in-reads.Learnt, product-is-reads.Asked, product-is-reads.Learnt, array-access·dimension-below t, array-access·dimension.Post)
+array-access·array-calls t = (size-reads.Asked, size-reads.Learnt, stop-reads.Asked, stop-reads.Learnt, look-up-in-reads.Asked, look-up-in-reads.Learnt, product-is-reads.Asked, product-is-reads.Learnt, determine-reads.Asked, determine-reads.Learnt, array-access·dimension-below t, array-access·dimension.Post)
 
 abbrev array-access·dimension-calls : ℕ → array-access·dimension-lts.Claims
 array-access·dimension-calls t = (element-check-reads.Asked, element-check-reads.Learnt, array-access·elements-below t, array-access·elements.Post, stop-reads.Asked, stop-reads.Learnt)
@@ -240,16 +243,16 @@ abbrev array-access·elements-calls : ℕ → array-access·elements-lts.Claims
 array-access·elements-calls t = (count-reads.Asked, count-reads.Learnt, put-reads.Asked, put-reads.Learnt, stride-of-reads.Asked, stride-of-reads.Learnt, array-access·element-below t, array-access·element.Post)
 
 abbrev deserializer·value-calls : ℕ → deserializer·value-lts.Claims
-deserializer·value-calls t = (stop-reads.Asked, stop-reads.Learnt, shape-at-reads.Asked, shape-at-reads.Learnt, map-access·map-below t, map-access·map.Post, array-access·array-below t, array-access·array.Post, leaf-reads.Asked, leaf-reads.Learnt)
+deserializer·value-calls t = (stop-reads.Asked, stop-reads.Learnt, shape-of-reads.Asked, shape-of-reads.Learnt, map-access·map-below t, map-access·map.Post, array-access·array-below t, array-access·array.Post, leaf-reads.Asked, leaf-reads.Learnt)
 
 abbrev map-access·map-calls : ℕ → map-access·map-lts.Claims
-map-access·map-calls t = (size-reads.Asked, size-reads.Learnt, stop-reads.Asked, stop-reads.Learnt, check-fields-in-reads.Asked, check-fields-in-reads.Learnt, map-access·members-below t, map-access·members.Post)
+map-access·map-calls t = (size-reads.Asked, size-reads.Learnt, stop-reads.Asked, stop-reads.Learnt, map-access·members-below t, map-access·members.Post, plan-fields-in-reads.Asked, plan-fields-in-reads.Learnt)
 
 abbrev map-access·member-calls : ℕ → map-access·member-lts.Claims
-map-access·member-calls t = (put-reads.Asked, put-reads.Learnt, resolve-field-in-reads.Asked, resolve-field-in-reads.Learnt, stop-reads.Asked, stop-reads.Learnt, deserializer·value-below t, deserializer·value.Post)
+map-access·member-calls t = (put-reads.Asked, put-reads.Learnt, planned-field-reads.Asked, planned-field-reads.Learnt, stop-reads.Asked, stop-reads.Learnt, deserializer·value-below t, deserializer·value.Post)
 
 abbrev map-access·members-calls : ℕ → map-access·members-lts.Claims
-map-access·members-calls t = (fields-reads.Asked, fields-reads.Learnt, put-reads.Asked, put-reads.Learnt, map-access·member-below t, map-access·member.Post)
+map-access·members-calls t = (fields-reads.Asked, fields-reads.Learnt, put-reads.Asked, put-reads.Learnt, entry-at-reads.Asked, entry-at-reads.Learnt, map-access·member-below t, map-access·member.Post)
 
 array-access·array-size-requires : (t : ℕ) → array-access·array-lts.Need-size-requires (array-access·array-calls t) (array-access·array-at t) array-access·array.Post
 array-access·array-size-requires t c κs = search needs
@@ -272,8 +275,11 @@ array-access·array-enum-known-element t c = search needs
 array-access·array-product-is-requires : (t : ℕ) → array-access·array-lts.Need-product-is-requires (array-access·array-calls t) (array-access·array-at t) array-access·array.Post
 array-access·array-product-is-requires t c κs = search needs
 
+array-access·array-determine-requires : (t : ℕ) → array-access·array-lts.Need-determine-requires (array-access·array-calls t) (array-access·array-at t) array-access·array.Post
+array-access·array-determine-requires t c κs = search needs
+
 array-access·array-dimension-requires : (t : ℕ) → array-access·array-lts.Need-dimension-requires (array-access·array-calls t) (array-access·array-at t) array-access·array.Post
-array-access·array-dimension-requires t c κs = (search needs, (search needs, search typed-base, search fills-first))
+array-access·array-dimension-requires t c κs = (search needs, (search needs, search typed-base, search needs, search fills-first))
 
 array-access·array-same-length : (t : ℕ) → array-access·array-lts.Need-same-length (array-access·array-calls t) (array-access·array-at t) array-access·array.Post
 array-access·array-same-length t c = search needs
@@ -309,6 +315,10 @@ array-access·array-returns-4 t c = search array-exits
 array-access·array-returns-5 : (t : ℕ) → array-access·array-lts.Need-returns-5 (array-access·array-calls t) (array-access·array-at t) array-access·array.Post
 array-access·array-returns-5 t c = search array-exits
 
+array-access·dimension-slice-aggregate-element-check :
+    (t : ℕ) → array-access·dimension-lts.Need-slice-aggregate-element-check (array-access·dimension-calls t) (array-access·dimension-at t) array-access·dimension.Post
+array-access·dimension-slice-aggregate-element-check t c = search needs
+
 array-access·dimension-element-check-requires :
     (t : ℕ) → array-access·dimension-lts.Need-element-check-requires (array-access·dimension-calls t) (array-access·dimension-at t) array-access·dimension.Post
 array-access·dimension-element-check-requires t c κs = search needs
@@ -316,9 +326,13 @@ array-access·dimension-element-check-requires t c κs = search needs
 array-access·dimension-enum-told : (t : ℕ) → array-access·dimension-lts.Need-enum-told (array-access·dimension-calls t) (array-access·dimension-at t) array-access·dimension.Post
 array-access·dimension-enum-told t c = search needs
 
+array-access·dimension-slice-aggregate-elements :
+    (t : ℕ) → array-access·dimension-lts.Need-slice-aggregate-elements (array-access·dimension-calls t) (array-access·dimension-at t) array-access·dimension.Post
+array-access·dimension-slice-aggregate-elements t c = search needs
+
 array-access·dimension-elements-requires :
     (t : ℕ) → array-access·dimension-lts.Need-elements-requires (array-access·dimension-calls t) (array-access·dimension-at t) array-access·dimension.Post
-array-access·dimension-elements-requires t c κs = search needs
+array-access·dimension-elements-requires t c κs = (search needs, (search needs, search needs, search needs, own-elements _ _ _ _ _ _ (c .before .before .before .before .before .before .element-check .ensures) (search needs), search needs))
 
 array-access·dimension-enum-known-fields :
     (t : ℕ) → array-access·dimension-lts.Need-enum-known-fields (array-access·dimension-calls t) (array-access·dimension-at t) array-access·dimension.Post
@@ -352,7 +366,7 @@ array-access·element-is-last-requires : (t : ℕ) → array-access·element-lts
 array-access·element-is-last-requires t c κs = search needs
 
 array-access·element-value-requires : (t : ℕ) → array-access·element-lts.Need-value-requires (array-access·element-calls t) (array-access·element-at t) array-access·element.Post
-array-access·element-value-requires t c κs = search needs
+array-access·element-value-requires t c κs = (search needs, (search needs, search needs, search needs, search last-given))
 
 array-access·element-same-length : (t : ℕ) → array-access·element-lts.Need-same-length (array-access·element-calls t) (array-access·element-at t) array-access·element.Post
 array-access·element-same-length t c = search needs
@@ -389,11 +403,11 @@ array-access·element-returns-3 : (t : ℕ) → array-access·element-lts.Need-r
 array-access·element-returns-3 t c = search element-exits
 
 abbrev array-access·elements-Inv-loop : array-access·elements-lts.InvT-loop
-array-access·elements-Inv-loop book index width d t e bytes left tape₀ text₀ n here₀ stride from₀ i₀ tape text here from i =
+array-access·elements-Inv-loop book index width d t e category plan bytes left tape₀ text₀ n here₀ stride from₀ i₀ tape text here from i =
     (i ≤ n) × Along book d t e n stride from i (length bytes) × (length tape ≡ length tape₀) × (length text ≡ length text₀) × Rest (elementsFrom (walk (ctx book width) left) (elementItem (ctx book width) d t e) (strideOf book d t e) bytes 0 n) tape₀ text₀ here₀ (elementsFrom (walk (ctx book width) left) (elementItem (ctx book width) d t e) (strideOf book d t e) bytes from (n - i)) tape text here
 
 abbrev array-access·elements-μ-loop : array-access·elements-lts.MeasureT-loop
-array-access·elements-μ-loop book index width d t e bytes left tape₀ text₀ n here₀ stride from₀ i₀ tape text here from i =
+array-access·elements-μ-loop book index width d t e category plan bytes left tape₀ text₀ n here₀ stride from₀ i₀ tape text here from i =
     n - i
 
 array-access·elements-count-requires : (t : ℕ) → array-access·elements-lts.Need-count-requires (array-access·elements-calls t) (array-access·elements-at t) array-access·elements.Post array-access·elements-Inv-loop array-access·elements-μ-loop
@@ -470,8 +484,8 @@ deserializer·value-stop-requires t c κs = search needs
 deserializer·value-returns : (t : ℕ) → deserializer·value-lts.Need-returns (deserializer·value-calls t) (deserializer·value-at t) deserializer·value.Post
 deserializer·value-returns t c = search value-exits
 
-deserializer·value-shape-at-requires : (t : ℕ) → deserializer·value-lts.Need-shape-at-requires (deserializer·value-calls t) (deserializer·value-at t) deserializer·value.Post
-deserializer·value-shape-at-requires t c κs = search needs
+deserializer·value-shape-of-requires : (t : ℕ) → deserializer·value-lts.Need-shape-of-requires (deserializer·value-calls t) (deserializer·value-at t) deserializer·value.Post
+deserializer·value-shape-of-requires t c κs = search needs
 
 deserializer·value-enum-told : (t : ℕ) → deserializer·value-lts.Need-enum-told (deserializer·value-calls t) (deserializer·value-at t) deserializer·value.Post
 deserializer·value-enum-told t c = search needs
@@ -480,7 +494,7 @@ deserializer·value-sub-map : (t : ℕ) → deserializer·value-lts.Need-sub-map
 deserializer·value-sub-map t c = search needs
 
 deserializer·value-map-requires : (t : ℕ) → deserializer·value-lts.Need-map-requires (deserializer·value-calls t) (deserializer·value-at t) deserializer·value.Post
-deserializer·value-map-requires t c κs = search needs
+deserializer·value-map-requires t c κs = (search needs, (search needs, search needs, search map-ready))
 
 deserializer·value-enum-told-2 : (t : ℕ) → deserializer·value-lts.Need-enum-told-2 (deserializer·value-calls t) (deserializer·value-at t) deserializer·value.Post
 deserializer·value-enum-told-2 t c = search needs
@@ -495,7 +509,7 @@ deserializer·value-enum-told-3 : (t : ℕ) → deserializer·value-lts.Need-enu
 deserializer·value-enum-told-3 t c = search needs
 
 deserializer·value-leaf-requires : (t : ℕ) → deserializer·value-lts.Need-leaf-requires (deserializer·value-calls t) (deserializer·value-at t) deserializer·value.Post
-deserializer·value-leaf-requires t c κs = search leaf-inside
+deserializer·value-leaf-requires t c κs = (search leaf-inside, search needs)
 
 deserializer·value-same-length : (t : ℕ) → deserializer·value-lts.Need-same-length (deserializer·value-calls t) (deserializer·value-at t) deserializer·value.Post
 deserializer·value-same-length t c = search needs
@@ -536,15 +550,33 @@ map-access·map-stop-requires t c κs = search needs
 map-access·map-returns : (t : ℕ) → map-access·map-lts.Need-returns (map-access·map-calls t) (map-access·map-at t) map-access·map.Post
 map-access·map-returns t c = search map-exits
 
-map-access·map-check-fields-in-requires :
-    (t : ℕ) → map-access·map-lts.Need-check-fields-in-requires (map-access·map-calls t) (map-access·map-at t) map-access·map.Post
-map-access·map-check-fields-in-requires t c κs = search needs
+map-access·map-members-requires : (t : ℕ) → map-access·map-lts.Need-members-requires (map-access·map-calls t) (map-access·map-at t) map-access·map.Post
+map-access·map-members-requires t c κs = search needs
+
+map-access·map-same-length : (t : ℕ) → map-access·map-lts.Need-same-length (map-access·map-calls t) (map-access·map-at t) map-access·map.Post
+map-access·map-same-length t c = search needs
+
+map-access·map-same-length-2 : (t : ℕ) → map-access·map-lts.Need-same-length-2 (map-access·map-calls t) (map-access·map-at t) map-access·map.Post
+map-access·map-same-length-2 t c = search needs
+
+map-access·map-returns-2 : (t : ℕ) → map-access·map-lts.Need-returns-2 (map-access·map-calls t) (map-access·map-at t) map-access·map.Post
+map-access·map-returns-2 t c = search map-exits
+
+map-access·map-slice-aggregate-plan-fields-in :
+    (t : ℕ) → map-access·map-lts.Need-slice-aggregate-plan-fields-in (map-access·map-calls t) (map-access·map-at t) map-access·map.Post
+map-access·map-slice-aggregate-plan-fields-in t c = search needs
+
+map-access·map-plan-fields-in-requires : (t : ℕ) → map-access·map-lts.Need-plan-fields-in-requires (map-access·map-calls t) (map-access·map-at t) map-access·map.Post
+map-access·map-plan-fields-in-requires t c κs = search needs
 
 map-access·map-enum-told : (t : ℕ) → map-access·map-lts.Need-enum-told (map-access·map-calls t) (map-access·map-at t) map-access·map.Post
 map-access·map-enum-told t c = search needs
 
-map-access·map-members-requires : (t : ℕ) → map-access·map-lts.Need-members-requires (map-access·map-calls t) (map-access·map-at t) map-access·map.Post
-map-access·map-members-requires t c κs = search needs
+map-access·map-slice-aggregate-members : (t : ℕ) → map-access·map-lts.Need-slice-aggregate-members (map-access·map-calls t) (map-access·map-at t) map-access·map.Post
+map-access·map-slice-aggregate-members t c = search needs
+
+map-access·map-members-requires-2 : (t : ℕ) → map-access·map-lts.Need-members-requires-2 (map-access·map-calls t) (map-access·map-at t) map-access·map.Post
+map-access·map-members-requires-2 t c κs = (search needs, (search needs, search needs, own-entries _ _ _ _ _ (c .before .before .before .before .before .before .plan-fields-in .ensures) (search needs)))
 
 map-access·map-enum-known-fields : (t : ℕ) → map-access·map-lts.Need-enum-known-fields (map-access·map-calls t) (map-access·map-at t) map-access·map.Post
 map-access·map-enum-known-fields t c = search needs
@@ -558,14 +590,11 @@ map-access·map-enum-told-2 t c = search needs
 map-access·map-stop-requires-3 : (t : ℕ) → map-access·map-lts.Need-stop-requires-3 (map-access·map-calls t) (map-access·map-at t) map-access·map.Post
 map-access·map-stop-requires-3 t c κs = search needs
 
-map-access·map-same-length : (t : ℕ) → map-access·map-lts.Need-same-length (map-access·map-calls t) (map-access·map-at t) map-access·map.Post
-map-access·map-same-length t c = search needs
+map-access·map-same-length-3 : (t : ℕ) → map-access·map-lts.Need-same-length-3 (map-access·map-calls t) (map-access·map-at t) map-access·map.Post
+map-access·map-same-length-3 t c = search needs
 
-map-access·map-same-length-2 : (t : ℕ) → map-access·map-lts.Need-same-length-2 (map-access·map-calls t) (map-access·map-at t) map-access·map.Post
-map-access·map-same-length-2 t c = search needs
-
-map-access·map-returns-2 : (t : ℕ) → map-access·map-lts.Need-returns-2 (map-access·map-calls t) (map-access·map-at t) map-access·map.Post
-map-access·map-returns-2 t c = search map-exits
+map-access·map-same-length-4 : (t : ℕ) → map-access·map-lts.Need-same-length-4 (map-access·map-calls t) (map-access·map-at t) map-access·map.Post
+map-access·map-same-length-4 t c = search needs
 
 map-access·map-returns-3 : (t : ℕ) → map-access·map-lts.Need-returns-3 (map-access·map-calls t) (map-access·map-at t) map-access·map.Post
 map-access·map-returns-3 t c = search map-exits
@@ -573,12 +602,15 @@ map-access·map-returns-3 t c = search map-exits
 map-access·map-returns-4 : (t : ℕ) → map-access·map-lts.Need-returns-4 (map-access·map-calls t) (map-access·map-at t) map-access·map.Post
 map-access·map-returns-4 t c = search map-exits
 
+map-access·map-returns-5 : (t : ℕ) → map-access·map-lts.Need-returns-5 (map-access·map-calls t) (map-access·map-at t) map-access·map.Post
+map-access·map-returns-5 t c = search map-exits
+
 map-access·member-put-requires : (t : ℕ) → map-access·member-lts.Need-put-requires (map-access·member-calls t) (map-access·member-at t) map-access·member.Post
 map-access·member-put-requires t c κs = search needs
 
-map-access·member-resolve-field-in-requires :
-    (t : ℕ) → map-access·member-lts.Need-resolve-field-in-requires (map-access·member-calls t) (map-access·member-at t) map-access·member.Post
-map-access·member-resolve-field-in-requires t c κs = search needs
+map-access·member-planned-field-requires :
+    (t : ℕ) → map-access·member-lts.Need-planned-field-requires (map-access·member-calls t) (map-access·member-at t) map-access·member.Post
+map-access·member-planned-field-requires t c κs = search needs
 
 map-access·member-enum-known-found : (t : ℕ) → map-access·member-lts.Need-enum-known-found (map-access·member-calls t) (map-access·member-at t) map-access·member.Post
 map-access·member-enum-known-found t c = search needs
@@ -613,8 +645,17 @@ map-access·member-part-value-start t c = search needs
 map-access·member-part-value-end : (t : ℕ) → map-access·member-lts.Need-part-value-end (map-access·member-calls t) (map-access·member-at t) map-access·member.Post
 map-access·member-part-value-end t c = search needs
 
+map-access·member-sub-value-2 : (t : ℕ) → map-access·member-lts.Need-sub-value-2 (map-access·member-calls t) (map-access·member-at t) map-access·member.Post
+map-access·member-sub-value-2 t c = search needs
+
+map-access·member-part-value-start-2 : (t : ℕ) → map-access·member-lts.Need-part-value-start-2 (map-access·member-calls t) (map-access·member-at t) map-access·member.Post
+map-access·member-part-value-start-2 t c = search needs
+
+map-access·member-part-value-end-2 : (t : ℕ) → map-access·member-lts.Need-part-value-end-2 (map-access·member-calls t) (map-access·member-at t) map-access·member.Post
+map-access·member-part-value-end-2 t c = search needs
+
 map-access·member-value-requires : (t : ℕ) → map-access·member-lts.Need-value-requires (map-access·member-calls t) (map-access·member-at t) map-access·member.Post
-map-access·member-value-requires t c κs = let p = c .before .before .before .before .before .before .before .before .before .before .before .before .before .before .before .before .before .before .before .before .before .before .pre in (search needs, (search needs, search typed-field))
+map-access·member-value-requires t c κs = let p = c .before .before .before .before .before .before .before .before .before .before .before .before .before .before .before .before .before .before .before .before .before .before .before .pre in let q = c .before .before .before .before .before .before .before .before .before .before .planned-field .ensures in let g = c .before .before .before .before .before .before .before .before .found .given in (search needs, (search needs, typed-field q (g .1), category-field q (g .1), search given-none))
 
 map-access·member-enum-known-found-2 : (t : ℕ) → map-access·member-lts.Need-enum-known-found-2 (map-access·member-calls t) (map-access·member-at t) map-access·member.Post
 map-access·member-enum-known-found-2 t c = search needs
@@ -656,11 +697,11 @@ map-access·member-returns-4 : (t : ℕ) → map-access·member-lts.Need-returns
 map-access·member-returns-4 t c = search member-exits
 
 abbrev map-access·members-Inv-loop : map-access·members-lts.InvT-loop
-map-access·members-Inv-loop book index width t bytes left tape₀ text₀ n here₀ i₀ tape text here i =
+map-access·members-Inv-loop book index width t plan bytes left tape₀ text₀ n here₀ i₀ tape text here i =
     (i ≤ n) × (length tape ≡ length tape₀) × (length text ≡ length text₀) × Rest (membersFrom (walk (ctx book width) left) (ctx book width) bytes (t + 1) n) tape₀ text₀ here₀ (membersFrom (walk (ctx book width) left) (ctx book width) bytes (t + 1 + i) (n - i)) tape text here
 
 abbrev map-access·members-μ-loop : map-access·members-lts.MeasureT-loop
-map-access·members-μ-loop book index width t bytes left tape₀ text₀ n here₀ i₀ tape text here i =
+map-access·members-μ-loop book index width t plan bytes left tape₀ text₀ n here₀ i₀ tape text here i =
     n - i
 
 map-access·members-fields-requires : (t : ℕ) → map-access·members-lts.Need-fields-requires (map-access·members-calls t) (map-access·members-at t) map-access·members.Post map-access·members-Inv-loop map-access·members-μ-loop
@@ -690,6 +731,9 @@ map-access·members-same-length-2 t c = search needs
 map-access·members-returns : (t : ℕ) → map-access·members-lts.Need-returns (map-access·members-calls t) (map-access·members-at t) map-access·members.Post map-access·members-Inv-loop map-access·members-μ-loop
 map-access·members-returns t c = search members-stop
 
+map-access·members-entry-at-requires : (t : ℕ) → map-access·members-lts.Need-entry-at-requires (map-access·members-calls t) (map-access·members-at t) map-access·members.Post map-access·members-Inv-loop map-access·members-μ-loop
+map-access·members-entry-at-requires t c κs = search needs
+
 map-access·members-add-member : (t : ℕ) → map-access·members-lts.Need-add-member (map-access·members-calls t) (map-access·members-at t) map-access·members.Post map-access·members-Inv-loop map-access·members-μ-loop
 map-access·members-add-member t c = search field-first
 
@@ -697,7 +741,7 @@ map-access·members-add-member-2 : (t : ℕ) → map-access·members-lts.Need-ad
 map-access·members-add-member-2 t c = search field-number
 
 map-access·members-member-requires : (t : ℕ) → map-access·members-lts.Need-member-requires (map-access·members-calls t) (map-access·members-at t) map-access·members.Post map-access·members-Inv-loop map-access·members-μ-loop
-map-access·members-member-requires t c κs = search needs
+map-access·members-member-requires t c κs = (search needs, (search needs, search entry-of))
 
 map-access·members-add-i : (t : ℕ) → map-access·members-lts.Need-add-i (map-access·members-calls t) (map-access·members-at t) map-access·members.Post map-access·members-Inv-loop map-access·members-μ-loop
 map-access·members-add-i t c = search needs
@@ -741,6 +785,7 @@ pub +array-access·array+array-access·dimension+array-access·element+array-acc
     (array-access·array-look-up-in-requires t)
     (array-access·array-enum-known-element t)
     (array-access·array-product-is-requires t)
+    (array-access·array-determine-requires t)
     (array-access·array-dimension-requires t)
     (array-access·array-same-length t)
     (array-access·array-same-length-2 t)
@@ -755,8 +800,10 @@ pub +array-access·array+array-access·dimension+array-access·element+array-acc
     (array-access·array-returns-5 t))
     (λ t. array-access·dimension-lts.spec (array-access·dimension-calls t) (array-access·dimension-at t)
     array-access·dimension.Post
+    (array-access·dimension-slice-aggregate-element-check t)
     (array-access·dimension-element-check-requires t)
     (array-access·dimension-enum-told t)
+    (array-access·dimension-slice-aggregate-elements t)
     (array-access·dimension-elements-requires t)
     (array-access·dimension-enum-known-fields t)
     (array-access·dimension-stop-requires t)
@@ -812,7 +859,7 @@ pub +array-access·array+array-access·dimension+array-access·element+array-acc
     deserializer·value.Post
     (deserializer·value-stop-requires t)
     (deserializer·value-returns t)
-    (deserializer·value-shape-at-requires t)
+    (deserializer·value-shape-of-requires t)
     (deserializer·value-enum-told t)
     (deserializer·value-sub-map t)
     (deserializer·value-map-requires t)
@@ -836,22 +883,28 @@ pub +array-access·array+array-access·dimension+array-access·element+array-acc
     (map-access·map-cast-if1 t)
     (map-access·map-stop-requires t)
     (map-access·map-returns t)
-    (map-access·map-check-fields-in-requires t)
-    (map-access·map-enum-told t)
     (map-access·map-members-requires t)
+    (map-access·map-same-length t)
+    (map-access·map-same-length-2 t)
+    (map-access·map-returns-2 t)
+    (map-access·map-slice-aggregate-plan-fields-in t)
+    (map-access·map-plan-fields-in-requires t)
+    (map-access·map-enum-told t)
+    (map-access·map-slice-aggregate-members t)
+    (map-access·map-members-requires-2 t)
     (map-access·map-enum-known-fields t)
     (map-access·map-stop-requires-2 t)
     (map-access·map-enum-told-2 t)
     (map-access·map-stop-requires-3 t)
-    (map-access·map-same-length t)
-    (map-access·map-same-length-2 t)
-    (map-access·map-returns-2 t)
+    (map-access·map-same-length-3 t)
+    (map-access·map-same-length-4 t)
     (map-access·map-returns-3 t)
-    (map-access·map-returns-4 t))
+    (map-access·map-returns-4 t)
+    (map-access·map-returns-5 t))
     (λ t. map-access·member-lts.spec (map-access·member-calls t) (map-access·member-at t)
     map-access·member.Post
     (map-access·member-put-requires t)
-    (map-access·member-resolve-field-in-requires t)
+    (map-access·member-planned-field-requires t)
     (map-access·member-enum-known-found t)
     (map-access·member-cast-from t)
     (map-access·member-cast-to t)
@@ -863,6 +916,9 @@ pub +array-access·array+array-access·dimension+array-access·element+array-acc
     (map-access·member-sub-value t)
     (map-access·member-part-value-start t)
     (map-access·member-part-value-end t)
+    (map-access·member-sub-value-2 t)
+    (map-access·member-part-value-start-2 t)
+    (map-access·member-part-value-end-2 t)
     (map-access·member-value-requires t)
     (map-access·member-enum-known-found-2 t)
     (map-access·member-stop-requires-2 t)
@@ -890,6 +946,7 @@ pub +array-access·array+array-access·dimension+array-access·element+array-acc
     (map-access·members-same-length t)
     (map-access·members-same-length-2 t)
     (map-access·members-returns t)
+    (map-access·members-entry-at-requires t)
     (map-access·members-add-member t)
     (map-access·members-add-member-2 t)
     (map-access·members-member-requires t)

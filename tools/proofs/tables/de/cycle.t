@@ -5,29 +5,31 @@ use lib.ListN.{length}
 use Rattle.de.specs.Walk.{ctx, walk, membersFrom, elementsFrom, elementItem, strideOf}
 use Rattle.de.proofs.Runs.{Rest}
 use Rattle.de.proofs.Walks.{fills-first, fills-further}
-use Rattle.de.proofs.Exits.{value-deep, value-map, value-array, value-leaf, member-lacks, member-endless, member-over, member-value, members-start, members-again, members-end, members-stop, map-odd, map-fine, map-lacks, map-endless, array-odd, array-lacks, array-endless, array-other, array-base, dimension-fine, dimension-lacks, dimension-endless, Along, along-start, along-again, along-end, elements-start, elements-again, elements-end, elements-stop, element-last, element-deep, element-further, element-fills, field-number, field-first, along-fits, typed-base, typed-field, next-dimension, leaf-inside}
+use Rattle.de.proofs.Exits.{value-deep, value-map, value-array, value-leaf, member-lacks, member-endless, member-over, member-value, members-start, members-again, members-end, members-stop, map-odd, map-fine, map-lacks, map-endless, array-odd, array-lacks, array-endless, array-other, array-base, dimension-fine, dimension-lacks, dimension-endless, Along, along-start, along-again, along-end, elements-start, elements-again, elements-end, elements-stop, element-last, element-deep, element-further, element-fills, field-number, field-first, along-fits, typed-base, typed-field, category-field, next-dimension, leaf-inside, map-ready, given-none, map-given, own-entries, own-elements, last-given}
+use Rattle.field_plan.proofs.Plans.{entry-of}
 ruleset value-exits = (value-deep, value-map, value-array, value-leaf)
 ruleset member-exits = (member-lacks, member-endless, member-over, member-value)
-ruleset map-exits = (map-odd, map-fine, map-lacks, map-endless)
+ruleset map-exits = (map-odd, map-given, map-fine, map-lacks, map-endless)
 ruleset array-exits = (array-odd, array-lacks, array-endless, array-other, array-base)
 ruleset dimension-exits = (dimension-fine, dimension-lacks, dimension-endless)
 ruleset element-exits = (element-last, element-deep, element-further)
 ruleset asks = (needs, fills-first, fills-further, element-fills)
 def μ-array-access·array => 6 * a .1 .1 .1 .1 .1 .1 .0 + 4
-def μ-array-access·dimension => 6 * a .1 .1 .1 .1 .1 .1 .1 .1 .0 + 3
-def μ-array-access·element => 6 * a .1 .1 .1 .1 .1 .1 .1 .1 .0 + 1
-def μ-array-access·elements => 6 * a .1 .1 .1 .1 .1 .1 .1 .1 .0 + 2
-def μ-deserializer·value => 6 * a .1 .1 .1 .1 .1 .1 .0
-def μ-map-access·map => 6 * a .1 .1 .1 .1 .1 .1 .0 + 3
-def μ-map-access·member => 6 * a .1 .1 .1 .1 .1 .1 .0 + 1
-def μ-map-access·members => 6 * a .1 .1 .1 .1 .1 .1 .0 + 2
+def μ-array-access·dimension => 6 * a .1 .1 .1 .1 .1 .1 .1 .1 .1 .0 + 3
+def μ-array-access·element => 6 * a .1 .1 .1 .1 .1 .1 .1 .1 .1 .1 .0 + 1
+def μ-array-access·elements => 6 * a .1 .1 .1 .1 .1 .1 .1 .1 .1 .1 .0 + 2
+def μ-deserializer·value => 6 * a .1 .1 .1 .1 .1 .1 .1 .1 .0
+def μ-map-access·map => 6 * a .1 .1 .1 .1 .1 .1 .1 .0 + 3
+def μ-map-access·member => 6 * a .1 .1 .1 .1 .1 .1 .1 .0 + 1
+def μ-map-access·members => 6 * a .1 .1 .1 .1 .1 .1 .1 .0 + 2
 def map-access·members-Inv-loop => (i ≤ n) × (length tape ≡ length tape₀) × (length text ≡ length text₀) × Rest (membersFrom (walk (ctx book width) left) (ctx book width) bytes (t + 1) n) tape₀ text₀ here₀ (membersFrom (walk (ctx book width) left) (ctx book width) bytes (t + 1 + i) (n - i)) tape text here
 def map-access·members-μ-loop => n - i
 def array-access·elements-Inv-loop => (i ≤ n) × Along book d t e n stride from i (length bytes) × (length tape ≡ length tape₀) × (length text ≡ length text₀) × Rest (elementsFrom (walk (ctx book width) left) (elementItem (ctx book width) d t e) (strideOf book d t e) bytes 0 n) tape₀ text₀ here₀ (elementsFrom (walk (ctx book width) left) (elementItem (ctx book width) d t e) (strideOf book d t e) bytes from (n - i)) tape text here
 def array-access·elements-μ-loop => n - i
-deserializer·value-leaf-requires => search leaf-inside
+deserializer·value-leaf-requires => (search leaf-inside, search needs)
+deserializer·value-map-requires => (search needs, (search needs, search needs, search map-ready))
 deserializer·value-returns.* => search value-exits
-map-access·member-value-requires => let p = c .before .before .before .before .before .before .before .before .before .before .before .before .before .before .before .before .before .before .before .before .before .before .pre in (search needs, (search needs, search typed-field))
+map-access·member-value-requires => let p = c .before .before .before .before .before .before .before .before .before .before .before .before .before .before .before .before .before .before .before .before .before .before .before .pre in let q = c .before .before .before .before .before .before .before .before .before .before .planned-field .ensures in let g = c .before .before .before .before .before .before .before .before .found .given in (search needs, (search needs, typed-field q (g .1), category-field q (g .1), search given-none))
 map-access·member-returns.* => search member-exits
 map-access·members-returns => search members-stop
 map-access·members-returns-2 => search members-end
@@ -35,9 +37,13 @@ map-access·members-loop-holds => (search needs, search needs, search needs, sea
 map-access·members-loop-again => (search needs, search needs, search needs, search members-again)
 map-access·members-add-member => search field-first
 map-access·members-add-member-2 => search field-number
+map-access·members-member-requires => (search needs, (search needs, search entry-of))
+map-access·map-members-requires-2 => (search needs, (search needs, search needs, own-entries _ _ _ _ _ (c .before .before .before .before .before .before .plan-fields-in .ensures) (search needs)))
 map-access·map-returns.* => search map-exits
 array-access·array-returns.* => search array-exits
-array-access·array-dimension-requires => (search needs, (search needs, search typed-base, search fills-first))
+array-access·array-dimension-requires => (search needs, (search needs, search typed-base, search needs, search fills-first))
+array-access·dimension-elements-requires => (search needs, (search needs, search needs, search needs, own-elements _ _ _ _ _ _ (c .before .before .before .before .before .before .element-check .ensures) (search needs), search needs))
+array-access·element-value-requires => (search needs, (search needs, search needs, search needs, search last-given))
 array-access·dimension-returns.* => search dimension-exits
 array-access·element-add-dimension => search next-dimension
 array-access·element-returns.* => search element-exits

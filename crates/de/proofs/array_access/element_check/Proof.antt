@@ -5,28 +5,31 @@ use Rattle.de.proofs.array_access.element_check.Tie as tie
 use Rattle.de.proofs.array_access.element_check.Reads as reads
 use Rattle.de.proofs.array_access.element_check.Lts as lts
 use Rattle.de.proofs.array_access.is_last.Reads as is-last-reads
-use Rattle.de.proofs.deserializer.shape_at.Reads as shape-at-reads
-use Rattle.resolvers.proofs.check_fields_in.Reads as check-fields-in-reads
+use Rattle.de.proofs.deserializer.shape_of.Reads as shape-of-reads
+use Rattle.field_plan.proofs.plan_fields_in.Reads as plan-fields-in-reads
 
 ruleset exits = (check-map, check-array, check-leaf, check-not-last)
 
 is-last-requires : tie.Need-is-last-requires
 is-last-requires c κs = search needs
 
-shape-at-requires : tie.Need-shape-at-requires
-shape-at-requires c κs = search needs
+shape-of-requires : tie.Need-shape-of-requires
+shape-of-requires c κs = search needs
 
 enum-told : tie.Need-enum-told
 enum-told c = search needs
 
-check-fields-in-requires : tie.Need-check-fields-in-requires
-check-fields-in-requires c κs = search needs
+plan-fields-in-requires : tie.Need-plan-fields-in-requires
+plan-fields-in-requires c κs = search needs
 
 enum-told-2 : tie.Need-enum-told-2
 enum-told-2 c = search needs
 
 enum-told-3 : tie.Need-enum-told-3
 enum-told-3 c = search needs
+
+same-length : tie.Need-same-length
+same-length c = search needs
 
 returns : tie.Need-returns
 returns c = search exits
@@ -45,11 +48,12 @@ element-check-spec =
     tie.close
     (tie.spec
     is-last-requires
-    shape-at-requires
+    shape-of-requires
     enum-told
-    check-fields-in-requires
+    plan-fields-in-requires
     enum-told-2
     enum-told-3
+    same-length
     returns
     returns-2
     returns-3

@@ -5,10 +5,10 @@ use Rattle.de.proofs.deserializer.leaf.Tie as tie
 use Rattle.de.proofs.deserializer.leaf.Reads as reads
 use Rattle.de.proofs.deserializer.leaf.Lts as lts
 use Rattle.de.proofs.step.put_leaf.Reads as put-leaf-reads
-use Rattle.leaves.proofs.leaf.leaf_in.Reads as leaf-in-reads
+use Rattle.leaves.proofs.leaf.leaf_by.Reads as leaf-by-reads
 
-leaf-in-requires : tie.Need-leaf-in-requires
-leaf-in-requires c κs = search needs
+leaf-by-requires : tie.Need-leaf-by-requires
+leaf-by-requires c κs = search needs
 
 put-leaf-requires : tie.Need-put-leaf-requires
 put-leaf-requires c κs = search needs
@@ -24,4 +24,4 @@ returns c = search leaf-at
 
 pub leaf-spec : {M : Type 1} → statement M
 leaf-spec =
-    tie.close (tie.spec leaf-in-requires put-leaf-requires same-length same-length-2 returns)
+    tie.close (tie.spec leaf-by-requires put-leaf-requires same-length same-length-2 returns)

@@ -1,4 +1,5 @@
 use Rattle.de.proofs.Wholes.{typed-root, root-base, root-lacks, root-endless}
+use Rattle.de.proofs.Exits.{given-none}
 use borrow.Author.Needs.{needs}
 use Rattle.de.proofs.deserializer.read_in.Statement.{statement}
 use Rattle.de.proofs.deserializer.read_in.Tie as tie
@@ -7,6 +8,7 @@ use Rattle.de.proofs.deserializer.read_in.Lts as lts
 use Rattle.de.proofs.deserializer.finish.Reads as finish-reads
 use Rattle.de.proofs.deserializer.value.Reads as value-reads
 use Rattle.resolvers.proofs.resolve_alias_in.Reads as resolve-alias-in-reads
+use Rattle.type_category.proofs.type_category.AdsTypeCategory.determine.Reads as determine-reads
 
 resolve-alias-in-requires : tie.Need-resolve-alias-in-requires
 resolve-alias-in-requires c κs = search needs
@@ -14,8 +16,20 @@ resolve-alias-in-requires c κs = search needs
 enum-known-resolved : tie.Need-enum-known-resolved
 enum-known-resolved c = search needs
 
+determine-requires : tie.Need-determine-requires
+determine-requires c κs = search needs
+
+sub-value : tie.Need-sub-value
+sub-value c = search needs
+
+part-value-start : tie.Need-part-value-start
+part-value-start c = search needs
+
+part-value-end : tie.Need-part-value-end
+part-value-end c = search needs
+
 value-requires : tie.Need-value-requires
-value-requires c κs = (search needs, search typed-root)
+value-requires c κs = (search needs, search typed-root, search needs, search given-none)
 
 finish-requires : tie.Need-finish-requires
 finish-requires c κs = search needs
@@ -65,6 +79,10 @@ read-in-spec =
     (tie.spec
     resolve-alias-in-requires
     enum-known-resolved
+    determine-requires
+    sub-value
+    part-value-start
+    part-value-end
     value-requires
     finish-requires
     enum-known-resolved-2

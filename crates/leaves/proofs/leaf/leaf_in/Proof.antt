@@ -1,92 +1,20 @@
-use mathlib.Core.Path.{refl}
-use Rattle.leaves.proofs.Leaves.{leaf-number, leaf-text, leaf-enum, leaf-pointer, leaf-unit, leaf-none}
+use Rattle.leaves.proofs.Leaves.{leaf-own}
 use borrow.Author.Needs.{needs}
 use Rattle.leaves.proofs.leaf.leaf_in.Statement.{statement}
 use Rattle.leaves.proofs.leaf.leaf_in.Tie as tie
 use Rattle.leaves.proofs.leaf.leaf_in.Reads as reads
 use Rattle.leaves.proofs.leaf.leaf_in.Lts as lts
-use Rattle.leaves.proofs.leaf.enum_leaf.Reads as enum-leaf-reads
-use Rattle.leaves.proofs.leaf.kind_of.Reads as kind-of-reads
-use Rattle.leaves.proofs.leaf.number_leaf.Reads as number-leaf-reads
-use Rattle.leaves.proofs.leaf.pointer_leaf.Reads as pointer-leaf-reads
-use Rattle.leaves.proofs.leaf.text_leaf.Reads as text-leaf-reads
+use Rattle.leaves.proofs.leaf.leaf_by.Reads as leaf-by-reads
 use Rattle.type_category.proofs.type_category.AdsTypeCategory.determine.Reads as determine-reads
-
-ruleset exits = (leaf-number, leaf-text, leaf-enum, leaf-pointer, leaf-unit, leaf-none, refl)
 
 determine-requires : tie.Need-determine-requires
 determine-requires c κs = search needs
 
-kind-of-requires : tie.Need-kind-of-requires
-kind-of-requires c κs = search needs
-
-enum-told : tie.Need-enum-told
-enum-told c = search needs
-
-number-leaf-requires : tie.Need-number-leaf-requires
-number-leaf-requires c κs = search needs
-
-enum-told-2 : tie.Need-enum-told-2
-enum-told-2 c = search needs
-
-text-leaf-requires : tie.Need-text-leaf-requires
-text-leaf-requires c κs = search needs
-
-enum-told-3 : tie.Need-enum-told-3
-enum-told-3 c = search needs
-
-enum-leaf-requires : tie.Need-enum-leaf-requires
-enum-leaf-requires c κs = search needs
-
-enum-told-4 : tie.Need-enum-told-4
-enum-told-4 c = search needs
-
-pointer-leaf-requires : tie.Need-pointer-leaf-requires
-pointer-leaf-requires c κs = search needs
-
-enum-told-5 : tie.Need-enum-told-5
-enum-told-5 c = search needs
-
-enum-told-6 : tie.Need-enum-told-6
-enum-told-6 c = search needs
+leaf-by-requires : tie.Need-leaf-by-requires
+leaf-by-requires c κs = search needs
 
 returns : tie.Need-returns
-returns c = search exits
-
-returns-2 : tie.Need-returns-2
-returns-2 c = search exits
-
-returns-3 : tie.Need-returns-3
-returns-3 c = search exits
-
-returns-4 : tie.Need-returns-4
-returns-4 c = search exits
-
-returns-5 : tie.Need-returns-5
-returns-5 c = search exits
-
-returns-6 : tie.Need-returns-6
-returns-6 c = search exits
+returns c = search leaf-own
 
 pub leaf-in-spec : {M : Type 1} → statement M
-leaf-in-spec =
-    tie.close
-    (tie.spec
-    determine-requires
-    kind-of-requires
-    enum-told
-    number-leaf-requires
-    enum-told-2
-    text-leaf-requires
-    enum-told-3
-    enum-leaf-requires
-    enum-told-4
-    pointer-leaf-requires
-    enum-told-5
-    enum-told-6
-    returns
-    returns-2
-    returns-3
-    returns-4
-    returns-5
-    returns-6)
+leaf-in-spec = tie.close (tie.spec determine-requires leaf-by-requires returns)

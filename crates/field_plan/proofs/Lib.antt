@@ -1,0 +1,2 @@
+-- Laws that the functions' proofs cite; those on plans are for the crates above too.
+pub mod Plans

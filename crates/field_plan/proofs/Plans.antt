@@ -1,0 +1,313 @@
+-- Laws of plans: a category and its place, one field, its entry, the loop over the fields. This module alone unfolds `categoryAt`. Assumes nothing.
+use mathlib.Core.Path.{_≡_, refl, sym, ap, _∙_, subst}
+use mathlib.Core.Bool.{Bool, true, false}
+use mathlib.Core.List.{List, []}
+use Prim.Native.Nat.{ℕ, suc, _+_, _*_, _-_, _/_, _%_, _≤_, _<_}
+use native.Mathlib.Omega.{arith}
+use lib.ListN.{length, getD, set, List·getD-eq-default}
+use lib.Seq.{set-out, getD-set-same, getD-set-other}
+use lib.Dec.{eqb, leb}
+use borrow.Author.Tests.{eqb-true, eqb-false, ne-eqb, leb-true, leb-false}
+use mir.Syntax.{w32}
+use mir.Val.{Fits}
+use Rattle.typebook.specs.Book.{isType, offsetOf, sizeOf, fieldsOf, typeNameOf}
+use Rattle.typebook.specs.Find.{find, FoundBy}
+use Rattle.typebook.specs.declared.type_provider.Found.{Found}
+use Rattle.typebook.specs.declared.type_provider.Found.the-variants.{At, Nothing}
+use Rattle.type_category.specs.declared.type_category.AdsTypeCategory.{AdsTypeCategory}
+use Rattle.type_category.specs.declared.type_category.AdsTypeCategory.the-variants.{None, Primitive, Alias, Enum, Array, Struct, FunctionBlock, Program, Function, SubRange, String, Bitset, Pointer, Union, Reference, Interface}
+use Rattle.type_category.specs.Category.{categoryOf}
+use Rattle.type_category.specs.Validate.{placeOf}
+use Rattle.book_check.specs.Check.{ValidBook}
+use Rattle.book_check.proofs.Valid.{valid-size, valid-type}
+use Rattle.resolvers.specs.Resolve.{goesOn, isFollowed, resolveAlias, fieldOf, fieldFound, resolveField, fieldsFrom, fieldsCheck, ResolvedIs}
+use Rattle.resolvers.specs.declared.Resolved.{Resolved}
+use Rattle.resolvers.specs.declared.Resolved.the-variants as resolved
+use Rattle.resolvers.specs.declared.ResolvedField.{ResolvedField}
+use Rattle.resolvers.specs.declared.FieldAnswer.the-variants as answer
+use Rattle.resolvers.specs.declared.FieldsCheck.the-variants as check
+use Rattle.resolvers.proofs.Chains.{found-is, found-type, follow-base}
+use Rattle.resolvers.proofs.Fields.{field-at, field-nothing, fields-more, fields-lacks, fields-endless, fields-none}
+use Rattle.field_plan.specs.declared.PlannedField.{PlannedField}
+use Rattle.field_plan.specs.declared.Planned.{Planned}
+use Rattle.field_plan.specs.declared.Planned.the-variants as planned
+use Rattle.field_plan.specs.Plan.{categoryAt, entryOf, FieldIs, PlannedIs, Known, PlanEntry, Entries, Ready, PlanIs}
+
+-- ---- categories and places
+
+pub place-back : (c : AdsTypeCategory) → categoryAt (placeOf c) ≡ c
+unfolding categoryAt
+place-back None = refl
+place-back Primitive = refl
+place-back Alias = refl
+place-back Enum = refl
+place-back Array = refl
+place-back Struct = refl
+place-back FunctionBlock = refl
+place-back Program = refl
+place-back Function = refl
+place-back SubRange = refl
+place-back String = refl
+place-back Bitset = refl
+place-back Pointer = refl
+place-back Union = refl
+place-back Reference = refl
+place-back Interface = refl
+
+pub place-small : (c : AdsTypeCategory) → placeOf c < 16
+place-small None = omega arith
+place-small Primitive = omega arith
+place-small Alias = omega arith
+place-small Enum = omega arith
+place-small Array = omega arith
+place-small Struct = omega arith
+place-small FunctionBlock = omega arith
+place-small Program = omega arith
+place-small Function = omega arith
+place-small SubRange = omega arith
+place-small String = omega arith
+place-small Bitset = omega arith
+place-small Pointer = omega arith
+place-small Union = omega arith
+place-small Reference = omega arith
+place-small Interface = omega arith
+
+pub placed : (c : AdsTypeCategory) (n : ℕ) → n ≡ placeOf c → c ≡ categoryAt n
+placed c n e = sym (place-back c) ∙ ap categoryAt (sym e)
+
+pub place-last : (n : ℕ) → (n ≡ 0 → ⊥) → (n ≡ 1 → ⊥) → (n ≡ 2 → ⊥) → (n ≡ 3 → ⊥) → (n ≡ 4 → ⊥) → (n ≡ 5 → ⊥) → (n ≡ 6 → ⊥) → (n ≡ 7 → ⊥) → (n ≡ 8 → ⊥) → (n ≡ 9 → ⊥) → (n ≡ 10 → ⊥) → (n ≡ 11 → ⊥) → (n ≡ 12 → ⊥) → (n ≡ 13 → ⊥) → (n ≡ 14 → ⊥)
+    → Interface ≡ categoryAt n
+unfolding categoryAt
+place-last n h0 h1 h2 h3 h4 h5 h6 h7 h8 h9 h10 h11 h12 h13 h14 =
+    rw (ne-eqb n 0 h0, ne-eqb n 1 h1, ne-eqb n 2 h2, ne-eqb n 3 h3, ne-eqb n 4 h4, ne-eqb n 5 h5, ne-eqb n 6 h6, ne-eqb n 7 h7, ne-eqb n 8 h8, ne-eqb n 9 h9, ne-eqb n 10 h10, ne-eqb n 11 h11, ne-eqb n 12 h12, ne-eqb n 13 h13, ne-eqb n 14 h14)
+
+-- ---- one field
+
+-- a resolved field's offset and size are its block's
+pub record Parts (book : List ℕ) (f : ℕ) (x : ResolvedField) : Type 0 where
+  pub offset-is : x .offset ≡ offsetOf book f
+  pub size-is : x .size ≡ sizeOf book f
+
+module _ (book : List ℕ) (width f : ℕ) (x : ResolvedField) where
+  parts-of : (n : ℕ) (r : Resolved) → fieldOf book f n r ≡ answer.Field x → Parts book f x
+  unfolding fieldOf
+  parts-of n (resolved.Base u) e =
+      let a : _≡_ {A = ResolvedField} (record { offset = offsetOf book f; size = sizeOf book f; named = n; resolved = u; field = f }) x = cc in
+      record { offset-is = sym (ap (λ (z : ResolvedField). z .offset) a); size-is = sym (ap (λ (z : ResolvedField). z .size) a) }
+  parts-of n (resolved.Lacks c) e = absurd (let z : _≡_ {A = ℕ} 0 1 = cc in omega arith)
+  parts-of n resolved.Endless e = absurd (let z : _≡_ {A = ℕ} 0 1 = cc in omega arith)
+
+  parts-found : (u : Found) → fieldFound book width f u ≡ answer.Field x → Parts book f x
+  unfolding fieldFound
+  parts-found (At n) e = parts-of n (resolveAlias book width n) e
+  parts-found Nothing e = absurd (let z : _≡_ {A = ℕ} 0 1 = cc in omega arith)
+
+  pub parts : resolveField book width f ≡ answer.Field x → Parts book f x
+  unfolding resolveField
+  parts e = parts-found (find book (typeNameOf book f)) e
+
+lacks-only : {book : List ℕ} {width f : ℕ} (b : ℕ) → resolveField book width f ≡ answer.Lacks b → PlannedIs book width f (planned.Lacks b)
+lacks-only b h = record {
+  field = λ y g. absurd (let z : _≡_ {A = ℕ} 0 1 = cc in omega arith);
+  lacks = λ d g. let z : b ≡ d = cc in h ∙ ap answer.Lacks z;
+  endless = λ g. absurd (let z : _≡_ {A = ℕ} 0 1 = cc in omega arith);
+}
+
+field-only : {book : List ℕ} {width f : ℕ} (x : PlannedField) → FieldIs book width f x → PlannedIs book width f (planned.Field x)
+field-only {book} {width} {f} x h = record {
+  field = λ y g. let a : _≡_ {A = PlannedField} x y = cc in subst (FieldIs book width f) a h;
+  lacks = λ b g. absurd (let z : _≡_ {A = ℕ} 0 1 = cc in omega arith);
+  endless = λ g. absurd (let z : _≡_ {A = ℕ} 0 1 = cc in omega arith);
+}
+
+-- by what the named type resolves to
+module _ (book : List ℕ) (width f n : ℕ) (w : find book (typeNameOf book f) ≡ At n) (r : Resolved) (q : ResolvedIs book (resolveAlias book width n) r) where
+  at : resolveField book width f ≡ fieldOf book f n r
+  at = field-at book width f n w ∙ ap (fieldOf book f n) (sym (q .is))
+
+  pub alias-base : (u o s : ℕ) (c : AdsTypeCategory) → r ≡ resolved.Base u → c ≡ categoryOf book width u → o ≡ offsetOf book f → s ≡ sizeOf book f
+      → PlannedIs book width f (planned.Field (record { offset = o; size = s; resolved = u; category = c }))
+  unfolding fieldOf
+  alias-base u o s c e k eo es =
+      field-only _
+      (record {
+        whole = record { offset = offsetOf book f; size = sizeOf book f; named = n; resolved = u; field = f };
+        found = at ∙ ap (fieldOf book f n) e;
+        offset-is = sym eo;
+        size-is = sym es;
+        resolved-is = refl;
+        typed = q .typed u e;
+        category-is = k;
+      })
+
+  pub alias-lacks : (b : ℕ) → r ≡ resolved.Lacks b → PlannedIs book width f (planned.Lacks b)
+  unfolding fieldOf
+  alias-lacks b e = lacks-only b (at ∙ ap (fieldOf book f n) e)
+
+  pub alias-endless : r ≡ resolved.Endless → PlannedIs book width f planned.Endless
+  unfolding fieldOf
+  alias-endless e =
+      let z : resolveField book width f ≡ answer.Endless = at ∙ ap (fieldOf book f n) e in
+      record {
+        field = λ y g. absurd (let z : _≡_ {A = ℕ} 0 1 = cc in omega arith);
+        lacks = λ d g. absurd (let z : _≡_ {A = ℕ} 0 1 = cc in omega arith);
+        endless = λ g. z;
+      }
+
+-- the named type is a type block
+pub alias-typed : (book : List ℕ) (f n : ℕ) → find book (typeNameOf book f) ≡ At n → isType book n ≡ true
+alias-typed book f n w = found-type book (typeNameOf book f) n w
+
+-- by what the field's type name finds
+module _ (book : List ℕ) (width f : ℕ) (v : ValidBook book) (name : List ℕ) (en : name ≡ typeNameOf book f) (x : Found) (ex : FoundBy book name x) where
+  pub plan-nothing : x ≡ Nothing → PlannedIs book width f (planned.Lacks f)
+  plan-nothing h = lacks-only f (field-nothing book width f (sym (found-is book v f name en x ex) ∙ h))
+
+  module _ (n : ℕ) (h : x ≡ At n) where
+    pub plan-found : find book (typeNameOf book f) ≡ At n
+    plan-found = sym (found-is book v f name en x ex) ∙ h
+
+    -- a type that is no alias is what it resolves to
+    pub plan-plain : (o s : ℕ) (c : AdsTypeCategory) (b : Bool) → c ≡ categoryOf book width n → b ≡ goesOn false c → b ≡ false → o ≡ offsetOf book f → s ≡ sizeOf book f
+        → PlannedIs book width f (planned.Field (record { offset = o; size = s; resolved = n; category = c }))
+    unfolding isFollowed
+    plan-plain o s c b k eb z eo es =
+        let y : isFollowed false book width n ≡ false = rw (← k) (sym eb ∙ z) in
+        let t : isType book n ≡ true = alias-typed book f n plan-found in
+        alias-base book width f n plan-found (resolved.Base n)
+        (record {
+          is = sym (follow-base (isFollowed false book width) book 31 n y);
+          typed = λ u e. let a : n ≡ u = cc in rw (← a) t;
+        })
+        n o s c refl k eo es
+
+-- a type's block number is small, so an entry fits
+pub typed-small : (book : List ℕ) (width f : ℕ) (a : Planned) (x : PlannedField) → ValidBook book → PlannedIs book width f a → a ≡ planned.Field x → x .resolved < 65536
+typed-small book width f a x v q e = omega (arith, valid-type book v (x .resolved) (q .field x e .typed) .room, valid-size book v .few)
+
+-- ---- one entry
+
+-- what an entry tells
+module _ (book : List ℕ) (width f e : ℕ) (k : PlanEntry book width f e) (n : e ≡ 0 → ⊥) where
+  w : Known book width f e
+  w = k .known n
+
+  pub entry-kept : (o s : ℕ) (c : AdsTypeCategory) → o ≡ offsetOf book f → s ≡ sizeOf book f → c ≡ categoryAt ((e - 1) % 16)
+      → PlannedIs book width f (planned.Field (record { offset = o; size = s; resolved = (e - 1) / 16; category = c }))
+  entry-kept o s c eo es ec =
+      let x : PlannedField = w .entry in
+      let p : e ≡ 1 + x .resolved * 16 + placeOf (x .category) = w .packed in
+      let l : placeOf (x .category) < 16 = place-small (x .category) in
+      let r : (e - 1) / 16 ≡ x .resolved = omega arith in
+      let m : (e - 1) % 16 ≡ placeOf (x .category) = omega arith in
+      let d : c ≡ x .category = ec ∙ ap categoryAt m ∙ place-back (x .category) in
+      let h : Parts book f (w .is .whole) = parts book width f (w .is .whole) (w .is .found) in
+      field-only _
+      (record {
+        whole = w .is .whole;
+        found = w .is .found;
+        offset-is = h .offset-is ∙ sym eo;
+        size-is = h .size-is ∙ sym es;
+        resolved-is = w .is .resolved-is ∙ sym r;
+        typed = rw r (w .is .typed);
+        category-is = d ∙ w .is .category-is ∙ ap (categoryOf book width) (sym r);
+      })
+
+pub entry-none : (book : List ℕ) (width f : ℕ) → PlanEntry book width f 0
+entry-none book width f = record { known = λ h. absurd (h refl) }
+
+-- ---- the entries of a plan
+
+pub entry-of : (book : List ℕ) (width t n i : ℕ) (plan : List ℕ) (e : ℕ) → Entries book width t plan → n ≡ fieldsOf book t → i < n → e ≡ getD plan i 0 → PlanEntry book width (t + 1 + i) e
+entry-of book width t n i plan e h z l q = subst (PlanEntry book width (t + 1 + i)) (sym q) (h .at i (omega arith))
+
+-- past its end a list has no entry, and keeps none
+pub entry-past : (plan : List ℕ) (i : ℕ) → length plan ≤ i → 0 ≡ getD plan i 0
+entry-past plan i h = sym (List·getD-eq-default plan 0 h)
+
+pub note-past : (plan : List ℕ) (i e : ℕ) → length plan ≤ i → plan ≡ set plan i e
+note-past plan i e h = sym (set-out plan i e h)
+
+pub note-here : (plan : List ℕ) (i r p : ℕ) (c : AdsTypeCategory) → p ≡ placeOf c → set plan i (1 + r * 16 + p) ≡ set plan i (1 + r * 16 + placeOf c)
+note-here plan i r p c e = rw e
+
+pub note-fits : (r p : ℕ) (c : AdsTypeCategory) → r < 65536 → p ≡ placeOf c → Fits w32 (1 + r * 16 + p)
+note-fits r p c l e = record { fits = omega (arith, place-small c) }
+
+-- the plan that has no entry
+pub ready-none : (book : List ℕ) (width t : ℕ) → Ready book width t []
+ready-none book width t = record { entries = record { at = λ i l. entry-none book width (t + 1 + i) }; fine = λ h. absurd (h refl) }
+
+-- ---- the loop of `plan_fields_in`
+
+-- before the i-th of n fields: the first refusal of all is that of the fields left, and the fields before have their entries
+pub record Planning (book : List ℕ) (width t n i : ℕ) (now : List ℕ) : Type 0 where
+  pub left : fieldsCheck book width t ≡ fieldsFrom book width (t + 1 + i) (n - i)
+  pub upto : (j : ℕ) → j < i → PlanEntry book width (t + 1 + j) (getD now j 0)
+
+-- one more entry, if there is room
+module _ (book : List ℕ) (width t i : ℕ) (plan : List ℕ) (h : (j : ℕ) → j < i → PlanEntry book width (t + 1 + j) (getD plan j 0)) (x : PlannedField) (q : FieldIs book width (t + 1 + i) x) where
+  more : (j : ℕ) → j < i + 1 → PlanEntry book width (t + 1 + j) (getD (set plan i (entryOf x)) j 0)
+  more j l = by (leb (length plan) i) refl (eqb j i) refl
+    where
+      by : (out : Bool) → leb (length plan) i ≡ out → (same : Bool) → eqb j i ≡ same → PlanEntry book width (t + 1 + j) (getD (set plan i (entryOf x)) j 0)
+      by true e true s =
+          let z : j ≡ i = eqb-true j i s in
+          let b : length plan ≤ j = rw z (leb-true (length plan) i e) in
+          rw (set-out plan i (entryOf x) (leb-true (length plan) i e), List·getD-eq-default plan 0 b) (entry-none book width (t + 1 + j))
+      by false e true s =
+          let z : j ≡ i = eqb-true j i s in
+          rw (z, getD-set-same plan i (entryOf x) 0 (leb-false (length plan) i e)) (record { known = λ n. record { entry = x; is = q; packed = refl } })
+      by out e false s =
+          let n : j ≡ i → ⊥ = eqb-false j i s in
+          rw (getD-set-other plan i j (entryOf x) 0 n) (h j (omega arith))
+
+module _ (book : List ℕ) (width t n : ℕ) where
+  pub planning-start : (plan : List ℕ) → n ≡ fieldsOf book t → Planning book width t n 0 plan
+  unfolding fieldsCheck
+  planning-start plan e =
+      let a : t + 1 + 0 ≡ t + 1 = omega arith in
+      let b : n - 0 ≡ fieldsOf book t = omega arith in
+      record { left = rw (a, b); upto = λ j l. absurd (omega arith) }
+
+  module _ (i : ℕ) (now : List ℕ) (p : Planning book width t n i now) where
+    pub planning-end : n ≡ fieldsOf book t → n ≤ i → PlanIs book width t check.Fine now
+    planning-end z h =
+        let k : n - i ≡ 0 = omega arith in
+        record {
+          is = sym (p .left ∙ ap (fieldsFrom book width (t + 1 + i)) k ∙ fields-none book width (t + 1 + i));
+          entries = λ e. record { at = λ j l. p .upto j (omega arith) };
+        }
+
+    module _ (l : i < n) (a : Planned) (q : PlannedIs book width (t + 1 + i) a) where
+      turn : fieldsCheck book width t ≡ fieldsFrom book width (t + 1 + i) (suc (n - (i + 1)))
+      turn = let k : n - i ≡ suc (n - (i + 1)) = omega arith in p .left ∙ ap (fieldsFrom book width (t + 1 + i)) k
+
+      pub planning-lacks : (b : ℕ) → a ≡ planned.Lacks b → PlanIs book width t (check.Lacks b) now
+      planning-lacks b e = record {
+        is = sym (turn ∙ fields-lacks book width (t + 1 + i) (n - (i + 1)) b (q .lacks b e));
+        entries = λ f. absurd (let z : _≡_ {A = ℕ} 0 1 = cc in omega arith);
+      }
+
+      pub planning-endless : a ≡ planned.Endless → PlanIs book width t check.Endless now
+      planning-endless e = record {
+        is = sym (turn ∙ fields-endless book width (t + 1 + i) (n - (i + 1)) (q .endless e));
+        entries = λ f. absurd (let z : _≡_ {A = ℕ} 0 1 = cc in omega arith);
+      }
+
+      pub planning-again : (x : PlannedField) (later : List ℕ) → a ≡ planned.Field x → later ≡ set now i (entryOf x) → Planning book width t n (i + 1) later
+      planning-again x later e s =
+          let f : FieldIs book width (t + 1 + i) x = q .field x e in
+          let z : t + 1 + (i + 1) ≡ t + 1 + i + 1 = omega arith in
+          record {
+            left = rw z (turn ∙ fields-more book width (t + 1 + i) (n - (i + 1)) (f .whole) (f .found));
+            upto = λ j d. rw s (more book width t i now (p .upto) x f j d);
+          }
+
+-- the number of a field's block fits
+module _ (book : List ℕ) (t n i : ℕ) (v : ValidBook book) (y : isType book t ≡ true) (e : n ≡ fieldsOf book t) (l : i < n) where
+  pub field-first : Fits w32 (t + 1)
+  field-first = record { fits = omega (arith, valid-type book v t y .room, valid-size book v .few) }
+
+  pub field-number : Fits w32 (t + 1 + i)
+  field-number = record { fits = omega (arith, valid-type book v t y .room, valid-size book v .few) }

@@ -1,0 +1,68 @@
+use Rattle.field_plan.proofs.Plans.{plan-nothing, plan-found, plan-plain}
+use borrow.Author.Needs.{needs}
+use Rattle.field_plan.proofs.plan_field.Statement.{statement}
+use Rattle.field_plan.proofs.plan_field.Tie as tie
+use Rattle.field_plan.proofs.plan_field.Reads as reads
+use Rattle.field_plan.proofs.plan_field.Lts as lts
+use Rattle.field_plan.proofs.is_alias.Reads as is-alias-reads
+use Rattle.field_plan.proofs.plan_alias.Reads as plan-alias-reads
+use Rattle.type_category.proofs.type_category.AdsTypeCategory.determine.Reads as determine-reads
+use Rattle.typebook.proofs.block.offset.Reads as offset-reads
+use Rattle.typebook.proofs.block.size.Reads as size-reads
+use Rattle.typebook.proofs.block.type_name.Reads as type-name-reads
+use Rattle.typebook.proofs.type_provider.find_by.Reads as find-by-reads
+
+ruleset exits = (plan-nothing, plan-plain)
+
+type-name-requires : tie.Need-type-name-requires
+type-name-requires c κs = search needs
+
+find-by-requires : tie.Need-find-by-requires
+find-by-requires c κs = search needs
+
+enum-known-found : tie.Need-enum-known-found
+enum-known-found c = search needs
+
+enum-told : tie.Need-enum-told
+enum-told c = search needs
+
+returns : tie.Need-returns
+returns c = search exits
+
+determine-requires : tie.Need-determine-requires
+determine-requires c κs = search needs
+
+is-alias-requires : tie.Need-is-alias-requires
+is-alias-requires c κs = search needs
+
+plan-alias-requires : tie.Need-plan-alias-requires
+plan-alias-requires c κs = (search needs, search plan-found)
+
+returns-2 : tie.Need-returns-2
+returns-2 c = search needs
+
+offset-requires : tie.Need-offset-requires
+offset-requires c κs = search needs
+
+size-requires : tie.Need-size-requires
+size-requires c κs = search needs
+
+returns-3 : tie.Need-returns-3
+returns-3 c = search exits
+
+pub plan-field-spec : {M : Type 1} → statement M
+plan-field-spec =
+    tie.close
+    (tie.spec
+    type-name-requires
+    find-by-requires
+    enum-known-found
+    enum-told
+    returns
+    determine-requires
+    is-alias-requires
+    plan-alias-requires
+    returns-2
+    offset-requires
+    size-requires
+    returns-3)

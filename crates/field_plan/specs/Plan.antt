@@ -1,0 +1,83 @@
+-- A plan: for each field of a type what resolving it came to, kept as one number. Assumes nothing.
+use mathlib.Core.Path.{_≡_}
+use mathlib.Core.Bool.{true, cond}
+use mathlib.Core.List.{List}
+use Prim.Native.Nat.{ℕ, _+_, _*_, _<_}
+use lib.ListN.{length, getD}
+use lib.Dec.{eqb}
+use Rattle.typebook.specs.Book.{isType, fieldsOf}
+use Rattle.type_category.specs.declared.type_category.AdsTypeCategory.{AdsTypeCategory}
+use Rattle.type_category.specs.declared.type_category.AdsTypeCategory.the-variants.{None, Primitive, Alias, Enum, Array, Struct, FunctionBlock, Program, Function, SubRange, String, Bitset, Pointer, Union, Reference, Interface}
+use Rattle.type_category.specs.Category.{categoryOf}
+use Rattle.type_category.specs.Validate.{placeOf}
+use Rattle.resolvers.specs.Resolve.{resolveField, fieldsCheck}
+use Rattle.resolvers.specs.declared.ResolvedField.{ResolvedField}
+use Rattle.resolvers.specs.declared.FieldAnswer.the-variants as answer
+use Rattle.resolvers.specs.declared.FieldsCheck.{FieldsCheck}
+use Rattle.resolvers.specs.declared.FieldsCheck.the-variants as check
+use Rattle.field_plan.specs.declared.PlannedField.{PlannedField}
+use Rattle.field_plan.specs.declared.Planned.{Planned}
+use Rattle.field_plan.specs.declared.Planned.the-variants as planned
+
+-- the category of a place
+unfoldable pub categoryAt : ℕ → AdsTypeCategory
+categoryAt n =
+    cond (eqb n 0) None
+    (cond (eqb n 1) Primitive
+    (cond (eqb n 2) Alias
+    (cond (eqb n 3) Enum
+    (cond (eqb n 4) Array
+    (cond (eqb n 5) Struct
+    (cond (eqb n 6) FunctionBlock
+    (cond (eqb n 7) Program
+    (cond (eqb n 8) Function
+    (cond (eqb n 9) SubRange
+    (cond (eqb n 10) String
+    (cond (eqb n 11) Bitset
+    (cond (eqb n 12) Pointer
+    (cond (eqb n 13) Union
+    (cond (eqb n 14) Reference Interface))))))))))))))
+
+-- a field's entry: 1, sixteen times the block of its resolved type, and the place of that type's category
+abbrev pub entryOf : PlannedField → ℕ
+entryOf x = 1 + x .resolved * 16 + placeOf (x .category)
+
+-- x is what field block f resolves to, with the category of its type
+pub record FieldIs (book : List ℕ) (width f : ℕ) (x : PlannedField) : Type 0 where
+  pub whole : ResolvedField
+  pub found : resolveField book width f ≡ answer.Field whole
+  pub offset-is : whole .offset ≡ x .offset
+  pub size-is : whole .size ≡ x .size
+  pub resolved-is : whole .resolved ≡ x .resolved
+  pub typed : isType book (x .resolved) ≡ true
+  pub category-is : x .category ≡ categoryOf book width (x .resolved)
+
+-- an answer is that of resolving field block f
+pub record PlannedIs (book : List ℕ) (width f : ℕ) (r : Planned) : Type 0 where
+  pub field : (x : PlannedField) → r ≡ planned.Field x → FieldIs book width f x
+  pub lacks : (b : ℕ) → r ≡ planned.Lacks b → resolveField book width f ≡ answer.Lacks b
+  pub endless : r ≡ planned.Endless → resolveField book width f ≡ answer.Endless
+
+-- an entry that is not 0 is the entry of what the field resolves to
+pub record Known (book : List ℕ) (width f e : ℕ) : Type 0 where
+  pub entry : PlannedField
+  pub is : FieldIs book width f entry
+  pub packed : e ≡ entryOf entry
+
+-- 0 says nothing of field block f; any other entry is its own
+pub record PlanEntry (book : List ℕ) (width f e : ℕ) : Type 0 where
+  pub known : (e ≡ 0 → ⊥) → Known book width f e
+
+-- each field of type block t has an entry that is 0 or its own; past the plan's end it is 0
+pub record Entries (book : List ℕ) (width t : ℕ) (plan : List ℕ) : Type 0 where
+  pub at : (i : ℕ) → i < fieldsOf book t → PlanEntry book width (t + 1 + i) (getD plan i 0)
+
+-- the plan of type block t is empty, or no field of t is refused
+pub record Ready (book : List ℕ) (width t : ℕ) (plan : List ℕ) : Type 0 where
+  pub entries : Entries book width t plan
+  pub fine : (length plan ≡ 0 → ⊥) → fieldsCheck book width t ≡ check.Fine
+
+-- the answer is the first refusal of the fields; without one the plan has their entries, whatever it held
+pub record PlanIs (book : List ℕ) (width t : ℕ) (r : FieldsCheck) (after : List ℕ) : Type 0 where
+  pub is : r ≡ fieldsCheck book width t
+  pub entries : r ≡ check.Fine → Entries book width t after

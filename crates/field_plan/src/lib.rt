@@ -1,0 +1,207 @@
+// The fields of a type, resolved once: a plan keeps one number for each field, the block of its resolved type and that type's
+// category, so that a type that is read many times is looked up once.
+ghost use mathlib.Core.Path.{_≡_};
+ghost use mathlib.Core.Bool.{true, false};
+ghost use Prim.Native.Nat.{_<_};
+ghost use lib.ListN.{getD, set};
+ghost use Rattle.typebook.specs.Book.{isType, typeNameOf};
+ghost use Rattle.typebook.specs.Find.{find};
+ghost use Rattle.type_category.specs.Validate.{placeOf};
+ghost use Rattle.book_check.specs.Check.{ValidBook};
+ghost use Rattle.resolvers.specs.Resolve.{goesOn};
+ghost use Rattle.field_plan.specs.Plan.{categoryAt, entryOf, PlanEntry, PlannedIs, PlanIs};
+use resolvers::FieldsCheck;
+use resolvers::Resolved;
+use type_category::type_category::AdsTypeCategory;
+use typebook::block;
+use typebook::type_provider;
+use typebook::type_provider::Found;
+
+// A field whose type is resolved: offset and size as its block says, its type's block with aliases resolved, that type's category.
+pub struct PlannedField {
+    pub offset: u32,
+    pub size: u32,
+    pub resolved: u32,
+    pub category: AdsTypeCategory,
+}
+
+pub enum Planned {
+    Field(PlannedField),
+    // The block whose type name is not in the book.
+    Lacks(u32),
+    // More look-ups than allowed.
+    Endless,
+}
+
+// The place of a category among the declared ones.
+fn place(category: AdsTypeCategory) -> u32
+    ensures { λ r. ⌜ r ≡ placeOf category ⌝ }
+{
+    match category {
+        AdsTypeCategory::None => 0,
+        AdsTypeCategory::Primitive => 1,
+        AdsTypeCategory::Alias => 2,
+        AdsTypeCategory::Enum => 3,
+        AdsTypeCategory::Array => 4,
+        AdsTypeCategory::Struct => 5,
+        AdsTypeCategory::FunctionBlock => 6,
+        AdsTypeCategory::Program => 7,
+        AdsTypeCategory::Function => 8,
+        AdsTypeCategory::SubRange => 9,
+        AdsTypeCategory::String => 10,
+        AdsTypeCategory::Bitset => 11,
+        AdsTypeCategory::Pointer => 12,
+        AdsTypeCategory::Union => 13,
+        AdsTypeCategory::Reference => 14,
+        AdsTypeCategory::Interface => 15,
+    }
+}
+
+// The category that is declared at a place.
+fn category_at(n: u32) -> AdsTypeCategory
+    ensures { λ r. ⌜ r ≡ categoryAt n ⌝ }
+{
+    match n {
+        0 => AdsTypeCategory::None,
+        1 => AdsTypeCategory::Primitive,
+        2 => AdsTypeCategory::Alias,
+        3 => AdsTypeCategory::Enum,
+        4 => AdsTypeCategory::Array,
+        5 => AdsTypeCategory::Struct,
+        6 => AdsTypeCategory::FunctionBlock,
+        7 => AdsTypeCategory::Program,
+        8 => AdsTypeCategory::Function,
+        9 => AdsTypeCategory::SubRange,
+        10 => AdsTypeCategory::String,
+        11 => AdsTypeCategory::Bitset,
+        12 => AdsTypeCategory::Pointer,
+        13 => AdsTypeCategory::Union,
+        14 => AdsTypeCategory::Reference,
+        _ => AdsTypeCategory::Interface,
+    }
+}
+
+// Whether aliases are to be followed from a type of that category.
+fn is_alias(category: AdsTypeCategory) -> bool
+    ensures { λ r. ⌜ r ≡ goesOn false category ⌝ }
+{
+    match category {
+        AdsTypeCategory::Alias => true,
+        AdsTypeCategory::None => false,
+        AdsTypeCategory::Primitive => false,
+        AdsTypeCategory::Enum => false,
+        AdsTypeCategory::Array => false,
+        AdsTypeCategory::Struct => false,
+        AdsTypeCategory::FunctionBlock => false,
+        AdsTypeCategory::Program => false,
+        AdsTypeCategory::Function => false,
+        AdsTypeCategory::SubRange => false,
+        AdsTypeCategory::String => false,
+        AdsTypeCategory::Bitset => false,
+        AdsTypeCategory::Pointer => false,
+        AdsTypeCategory::Union => false,
+        AdsTypeCategory::Reference => false,
+        AdsTypeCategory::Interface => false,
+    }
+}
+
+// Field block f, whose type name finds the alias at block `named`.
+fn plan_alias(book: &[u8], index: &[u32], width: u8, f: u32, named: u32) -> Planned
+    requires { ⌜ ValidBook (now book) × (find (now book) (typeNameOf (now book) f) ≡ Found.At named) ⌝ }
+    ensures { λ r. ⌜ PlannedIs (now (book .entry)) width f r ⌝ }
+{
+    let answer = resolvers::resolve_alias_in(book, index, width, named);
+    match answer {
+        Resolved::Base(resolved) => Planned::Field(PlannedField {
+            offset: block::offset(book, f),
+            size: block::size(book, f),
+            resolved,
+            category: AdsTypeCategory::determine(book, width, resolved),
+        }),
+        Resolved::Lacks(b) => Planned::Lacks(b),
+        Resolved::Endless => Planned::Endless,
+    }
+}
+
+// Resolves the type of field block f, and says its category. Most types are no alias: their category is determined once.
+fn plan_field(book: &[u8], index: &[u32], width: u8, f: u32) -> Planned
+    requires { ⌜ ValidBook (now book) ⌝ }
+    ensures { λ r. ⌜ PlannedIs (now (book .entry)) width f r ⌝ }
+{
+    let found = type_provider::find_by(book, index, block::type_name(book, f));
+    let Found::At(named) = found else {
+        return Planned::Lacks(f);
+    };
+    let category = AdsTypeCategory::determine(book, width, named);
+    if is_alias(category) {
+        return plan_alias(book, index, width, f, named);
+    }
+    Planned::Field(PlannedField {
+        offset: block::offset(book, f),
+        size: block::size(book, f),
+        resolved: named,
+        category,
+    })
+}
+
+// Field block f, by its entry of a plan; without an entry (0) it is resolved here.
+pub fn planned_field(book: &[u8], index: &[u32], width: u8, f: u32, entry: u32) -> Planned
+    requires { ⌜ ValidBook (now book) × PlanEntry (now book) width f entry ⌝ }
+    ensures { λ r. ⌜ PlannedIs (now (book .entry)) width f r ⌝ }
+{
+    if entry == 0 {
+        return plan_field(book, index, width, f);
+    }
+    Planned::Field(PlannedField {
+        offset: block::offset(book, f),
+        size: block::size(book, f),
+        resolved: (entry - 1) / 16,
+        category: category_at((entry - 1) % 16),
+    })
+}
+
+// A field's entry. Past the plan's end there is none.
+pub fn entry_at(plan: &[u32], i: u32) -> u32
+    ensures { λ r. ⌜ r ≡ getD (now (plan .entry)) i 0 ⌝ }
+{
+    if (i as usize) < plan.len() {
+        return plan[i as usize];
+    }
+    0
+}
+
+// Stores the i-th field's entry, if the plan is long enough.
+fn note(plan: &mut [u32], i: u32, field: PlannedField)
+    requires { ⌜ field .resolved < 65536 ⌝ }
+    ensures { λ _. ⌜ now (plan .exit) ≡ set (now (plan .entry)) i (entryOf field) ⌝ }
+{
+    let category = field.category;
+    if (i as usize) < plan.len() {
+        plan[i as usize] = 1 + field.resolved * 16 + place(category);
+    }
+}
+
+// Resolves all fields of type block t in order, up to the first that is refused, and stores their entries.
+pub fn plan_fields_in(
+    book: &[u8],
+    index: &[u32],
+    width: u8,
+    t: u32,
+    plan: &mut [u32],
+) -> FieldsCheck
+    requires { ⌜ ValidBook (now book) × (isType (now book) t ≡ true) ⌝ }
+    ensures { λ r. ⌜ PlanIs (now (book .entry)) width t r (now (plan .exit)) ⌝ }
+{
+    let n = block::fields(book, t);
+    let mut i: u32 = 0;
+    while i < n {
+        let found = plan_field(book, index, width, t + 1 + i);
+        match found {
+            Planned::Field(x) => note(plan, i, x),
+            Planned::Lacks(b) => return FieldsCheck::Lacks(b),
+            Planned::Endless => return FieldsCheck::Endless,
+        }
+        i += 1;
+    }
+    FieldsCheck::Fine
+}

@@ -1,0 +1,3 @@
+use Rattle.field_plan.proofs.Plans.{placed, place-last}
+returns-16 => search place-last
+returns.* => search placed

@@ -1,0 +1,2 @@
+use Rattle.field_plan.proofs.Plans.{entry-kept}
+returns-2 => search entry-kept

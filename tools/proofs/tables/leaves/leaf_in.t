@@ -1,0 +1,2 @@
+use Rattle.leaves.proofs.Leaves.{leaf-own}
+returns => search leaf-own
