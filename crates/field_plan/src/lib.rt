@@ -1,14 +1,13 @@
 // The fields of a type, resolved once: a plan keeps one number for each field, the block of its resolved type and that type's
 // category, so that a type that is read many times is looked up once.
 ghost use mathlib.Core.Path.{_≡_};
-ghost use mathlib.Core.Bool.{true, false};
+ghost use mathlib.Core.Bool.{true};
 ghost use Prim.Native.Nat.{_<_};
 ghost use lib.ListN.{getD, set};
 ghost use Rattle.typebook.specs.Book.{isType, typeNameOf};
 ghost use Rattle.typebook.specs.Find.{find};
 ghost use Rattle.type_category.specs.Validate.{placeOf};
 ghost use Rattle.book_check.specs.Check.{ValidBook};
-ghost use Rattle.resolvers.specs.Resolve.{goesOn};
 ghost use Rattle.field_plan.specs.Plan.{categoryAt, entryOf, PlanEntry, PlannedIs, PlanIs};
 use resolvers::FieldsCheck;
 use resolvers::Resolved;
@@ -81,30 +80,6 @@ fn category_at(n: u32) -> AdsTypeCategory
     }
 }
 
-// Whether aliases are to be followed from a type of that category.
-fn is_alias(category: AdsTypeCategory) -> bool
-    ensures { λ r. ⌜ r ≡ goesOn false category ⌝ }
-{
-    match category {
-        AdsTypeCategory::Alias => true,
-        AdsTypeCategory::None => false,
-        AdsTypeCategory::Primitive => false,
-        AdsTypeCategory::Enum => false,
-        AdsTypeCategory::Array => false,
-        AdsTypeCategory::Struct => false,
-        AdsTypeCategory::FunctionBlock => false,
-        AdsTypeCategory::Program => false,
-        AdsTypeCategory::Function => false,
-        AdsTypeCategory::SubRange => false,
-        AdsTypeCategory::String => false,
-        AdsTypeCategory::Bitset => false,
-        AdsTypeCategory::Pointer => false,
-        AdsTypeCategory::Union => false,
-        AdsTypeCategory::Reference => false,
-        AdsTypeCategory::Interface => false,
-    }
-}
-
 // Field block f, whose type name finds the alias at block `named`.
 fn plan_alias(book: &[u8], index: &[u32], width: u8, f: u32, named: u32) -> Planned
     requires { ⌜ ValidBook (now book) × (find (now book) (typeNameOf (now book) f) ≡ Found.At named) ⌝ }
@@ -133,7 +108,7 @@ fn plan_field(book: &[u8], index: &[u32], width: u8, f: u32) -> Planned
         return Planned::Lacks(f);
     };
     let category = AdsTypeCategory::determine(book, width, named);
-    if is_alias(category) {
+    if resolvers::goes_on(category, false) {
         return plan_alias(book, index, width, f, named);
     }
     Planned::Field(PlannedField {

@@ -73,8 +73,8 @@ pub enum FieldsAnswer {
 
 // ---- chains
 
-// Whether a chain goes on from a type of that category.
-fn goes_on(category: AdsTypeCategory, references: bool) -> bool
+// Whether a chain goes on from a type of that category: at aliases, and at references where they are followed.
+pub fn goes_on(category: AdsTypeCategory, references: bool) -> bool
     ensures { λ r. ⌜ r ≡ goesOn references category ⌝ }
 {
     match category {

@@ -2,12 +2,11 @@
 // written, and which types the book lacks. The functions whose names end in `_in` take a book that was checked once; the others
 // check it.
 ghost use mathlib.Core.Path.{_≡_};
-ghost use mathlib.Core.Bool.{true, false, _&&_};
+ghost use mathlib.Core.Bool.{true, _&&_};
 ghost use Prim.Native.Nat.{_≤_, _<_, _+_};
 ghost use lib.ListN.{length, take as first, replicate};
 ghost use Rattle.typebook.specs.Book.{isType};
 ghost use Rattle.book_check.specs.Check.{ValidBook};
-ghost use Rattle.resolvers.specs.Resolve.{goesOn};
 ghost use Rattle.walks.specs.Walk.{partsKind};
 ghost use Rattle.walks.specs.Reads.{keepsState};
 ghost use Rattle.walks.specs.State.{markedIn, isPart, namesIt, hasRef, Took, Marked, Pushed, Grown, Settles, Stepped, IsDue, Applied, Decided, Started};
@@ -205,29 +204,6 @@ fn expand(
     push(book, scratch, depth, u, category)
 }
 
-fn is_alias(category: AdsTypeCategory) -> bool
-    ensures { λ r. ⌜ r ≡ goesOn false category ⌝ }
-{
-    match category {
-        AdsTypeCategory::Alias => true,
-        AdsTypeCategory::None => false,
-        AdsTypeCategory::Primitive => false,
-        AdsTypeCategory::Enum => false,
-        AdsTypeCategory::Array => false,
-        AdsTypeCategory::Struct => false,
-        AdsTypeCategory::FunctionBlock => false,
-        AdsTypeCategory::Program => false,
-        AdsTypeCategory::Function => false,
-        AdsTypeCategory::SubRange => false,
-        AdsTypeCategory::String => false,
-        AdsTypeCategory::Bitset => false,
-        AdsTypeCategory::Pointer => false,
-        AdsTypeCategory::Union => false,
-        AdsTypeCategory::Reference => false,
-        AdsTypeCategory::Interface => false,
-    }
-}
-
 // The event of the new name of alias t.
 fn settle_alias(
     book: &[u8],
@@ -263,7 +239,7 @@ fn settle(book: &[u8], index: &[u32], width: u8, scratch: &mut [u32], depth: usi
     ensures { λ r. ⌜ Settles (now (book .entry)) width (now (scratch .entry)) depth t r (now (scratch .exit)) ⌝ }
 {
     let category = AdsTypeCategory::determine(book, width, t);
-    if is_alias(category) {
+    if resolvers::goes_on(category, false) {
         return settle_alias(book, index, width, scratch, depth, t);
     }
     Event::New(t, expand(book, scratch, depth, t, t, category), category)

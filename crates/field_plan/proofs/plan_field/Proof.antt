@@ -4,7 +4,6 @@ use Rattle.field_plan.proofs.plan_field.Statement.{statement}
 use Rattle.field_plan.proofs.plan_field.Tie as tie
 use Rattle.field_plan.proofs.plan_field.Reads as reads
 use Rattle.field_plan.proofs.plan_field.Lts as lts
-use Rattle.field_plan.proofs.is_alias.Reads as is-alias-reads
 use Rattle.field_plan.proofs.plan_alias.Reads as plan-alias-reads
 use Rattle.type_category.proofs.type_category.AdsTypeCategory.determine.Reads as determine-reads
 use Rattle.typebook.proofs.block.offset.Reads as offset-reads
@@ -32,8 +31,8 @@ returns c = search exits
 determine-requires : tie.Need-determine-requires
 determine-requires c κs = search needs
 
-is-alias-requires : tie.Need-is-alias-requires
-is-alias-requires c κs = search needs
+goes-on-requires : tie.Need-goes-on-requires
+goes-on-requires c κs = search needs
 
 plan-alias-requires : tie.Need-plan-alias-requires
 plan-alias-requires c κs = (search needs, search plan-found)
@@ -60,7 +59,7 @@ plan-field-spec =
     enum-told
     returns
     determine-requires
-    is-alias-requires
+    goes-on-requires
     plan-alias-requires
     returns-2
     offset-requires

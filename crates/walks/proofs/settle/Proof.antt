@@ -7,8 +7,8 @@ use Rattle.walks.proofs.settle.Tie as tie
 determine-requires : tie.Need-determine-requires
 determine-requires c κs = search needs
 
-is-alias-requires : tie.Need-is-alias-requires
-is-alias-requires c κs = search needs
+goes-on-requires : tie.Need-goes-on-requires
+goes-on-requires c κs = search needs
 
 settle-alias-requires : tie.Need-settle-alias-requires
 settle-alias-requires c κs = search needs
@@ -33,7 +33,7 @@ settle-spec =
     tie.close
     (tie.spec
     determine-requires
-    is-alias-requires
+    goes-on-requires
     settle-alias-requires
     same-length
     returns
