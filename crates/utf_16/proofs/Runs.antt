@@ -68,14 +68,14 @@ full-at text out at t a e q =
     let h = leb-false (length text) (length out - at) (sym e ∙ q) in
     wrote-full text out at (omega arith) (omega arith)
 
--- the whole room, as a length that was asked for
-module _ (text out : List ℕ) (r : Room) (e : r ≡ roomFor (length text) (length out)) where
-  pub fits-all : (m : ℕ) → r ≡ Fits m → length text ≤ length out
-  fits-all m q = told-fits (length text) (length out) m r e q
+-- the whole buffer as the room
+module _ (text out : List ℕ) (t : Bool) (e : t ≡ leb (length text) (length out)) where
+  pub fits-all : t ≡ true → length text ≤ length out
+  fits-all q = leb-true (length text) (length out) (sym e ∙ q)
 
-  pub full-all : r ≡ Over → Wrote text out 0 Full out
+  pub full-all : t ≡ false → Wrote text out 0 Full out
   full-all q =
-      let h = told-over (length text) (length out) r e q in
+      let h = leb-false (length text) (length out) (sym e ∙ q) in
       wrote-full text out 0 (omega arith) (omega arith)
 
 -- ---- a text that is read from bytes

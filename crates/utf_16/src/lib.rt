@@ -180,7 +180,7 @@ pub fn decode(bytes: &[u8], out: &mut [u8], at: usize) -> Put
 }
 
 // The scalar value at a place of a UTF-8 text; U+FFFD for what is ill-formed.
-fn scalar_8(text: &[u8], at: usize) -> Scalar
+fn long_scalar_8(text: &[u8], at: usize) -> Scalar
     requires { ⌜ at < length (now text) ⌝ }
     ensures { λ r. ⌜ ScalarAt scalars (now (text .entry)) at (r .code) (r .next) ⌝ }
 {
@@ -195,6 +195,21 @@ fn scalar_8(text: &[u8], at: usize) -> Scalar
             next: at,
         },
     }
+}
+
+// The same. ASCII is told first, since most text is ASCII.
+fn scalar_8(text: &[u8], at: usize) -> Scalar
+    requires { ⌜ at < length (now text) ⌝ }
+    ensures { λ r. ⌜ ScalarAt scalars (now (text .entry)) at (r .code) (r .next) ⌝ }
+{
+    let first = text[at];
+    if first < 0x80 {
+        return Scalar {
+            code: first as u32,
+            next: at + 1,
+        };
+    }
+    long_scalar_8(text, at)
 }
 
 // How many bytes a scalar value takes in UTF-16.
@@ -286,12 +301,25 @@ fn write_16(text: &[u8], out: &mut [u8]) -> usize
     to
 }
 
+// Whether the text takes at most `room` bytes in UTF-16. No byte gives more than two, so a short text is not measured.
+fn encoded_fits_in(text: &[u8], room: usize) -> bool
+    ensures { λ r. ⌜ r ≡ leb (length (encodeText (now (text .entry)))) room ⌝ }
+{
+    if text.len() <= room / 2 {
+        return true;
+    }
+    match encoded_len(text, room) {
+        Room::Fits(_) => true,
+        Room::Over => false,
+    }
+}
+
 // Encodes UTF-8 to UTF-16LE; the buffer is not touched where the text does not fit.
 pub fn encode(text: &[u8], out: &mut [u8]) -> Put
     ensures { λ r. ⌜ Wrote (encodeText (now (text .entry))) (now (out .entry)) 0 r (now (out .exit)) ⌝ }
 {
-    match encoded_len(text, out.len()) {
-        Room::Fits(_) => Put::Next(write_16(text, out)),
-        Room::Over => Put::Full,
+    if encoded_fits_in(text, out.len()) {
+        return Put::Next(write_16(text, out));
     }
+    Put::Full
 }
