@@ -4,6 +4,7 @@ ghost use Prim.Native.Nat.{_<_};
 ghost use lib.ListN.{drop};
 ghost use Rattle.utf_8.specs.Utf8.{lowerOf, upperOf, state, nextFrom, nextAt, wellFormed};
 use crate::Char;
+use crate::ascii::after_ascii;
 
 // A byte as a number that six more bits can be added to.
 fn wide(x: u8) -> u32
@@ -106,16 +107,20 @@ pub fn next(text: &[u8], at: usize) -> Char
     Char::Error(at + 1)
 }
 
-// Whether the whole text is UTF-8: no overlong form, no surrogate, no cut code point.
+// Whether the whole text is UTF-8: no overlong form, no surrogate, no cut code point. ASCII does not need `next`.
 pub fn well_formed(text: &[u8]) -> bool
     ensures { λ r. ⌜ r ≡ wellFormed (now (text .entry)) ⌝ }
 {
     let mut at = 0;
     while at < text.len() {
-        match next(text, at) {
-            Char::Code(_, e) => at = e,
-            Char::Error(_) => return false,
-            Char::End => return true,
+        if text[at] < 0x80 {
+            at = after_ascii(text, at);
+        } else {
+            match next(text, at) {
+                Char::Code(_, e) => at = e,
+                Char::Error(_) => return false,
+                Char::End => return true,
+            }
         }
     }
     true
