@@ -26,6 +26,35 @@ pub record Left (whole out₀ : List ℕ) (at : ℕ) (rest out : List ℕ) (to :
 pub left-all : (whole out : List ℕ) (at : ℕ) → at + length whole ≤ length out → Left whole out at whole out at
 left-all whole out at h = record { place = refl; buffer = refl; long = refl; fits = h }
 
+-- a part of it is written
+module _ {whole out₀ out out′ : List ℕ} (us vs : List ℕ) {start to : ℕ} {r : Put} (inv : Left whole out₀ start (us ++ vs) out to) (w : Wrote us out to r out′) where
+  parts : length (us ++ vs) ≡ length us + length vs
+  parts = length-append us vs
+
+  pub left-part : (end : ℕ) → r ≡ Next end → Left whole out₀ start vs out′ end
+  left-part end q =
+      let g = went w q in
+      let k : to + length us ≤ length out = omega (arith, parts, inv .fits) in
+      let l : length out′ ≡ length out = ap length (g .buffer) ∙ splice-long out us to k in
+      record {
+        place = omega (arith, parts, inv .place, g .place);
+        buffer = rw (g .buffer, g .place) (splice-splice out us vs to k ∙ inv .buffer);
+        long = l ∙ inv .long;
+        fits = omega (arith, parts, inv .fits, g .place);
+      }
+
+  -- what fits is never refused
+  pub left-never : {X : Type 0} → r ≡ Full → X
+  left-never q = absurd (omega (arith, parts, inv .fits, stayed w q .over))
+
+-- all of it is written
+pub left-end : {whole out₀ out : List ℕ} {start to : ℕ} → Left whole out₀ start [] out to → Wrote whole out₀ start (Next to) out
+left-end {whole} {out₀} {out} {start} {to} inv =
+    let e : to ≡ start + length whole = omega (arith, inv .place) in
+    let b : out ≡ splice out₀ start whole = sym (splice-none out to) ∙ inv .buffer in
+    let f : start + length whole ≤ length out₀ = omega (arith, inv .place, inv .fits, inv .long) in
+    rw (e, b) (wrote-splice whole out₀ start f)
+
 -- ---- what a length says
 
 pub room-over : (n room : ℕ) → room < n → Over ≡ roomFor n room
@@ -109,32 +138,17 @@ module _ (scalarsOf : List ℕ → List ℕ) (bytesOf : ℕ → List ℕ) (nil :
     module _ (whole out₀ out out′ : List ℕ) (start to : ℕ) (r : Put) (inv : Left whole out₀ start (flatMap bytesOf (scalarsOf (drop at bytes))) out to)
         (w : Wrote (bytesOf code) out to r out′) where
       pub write-again : (end : ℕ) → r ≡ Next end → Left whole out₀ start (flatMap bytesOf (scalarsOf (drop next bytes))) out′ end
-      write-again end q =
-          let g = went w q in
-          let k : to + length (bytesOf code) ≤ length out = omega (arith, lengths, inv .fits) in
-          let l : length out′ ≡ length out = ap length (g .buffer) ∙ splice-long out (bytesOf code) to k in
-          record {
-            place = omega (arith, lengths, inv .place, g .place);
-            buffer = rw (g .buffer, g .place) (splice-splice out (bytesOf code) _ to k ∙ ap (splice out to) (sym text-here) ∙ inv .buffer);
-            long = l ∙ inv .long;
-            fits = omega (arith, lengths, inv .fits, g .place);
-          }
+      write-again end q = left-part (bytesOf code) _ (rw text-here at inv) w end q
 
-      -- what fits is never refused
       pub write-never : r ≡ Full → Wrote whole out₀ start (Next to) out′
-      write-never q = absurd (omega (arith, lengths, inv .fits, stayed w q .over))
+      write-never q = left-never (bytesOf code) _ (rw text-here at inv) w q
 
   pub size-end : (at used room : ℕ) → used + length (flatMap bytesOf (scalarsOf (drop at bytes))) ≡ length (flatMap bytesOf (scalarsOf bytes)) → length bytes ≤ at → used ≤ room
       → Fits used ≡ roomFor (length (flatMap bytesOf (scalarsOf bytes))) room
   size-end at used room inv h a = room-fits _ used room (omega (arith, ap length (text-end at h))) a
 
   pub write-end : (whole out₀ out : List ℕ) (at start to : ℕ) → Left whole out₀ start (flatMap bytesOf (scalarsOf (drop at bytes))) out to → length bytes ≤ at → Wrote whole out₀ start (Next to) out
-  write-end whole out₀ out at start to inv h =
-      let z = ap length (text-end at h) in
-      let e : to ≡ start + length whole = omega (arith, inv .place, z) in
-      let b : out ≡ splice out₀ start whole = sym (splice-none out to) ∙ ap (splice out to) (sym (text-end at h)) ∙ inv .buffer in
-      let f : start + length whole ≤ length out₀ = omega (arith, inv .place, inv .fits, inv .long, z) in
-      rw (e, b) (wrote-splice whole out₀ start f)
+  write-end whole out₀ out at start to inv h = left-end (rw (text-end at h) at inv)
 
   -- no bytes are no text
   pub write-none : (out : List ℕ) (at : ℕ) → length bytes ≡ 0 → Wrote (flatMap bytesOf (scalarsOf bytes)) out at (Next at) out

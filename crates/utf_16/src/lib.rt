@@ -4,12 +4,14 @@ ghost use mathlib.Core.List.{_++_};
 ghost use Prim.Native.Nat.{_+_, _≤_, _<_};
 ghost use lib.ListN.{length};
 ghost use lib.Dec.{leb};
-ghost use Rattle.utf_8.specs.Utf8.{scalars};
+ghost use Rattle.utf_8.specs.Utf8.{scalars, utf8Of};
 ghost use Rattle.utf_8.specs.Buffer.{Wrote, roomFor};
 ghost use Rattle.utf_16.specs.Decode.{decodeScalars, decodeText};
 ghost use Rattle.utf_16.specs.Encode.{unitBytes, utf16Of, encodeText};
 ghost use Rattle.utf_16.specs.WString.{wstringEnd};
-ghost use Rattle.utf_16.specs.Step.{UnitAt, SurrogateAt, ScalarAt};
+ghost use Rattle.utf_16.specs.Step.{UnitAt, SurrogateAt, ScalarAt, TextAt};
+use crate::ascii::ascii_block;
+use crate::ascii::copy_units;
 use utf_8::Char;
 use utf_8::Put;
 use utf_8::Room;
@@ -18,12 +20,20 @@ use utf_8::decoder::next;
 use utf_8::encoder::put;
 use utf_8::encoder::utf8_len;
 
+mod ascii;
+
 // What an error is replaced by.
 const REPLACEMENT: u32 = 0xfffd;
 
 // A scalar value, and the place after it.
 struct Scalar {
     code: u32,
+    next: usize,
+}
+
+// How many bytes something takes, and the place after it.
+struct Measured {
+    size: usize,
     next: usize,
 }
 
@@ -114,6 +124,24 @@ fn scalar_16(bytes: &[u8], at: usize) -> Scalar
     surrogate(bytes, at, code)
 }
 
+// How many bytes in UTF-8 is taken by what begins at a place: a block of ASCII, else one scalar value.
+fn measure(bytes: &[u8], at: usize) -> Measured
+    requires { ⌜ at < length (now bytes) ⌝ }
+    ensures { λ r. ⌜ TextAt (now (bytes .entry)) at (r .size) (r .next) ⌝ }
+{
+    if ascii_block(bytes, at) {
+        return Measured {
+            size: 32,
+            next: at + 64,
+        };
+    }
+    let here = scalar_16(bytes, at);
+    Measured {
+        size: utf8_len(here.code),
+        next: here.next,
+    }
+}
+
 // How many bytes the text takes in UTF-8, where that is at most `room`.
 pub fn decoded_len(bytes: &[u8], room: usize) -> Room
     ensures { λ r. ⌜ r ≡ roomFor (length (decodeText (now (bytes .entry)))) room ⌝ }
@@ -121,12 +149,11 @@ pub fn decoded_len(bytes: &[u8], room: usize) -> Room
     let mut at = 0;
     let mut used = 0;
     while at < bytes.len() {
-        let here = scalar_16(bytes, at);
-        let n = utf8_len(here.code);
-        if room - used < n {
+        let here = measure(bytes, at);
+        if room - used < here.size {
             return Room::Over;
         }
-        used += n;
+        used += here.size;
         at = here.next;
     }
     Room::Fits(used)
@@ -145,6 +172,20 @@ fn fits_in(bytes: &[u8], room: usize) -> bool
     }
 }
 
+// Writes a scalar value in UTF-8 from `at` on, where it fits. ASCII is told first.
+fn put_8(out: &mut [u8], at: usize, code: u32) -> Put
+    ensures { λ r. ⌜ Wrote (utf8Of code) (now (out .entry)) at r (now (out .exit)) ⌝ }
+{
+    if code >= 0x80 {
+        return put(out, at, code);
+    }
+    if out.len() <= at {
+        return Put::Full;
+    }
+    out[at] = code as u8;
+    Put::Next(at + 1)
+}
+
 // Writes the text in UTF-8 from `at` on, where it fits, and gives the place after it.
 fn write_8(bytes: &[u8], out: &mut [u8], at: usize) -> usize
     requires { ⌜ at + length (decodeText (now bytes)) ≤ length (now out) ⌝ }
@@ -153,12 +194,17 @@ fn write_8(bytes: &[u8], out: &mut [u8], at: usize) -> usize
     let mut from = 0;
     let mut to = at;
     while from < bytes.len() {
-        let here = scalar_16(bytes, from);
-        let Put::Next(end) = put(out, to, here.code) else {
-            return to;
-        };
-        to = end;
-        from = here.next;
+        if ascii_block(bytes, from) {
+            to = copy_units(bytes, from, out, to);
+            from += 64;
+        } else {
+            let here = scalar_16(bytes, from);
+            let Put::Next(end) = put_8(out, to, here.code) else {
+                return to;
+            };
+            to = end;
+            from = here.next;
+        }
     }
     to
 }
