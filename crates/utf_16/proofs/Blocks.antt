@@ -2,7 +2,7 @@
 use mathlib.Core.Path.{_≡_, refl, sym, ap, _∙_}
 use mathlib.Core.Bool.{Bool, true, false}
 use mathlib.Core.List.{List, [], _∷_, _++_}
-use Prim.Native.Nat.{ℕ, zero, suc, _+_, _*_, _-_, _/_, _≤_, _<_}
+use Prim.Native.Nat.{ℕ, zero, suc, _+_, _*_, _-_, _/_, _%_, _≤_, _<_}
 use native.Mathlib.Omega.{arith}
 use lib.ListN.{length, getD, drop, set, length-append}
 use lib.Dec.{eqb}
@@ -12,13 +12,13 @@ use Rattle.utf_8.specs.declared.Put.the-variants.{Next, Full}
 use Rattle.utf_8.specs.declared.Room.the-variants.{Fits, Over}
 use Rattle.utf_8.specs.Buffer.{Wrote, roomFor}
 use Rattle.utf_8.specs.Utf8.{utf8Of}
-use Rattle.utf_8.proofs.Encodes.{utf8-one}
-use Rattle.utf_8.proofs.Splices.{wrote-as, wrote-full, stored-1}
+use Rattle.utf_8.proofs.Encodes.{utf8-one, utf8-two, utf8-short, len-two}
+use Rattle.utf_8.proofs.Splices.{wrote-as, wrote-full, stored-1, stored-2}
 use Rattle.utf_16.specs.Unit16.{unitOf}
 use Rattle.utf_16.specs.Decode.{decodeScalars, decodeText}
-use Rattle.utf_16.specs.Step.{UnitAt, ScalarAt, TextAt, AsciiUnits, lows}
+use Rattle.utf_16.specs.Step.{UnitAt, ScalarAt, TextAt, AsciiUnits, lows, Left, PartWrote}
 use Rattle.utf_16.proofs.Decodes.{nothing-left, scalar-low}
-use Rattle.utf_16.proofs.Runs.{Left, left-all, left-part, left-end, room-over, text-here}
+use Rattle.utf_16.proofs.Runs.{left-all, left-left, left-part, left-never, left-end, room-over, text-here}
 
 -- ---- ascii_units
 
@@ -120,21 +120,54 @@ module _ (bytes : List ℕ) (at : ℕ) (t : Bool) (a : t ≡ true → AsciiUnits
   pub block-measured : TextAt bytes at 32 (at + 64)
   block-measured = record { is = block-length bytes at (a q); later = omega arith; within = block-whole }
 
-  module _ (whole out₀ out : List ℕ) (start to : ℕ) (inv : Left whole out₀ start (decodeText (drop at bytes)) out to) where
+  block-left : (whole out₀ out out′ : List ℕ) (start to r : ℕ) → Left whole out₀ start (decodeText (drop at bytes)) out to → Wrote (lows bytes at 32) out to (Next r) out′
+      → Left whole out₀ start (decodeText (drop (at + 64) bytes)) out′ r
+  block-left whole out₀ out out′ start to r inv w = left-part (lows bytes at 32) _ (rw (block-text bytes at (a q)) at inv) w r refl
+
+  module _ (out : List ℕ) (to : ℕ) (f : to + length (decodeText (drop at bytes)) ≤ length out) where
     pub block-room : to + 32 ≤ length out
-    block-room = omega (arith, inv .fits, block-length bytes at (a q))
+    block-room = omega (arith, block-length bytes at (a q))
 
-    pub block-again : (r : ℕ) (out′ : List ℕ) → Wrote (lows bytes at 32) out to (Next r) out′ → Left whole out₀ start (decodeText (drop (at + 64) bytes)) out′ r
-    block-again r out′ w = left-part (lows bytes at 32) _ (rw (block-text bytes at (a q)) at inv) w r refl
+    pub block-written : (r : ℕ) (out′ : List ℕ) → Wrote (lows bytes at 32) out to (Next r) out′ → PartWrote bytes at out to (at + 64) out′ r
+    block-written r out′ w = record {
+      left = block-left (decodeText (drop at bytes)) out out out′ to to r (left-all (decodeText (drop at bytes)) out to f) w;
+      later = omega arith;
+      within = block-whole;
+    }
 
--- ---- a scalar value measured
+-- ---- the scalar values of a block, one by one
 
-pub one-measured : (bytes : List ℕ) (at code next n : ℕ) → ScalarAt decodeScalars bytes at code next → n ≡ length (utf8Of code) → TextAt bytes at n next
-one-measured bytes at code next n s e = record {
-  is = ap length (text-here decodeScalars utf8Of nothing-left bytes at code next s) ∙ length-append (utf8Of code) _ ∙ rw e;
-  later = s .later;
-  within = s .within;
-}
+module _ (bytes out out₁ : List ℕ) (from to at next : ℕ) (q : Left (decodeText (drop from bytes)) out to (decodeText (drop at bytes)) out₁ next) where
+  pub units-written : (end : ℕ) → from < end → end ≤ at → at ≤ length bytes → PartWrote bytes from out to at out₁ next
+  units-written end h l k = record { left = q; later = omega arith; within = k }
+
+  -- what fits is never refused
+  pub units-never : (code after : ℕ) (r : Put) (out₂ : List ℕ) → ScalarAt decodeScalars bytes at code after → Wrote (utf8Of code) out₁ next r out₂ → r ≡ Full → PartWrote bytes from out to at out₂ next
+  units-never code after r out₂ s w e = left-never (utf8Of code) _ (rw (text-here decodeScalars utf8Of nothing-left bytes at code after s) at q) w e
+
+-- ---- what was written
+
+module _ (bytes whole out₀ out : List ℕ) (start from to : ℕ) (q : Left whole out₀ start (decodeText (drop from bytes)) out to) where
+  pub part-room : to + length (decodeText (drop from bytes)) ≤ length out
+  part-room = q .fits
+
+  pub part-next : (from′ to′ : ℕ) (out′ : List ℕ) → PartWrote bytes from out to from′ out′ to′ → Left whole out₀ start (decodeText (drop from′ bytes)) out′ to′
+  part-next from′ to′ out′ p = left-left q (p .left)
+
+-- ---- the same, measured
+
+pub four-at-most : (code n : ℕ) → n ≡ length (utf8Of code) → n ≤ 4
+four-at-most code n e = omega (arith, utf8-short code .four-at-most)
+
+module _ (bytes : List ℕ) (at next size : ℕ) (q : length (decodeText (drop at bytes)) ≡ size + length (decodeText (drop next bytes))) where
+  pub units-more : (code after n : ℕ) → ScalarAt decodeScalars bytes next code after → n ≡ length (utf8Of code)
+      → length (decodeText (drop at bytes)) ≡ size + n + length (decodeText (drop after bytes))
+  units-more code after n s e =
+      let k = ap length (text-here decodeScalars utf8Of nothing-left bytes next code after s) ∙ length-append (utf8Of code) _ in
+      omega (arith, k)
+
+  pub units-measured : (end : ℕ) → at < end → end ≤ next → next ≤ length bytes → TextAt bytes at size next
+  units-measured end h l k = record { is = q; later = omega arith; within = k }
 
 -- ---- what was measured
 
@@ -147,9 +180,17 @@ module _ (bytes : List ℕ) (at size next used : ℕ) (here : TextAt bytes at si
 
 -- ---- put_8
 
-module _ (out : List ℕ) (at code : ℕ) (l : code < 0x80) where
-  pub short-put : at < length out → Wrote (utf8Of code) out at (Next (at + 1)) (set out at code)
-  short-put h = wrote-as (utf8-one code l) (stored-1 out at code (omega arith))
+module _ (out : List ℕ) (at code : ℕ) where
+  module _ (l : code < 0x80) where
+    pub short-put : at < length out → Wrote (utf8Of code) out at (Next (at + 1)) (set out at code)
+    short-put h = wrote-as (utf8-one code l) (stored-1 out at code (omega arith))
 
-  pub short-full : length out ≤ at → Wrote (utf8Of code) out at Full out
-  short-full h = wrote-as (utf8-one code l) (wrote-full (code ∷ []) out at (omega arith) (omega arith))
+  pub none-full : code < 0x800 → length out ≤ at → Wrote (utf8Of code) out at Full out
+  none-full l h = wrote-full (utf8Of code) out at (utf8-short code .some) (omega (arith, utf8-short code .some))
+
+  module _ (l : 0x80 ≤ code) (u : code < 0x800) where
+    pub two-put : at < length out → 2 ≤ length out - at → Wrote (utf8Of code) out at (Next (at + 2)) (set (set out at (0xc0 + code / 64)) (at + 1) (0x80 + code % 64))
+    two-put h k = wrote-as (utf8-two code l u) (stored-2 out at (0xc0 + code / 64) (0x80 + code % 64) (omega arith))
+
+    pub two-full : at < length out → length out - at < 2 → Wrote (utf8Of code) out at Full out
+    two-full h k = wrote-full (utf8Of code) out at (utf8-short code .some) (omega (arith, len-two code l u))

@@ -14,17 +14,19 @@ use Rattle.utf_8.specs.declared.Room.{Room}
 use Rattle.utf_8.specs.declared.Room.the-variants.{Fits, Over}
 use Rattle.utf_8.specs.Buffer.{splice, Wrote, roomFor}
 use Rattle.utf_8.proofs.Splices.{splice-none, splice-long, splice-splice, wrote-splice, wrote-full, wrote-none, wrote-as, went, stayed}
-use Rattle.utf_16.specs.Step.{ScalarAt}
-
--- what is left to write, `rest` from `to` on into `out`, is all that was to be written, `whole` from `at` on into `out₀`
-pub record Left (whole out₀ : List ℕ) (at : ℕ) (rest out : List ℕ) (to : ℕ) : Type 0 where
-  pub place : to + length rest ≡ at + length whole
-  pub buffer : splice out to rest ≡ splice out₀ at whole
-  pub long : length out ≡ length out₀
-  pub fits : to + length rest ≤ length out
+use Rattle.utf_16.specs.Step.{ScalarAt, Left}
 
 pub left-all : (whole out : List ℕ) (at : ℕ) → at + length whole ≤ length out → Left whole out at whole out at
 left-all whole out at h = record { place = refl; buffer = refl; long = refl; fits = h }
+
+-- what is left of what was left
+pub left-left : {whole out₀ mid out₁ rest out₂ : List ℕ} {at to next : ℕ} → Left whole out₀ at mid out₁ to → Left mid out₁ to rest out₂ next → Left whole out₀ at rest out₂ next
+left-left p q = record {
+  place = q .place ∙ p .place;
+  buffer = q .buffer ∙ p .buffer;
+  long = q .long ∙ p .long;
+  fits = q .fits;
+}
 
 -- a part of it is written
 module _ {whole out₀ out out′ : List ℕ} (us vs : List ℕ) {start to : ℕ} {r : Put} (inv : Left whole out₀ start (us ++ vs) out to) (w : Wrote us out to r out′) where

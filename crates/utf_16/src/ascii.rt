@@ -28,15 +28,22 @@ fn ascii_units(bytes: &[u8], at: usize) -> bool
     above == 0
 }
 
-// Whether a block begins at a place that is ASCII throughout. Only multiples of 64 are tried, so that no byte is looked at in
-// two blocks.
+// The end of the block that begins at a place, in `len` bytes.
+pub(crate) fn block_end(at: usize, len: usize) -> usize
+    requires { ⌜ at < len ⌝ }
+    ensures { λ r. ⌜ (at < r) × (r ≤ len) × (r ≤ at + 64) ⌝ }
+{
+    if len - at < 64 {
+        return len;
+    }
+    at + 64
+}
+
+// Whether a whole block begins at a place, and is ASCII throughout.
 pub(crate) fn ascii_block(bytes: &[u8], at: usize) -> bool
     requires { ⌜ at < length (now bytes) ⌝ }
     ensures { λ r. ⌜ (r ≡ true → AsciiUnits (now (bytes .entry)) at 32) ⌝ }
 {
-    if at % 64 != 0 {
-        return false;
-    }
     if bytes.len() - at < 64 {
         return false;
     }

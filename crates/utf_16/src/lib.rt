@@ -2,15 +2,16 @@
 ghost use mathlib.Core.Path.{_≡_};
 ghost use mathlib.Core.List.{_++_};
 ghost use Prim.Native.Nat.{_+_, _≤_, _<_};
-ghost use lib.ListN.{length};
+ghost use lib.ListN.{length, drop};
 ghost use lib.Dec.{leb};
 ghost use Rattle.utf_8.specs.Utf8.{scalars, utf8Of};
 ghost use Rattle.utf_8.specs.Buffer.{Wrote, roomFor};
 ghost use Rattle.utf_16.specs.Decode.{decodeScalars, decodeText};
 ghost use Rattle.utf_16.specs.Encode.{unitBytes, utf16Of, encodeText};
 ghost use Rattle.utf_16.specs.WString.{wstringEnd};
-ghost use Rattle.utf_16.specs.Step.{UnitAt, SurrogateAt, ScalarAt, TextAt};
+ghost use Rattle.utf_16.specs.Step.{UnitAt, SurrogateAt, ScalarAt, TextAt, PartWrote};
 use crate::ascii::ascii_block;
+use crate::ascii::block_end;
 use crate::ascii::copy_units;
 use utf_8::Char;
 use utf_8::Put;
@@ -29,6 +30,12 @@ const REPLACEMENT: u32 = 0xfffd;
 struct Scalar {
     code: u32,
     next: usize,
+}
+
+// A place in the bytes that are read, and the one in the buffer that belongs to it.
+struct Places {
+    from: usize,
+    to: usize,
 }
 
 // How many bytes something takes, and the place after it.
@@ -124,7 +131,29 @@ fn scalar_16(bytes: &[u8], at: usize) -> Scalar
     surrogate(bytes, at, code)
 }
 
-// How many bytes in UTF-8 is taken by what begins at a place: a block of ASCII, else one scalar value.
+// How many bytes a scalar value takes in UTF-8.
+fn short_len(code: u32) -> usize
+    ensures { λ r. ⌜ (r ≡ length (utf8Of code)) × (r ≤ 4) ⌝ }
+{
+    utf8_len(code)
+}
+
+// How many bytes in UTF-8 the scalar values take that begin from `at` on, before `end`.
+fn measure_units(bytes: &[u8], at: usize, end: usize) -> Measured
+    requires { ⌜ (at < end) × (end ≤ length (now bytes)) × (end ≤ at + 64) ⌝ }
+    ensures { λ r. ⌜ TextAt (now (bytes .entry)) at (r .size) (r .next) ⌝ }
+{
+    let mut size = 0;
+    let mut next = at;
+    while next < end {
+        let here = scalar_16(bytes, next);
+        size += short_len(here.code);
+        next = here.next;
+    }
+    Measured { size, next }
+}
+
+// The same of a block from `at` on.
 fn measure(bytes: &[u8], at: usize) -> Measured
     requires { ⌜ at < length (now bytes) ⌝ }
     ensures { λ r. ⌜ TextAt (now (bytes .entry)) at (r .size) (r .next) ⌝ }
@@ -135,11 +164,7 @@ fn measure(bytes: &[u8], at: usize) -> Measured
             next: at + 64,
         };
     }
-    let here = scalar_16(bytes, at);
-    Measured {
-        size: utf8_len(here.code),
-        next: here.next,
-    }
+    measure_units(bytes, at, block_end(at, bytes.len()))
 }
 
 // How many bytes the text takes in UTF-8, where that is at most `room`.
@@ -172,18 +197,68 @@ fn fits_in(bytes: &[u8], room: usize) -> bool
     }
 }
 
-// Writes a scalar value in UTF-8 from `at` on, where it fits. ASCII is told first.
+// Writes a scalar value in UTF-8 from `at` on, where it fits. What takes one byte or two is told first.
 fn put_8(out: &mut [u8], at: usize, code: u32) -> Put
     ensures { λ r. ⌜ Wrote (utf8Of code) (now (out .entry)) at r (now (out .exit)) ⌝ }
 {
-    if code >= 0x80 {
+    if code >= 0x800 {
         return put(out, at, code);
     }
     if out.len() <= at {
         return Put::Full;
     }
-    out[at] = code as u8;
-    Put::Next(at + 1)
+    if code < 0x80 {
+        out[at] = code as u8;
+        return Put::Next(at + 1);
+    }
+    if out.len() - at < 2 {
+        return Put::Full;
+    }
+    out[at] = (0xc0 + code / 64) as u8;
+    out[at + 1] = (0x80 + code % 64) as u8;
+    Put::Next(at + 2)
+}
+
+// Writes in UTF-8, from `to` on, the scalar values that begin from `from` on, before `end`.
+fn write_units(bytes: &[u8], from: usize, end: usize, out: &mut [u8], to: usize) -> Places
+    requires { ⌜ (from < end) × (end ≤ length (now bytes)) ⌝ }
+    requires { ⌜ to + length (decodeText (drop from (now bytes))) ≤ length (now out) ⌝ }
+    ensures { λ r. ⌜ PartWrote (now (bytes .entry)) from (now (out .entry)) to (r .from) (now (out .exit)) (r .to) ⌝ }
+{
+    let mut at = from;
+    let mut place = to;
+    while at < end {
+        let here = scalar_16(bytes, at);
+        let Put::Next(after) = put_8(out, place, here.code) else {
+            // never: the text fits
+            return Places {
+                from: at,
+                to: place,
+            };
+        };
+        place = after;
+        at = here.next;
+    }
+    Places {
+        from: at,
+        to: place,
+    }
+}
+
+// The same of a block from `from` on.
+fn write_block(bytes: &[u8], from: usize, out: &mut [u8], to: usize) -> Places
+    requires { ⌜ from < length (now bytes) ⌝ }
+    requires { ⌜ to + length (decodeText (drop from (now bytes))) ≤ length (now out) ⌝ }
+    ensures { λ r. ⌜ PartWrote (now (bytes .entry)) from (now (out .entry)) to (r .from) (now (out .exit)) (r .to) ⌝ }
+{
+    if ascii_block(bytes, from) {
+        let after = copy_units(bytes, from, out, to);
+        return Places {
+            from: from + 64,
+            to: after,
+        };
+    }
+    write_units(bytes, from, block_end(from, bytes.len()), out, to)
 }
 
 // Writes the text in UTF-8 from `at` on, where it fits, and gives the place after it.
@@ -194,17 +269,9 @@ fn write_8(bytes: &[u8], out: &mut [u8], at: usize) -> usize
     let mut from = 0;
     let mut to = at;
     while from < bytes.len() {
-        if ascii_block(bytes, from) {
-            to = copy_units(bytes, from, out, to);
-            from += 64;
-        } else {
-            let here = scalar_16(bytes, from);
-            let Put::Next(end) = put_8(out, to, here.code) else {
-                return to;
-            };
-            to = end;
-            from = here.next;
-        }
+        let done = write_block(bytes, from, out, to);
+        from = done.from;
+        to = done.to;
     }
     to
 }

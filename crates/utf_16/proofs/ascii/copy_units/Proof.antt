@@ -1,7 +1,6 @@
 -- `utf_16::ascii::copy_units` meets its contract. The loop's invariant: the low bytes that are left, written from here on, make the buffer that all of them make. Assumes nothing.
 use Prim.Native.Nat.{_+_, _*_, _-_, _≤_}
-use Rattle.utf_16.specs.Step.{lows}
-use Rattle.utf_16.proofs.Runs.{Left}
+use Rattle.utf_16.specs.Step.{lows, Left}
 use Rattle.utf_16.proofs.Blocks.{copy-start, copy-room, copy-again, copy-end}
 use borrow.Author.Needs.{needs}
 use Rattle.utf_16.proofs.ascii.copy_units.Statement.{statement}
