@@ -188,9 +188,6 @@ module _ (text : List ℕ) (at : ℕ) (r : Char) (h : r ≡ nextAt text at) wher
 -- ---- the exits of `well_formed`: the whole is well-formed where what is left is
 
 module _ (text : List ℕ) (at : ℕ) (inv : wellFormed text ≡ wellFormed (drop at text)) where
-  pub formed-past : (e : ℕ) → wellFormed (drop at text) ≡ wellFormed (drop e text) → wellFormed text ≡ wellFormed (drop e text)
-  formed-past e k = inv ∙ k
-
   module _ (r : Char) (h : r ≡ nextAt text at) where
     pub formed-again : (c e : ℕ) → r ≡ Code c e → wellFormed text ≡ wellFormed (drop e text)
     unfolding noError

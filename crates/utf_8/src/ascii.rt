@@ -1,7 +1,7 @@
 // ASCII in a text that is tested: most text is ASCII, and blocks of 64 bytes of it are told at once.
 ghost use mathlib.Core.Path.{_≡_};
 ghost use mathlib.Core.Bool.{true};
-ghost use Prim.Native.Nat.{ℕ, _<_, _≤_};
+ghost use Prim.Native.Nat.{ℕ, _+_, _<_, _≤_};
 ghost use lib.ListN.{length, getD, drop};
 ghost use Rattle.utf_8.specs.Utf8.{wellFormed};
 
@@ -19,22 +19,17 @@ fn is_ascii(block: &[u8]) -> bool
     above == 0
 }
 
-// The place after the ASCII byte at `at`, or after the block that begins there, where it is ASCII throughout. A block is
-// tried only where `at` is a multiple of 64, so that no byte is looked at in two of them.
-pub(crate) fn after_ascii(text: &[u8], at: usize) -> usize
+// Whether a block begins at a place that is ASCII throughout. Only multiples of 64 are tried, so that no byte is looked at in
+// two blocks.
+pub(crate) fn ascii_block(text: &[u8], at: usize) -> bool
     requires { ⌜ at < length (now text) ⌝ }
-    requires { ⌜ getD (now text) at 0 < 0x80 ⌝ }
-    ensures { λ r. ⌜ (at < r) × (r ≤ length (now (text .entry))) × (wellFormed (drop at (now (text .entry))) ≡ wellFormed (drop r (now (text .entry)))) ⌝ }
+    ensures { λ r. ⌜ (r ≡ true → (at + 64 ≤ length (now (text .entry))) × (wellFormed (drop at (now (text .entry))) ≡ wellFormed (drop (at + 64) (now (text .entry))))) ⌝ }
 {
     if at % 64 != 0 {
-        return at + 1;
+        return false;
     }
     if text.len() - at < 64 {
-        return at + 1;
+        return false;
     }
-    let end = at + 64;
-    if is_ascii(&text[at..end]) {
-        return end;
-    }
-    at + 1
+    is_ascii(&text[at..at + 64])
 }

@@ -4,7 +4,7 @@ ghost use Prim.Native.Nat.{_<_};
 ghost use lib.ListN.{drop};
 ghost use Rattle.utf_8.specs.Utf8.{lowerOf, upperOf, state, nextFrom, nextAt, wellFormed};
 use crate::Char;
-use crate::ascii::after_ascii;
+use crate::ascii::ascii_block;
 
 // A byte as a number that six more bits can be added to.
 fn wide(x: u8) -> u32
@@ -113,8 +113,10 @@ pub fn well_formed(text: &[u8]) -> bool
 {
     let mut at = 0;
     while at < text.len() {
-        if text[at] < 0x80 {
-            at = after_ascii(text, at);
+        if ascii_block(text, at) {
+            at += 64;
+        } else if text[at] < 0x80 {
+            at += 1;
         } else {
             match next(text, at) {
                 Char::Code(_, e) => at = e,
