@@ -14,17 +14,48 @@ use Rattle.utf_8.specs.declared.Room.{Room}
 use Rattle.utf_8.specs.declared.Room.the-variants.{Fits, Over}
 use Rattle.utf_8.specs.Buffer.{splice, Wrote, roomFor}
 use Rattle.utf_8.proofs.Splices.{splice-none, splice-long, splice-splice, wrote-splice, wrote-full, wrote-none, wrote-as, went, stayed}
-use Rattle.utf_16.specs.Step.{ScalarAt}
-
--- what is left to write, `rest` from `to` on into `out`, is all that was to be written, `whole` from `at` on into `out₀`
-pub record Left (whole out₀ : List ℕ) (at : ℕ) (rest out : List ℕ) (to : ℕ) : Type 0 where
-  pub place : to + length rest ≡ at + length whole
-  pub buffer : splice out to rest ≡ splice out₀ at whole
-  pub long : length out ≡ length out₀
-  pub fits : to + length rest ≤ length out
+use Rattle.utf_16.specs.Step.{ScalarAt, Left}
 
 pub left-all : (whole out : List ℕ) (at : ℕ) → at + length whole ≤ length out → Left whole out at whole out at
 left-all whole out at h = record { place = refl; buffer = refl; long = refl; fits = h }
+
+-- what is left of what was left
+pub left-left : {whole out₀ mid out₁ rest out₂ : List ℕ} {at to next : ℕ} → Left whole out₀ at mid out₁ to → Left mid out₁ to rest out₂ next → Left whole out₀ at rest out₂ next
+left-left p q = record {
+  place = q .place ∙ p .place;
+  buffer = q .buffer ∙ p .buffer;
+  long = q .long ∙ p .long;
+  fits = q .fits;
+}
+
+-- a part of it is written
+module _ {whole out₀ out out′ : List ℕ} (us vs : List ℕ) {start to : ℕ} {r : Put} (inv : Left whole out₀ start (us ++ vs) out to) (w : Wrote us out to r out′) where
+  parts : length (us ++ vs) ≡ length us + length vs
+  parts = length-append us vs
+
+  pub left-part : (end : ℕ) → r ≡ Next end → Left whole out₀ start vs out′ end
+  left-part end q =
+      let g = went w q in
+      let k : to + length us ≤ length out = omega (arith, parts, inv .fits) in
+      let l : length out′ ≡ length out = ap length (g .buffer) ∙ splice-long out us to k in
+      record {
+        place = omega (arith, parts, inv .place, g .place);
+        buffer = rw (g .buffer, g .place) (splice-splice out us vs to k ∙ inv .buffer);
+        long = l ∙ inv .long;
+        fits = omega (arith, parts, inv .fits, g .place);
+      }
+
+  -- what fits is never refused
+  pub left-never : {X : Type 0} → r ≡ Full → X
+  left-never q = absurd (omega (arith, parts, inv .fits, stayed w q .over))
+
+-- all of it is written
+pub left-end : {whole out₀ out : List ℕ} {start to : ℕ} → Left whole out₀ start [] out to → Wrote whole out₀ start (Next to) out
+left-end {whole} {out₀} {out} {start} {to} inv =
+    let e : to ≡ start + length whole = omega (arith, inv .place) in
+    let b : out ≡ splice out₀ start whole = sym (splice-none out to) ∙ inv .buffer in
+    let f : start + length whole ≤ length out₀ = omega (arith, inv .place, inv .fits, inv .long) in
+    rw (e, b) (wrote-splice whole out₀ start f)
 
 -- ---- what a length says
 
@@ -68,14 +99,14 @@ full-at text out at t a e q =
     let h = leb-false (length text) (length out - at) (sym e ∙ q) in
     wrote-full text out at (omega arith) (omega arith)
 
--- the whole room, as a length that was asked for
-module _ (text out : List ℕ) (r : Room) (e : r ≡ roomFor (length text) (length out)) where
-  pub fits-all : (m : ℕ) → r ≡ Fits m → length text ≤ length out
-  fits-all m q = told-fits (length text) (length out) m r e q
+-- the whole buffer as the room
+module _ (text out : List ℕ) (t : Bool) (e : t ≡ leb (length text) (length out)) where
+  pub fits-all : t ≡ true → length text ≤ length out
+  fits-all q = leb-true (length text) (length out) (sym e ∙ q)
 
-  pub full-all : r ≡ Over → Wrote text out 0 Full out
+  pub full-all : t ≡ false → Wrote text out 0 Full out
   full-all q =
-      let h = told-over (length text) (length out) r e q in
+      let h = leb-false (length text) (length out) (sym e ∙ q) in
       wrote-full text out 0 (omega arith) (omega arith)
 
 -- ---- a text that is read from bytes
@@ -109,32 +140,17 @@ module _ (scalarsOf : List ℕ → List ℕ) (bytesOf : ℕ → List ℕ) (nil :
     module _ (whole out₀ out out′ : List ℕ) (start to : ℕ) (r : Put) (inv : Left whole out₀ start (flatMap bytesOf (scalarsOf (drop at bytes))) out to)
         (w : Wrote (bytesOf code) out to r out′) where
       pub write-again : (end : ℕ) → r ≡ Next end → Left whole out₀ start (flatMap bytesOf (scalarsOf (drop next bytes))) out′ end
-      write-again end q =
-          let g = went w q in
-          let k : to + length (bytesOf code) ≤ length out = omega (arith, lengths, inv .fits) in
-          let l : length out′ ≡ length out = ap length (g .buffer) ∙ splice-long out (bytesOf code) to k in
-          record {
-            place = omega (arith, lengths, inv .place, g .place);
-            buffer = rw (g .buffer, g .place) (splice-splice out (bytesOf code) _ to k ∙ ap (splice out to) (sym text-here) ∙ inv .buffer);
-            long = l ∙ inv .long;
-            fits = omega (arith, lengths, inv .fits, g .place);
-          }
+      write-again end q = left-part (bytesOf code) _ (rw text-here at inv) w end q
 
-      -- what fits is never refused
       pub write-never : r ≡ Full → Wrote whole out₀ start (Next to) out′
-      write-never q = absurd (omega (arith, lengths, inv .fits, stayed w q .over))
+      write-never q = left-never (bytesOf code) _ (rw text-here at inv) w q
 
   pub size-end : (at used room : ℕ) → used + length (flatMap bytesOf (scalarsOf (drop at bytes))) ≡ length (flatMap bytesOf (scalarsOf bytes)) → length bytes ≤ at → used ≤ room
       → Fits used ≡ roomFor (length (flatMap bytesOf (scalarsOf bytes))) room
   size-end at used room inv h a = room-fits _ used room (omega (arith, ap length (text-end at h))) a
 
   pub write-end : (whole out₀ out : List ℕ) (at start to : ℕ) → Left whole out₀ start (flatMap bytesOf (scalarsOf (drop at bytes))) out to → length bytes ≤ at → Wrote whole out₀ start (Next to) out
-  write-end whole out₀ out at start to inv h =
-      let z = ap length (text-end at h) in
-      let e : to ≡ start + length whole = omega (arith, inv .place, z) in
-      let b : out ≡ splice out₀ start whole = sym (splice-none out to) ∙ ap (splice out to) (sym (text-end at h)) ∙ inv .buffer in
-      let f : start + length whole ≤ length out₀ = omega (arith, inv .place, inv .fits, inv .long, z) in
-      rw (e, b) (wrote-splice whole out₀ start f)
+  write-end whole out₀ out at start to inv h = left-end (rw (text-end at h) at inv)
 
   -- no bytes are no text
   pub write-none : (out : List ℕ) (at : ℕ) → length bytes ≡ 0 → Wrote (flatMap bytesOf (scalarsOf bytes)) out at (Next at) out

@@ -2,14 +2,17 @@
 ghost use mathlib.Core.Path.{_≡_};
 ghost use mathlib.Core.List.{_++_};
 ghost use Prim.Native.Nat.{_+_, _≤_, _<_};
-ghost use lib.ListN.{length};
+ghost use lib.ListN.{length, drop};
 ghost use lib.Dec.{leb};
-ghost use Rattle.utf_8.specs.Utf8.{scalars};
+ghost use Rattle.utf_8.specs.Utf8.{scalars, utf8Of};
 ghost use Rattle.utf_8.specs.Buffer.{Wrote, roomFor};
 ghost use Rattle.utf_16.specs.Decode.{decodeScalars, decodeText};
 ghost use Rattle.utf_16.specs.Encode.{unitBytes, utf16Of, encodeText};
 ghost use Rattle.utf_16.specs.WString.{wstringEnd};
-ghost use Rattle.utf_16.specs.Step.{UnitAt, SurrogateAt, ScalarAt};
+ghost use Rattle.utf_16.specs.Step.{UnitAt, SurrogateAt, ScalarAt, TextAt, PartWrote};
+use crate::ascii::ascii_block;
+use crate::ascii::block_end;
+use crate::ascii::copy_units;
 use utf_8::Char;
 use utf_8::Put;
 use utf_8::Room;
@@ -18,12 +21,26 @@ use utf_8::decoder::next;
 use utf_8::encoder::put;
 use utf_8::encoder::utf8_len;
 
+mod ascii;
+
 // What an error is replaced by.
 const REPLACEMENT: u32 = 0xfffd;
 
 // A scalar value, and the place after it.
 struct Scalar {
     code: u32,
+    next: usize,
+}
+
+// A place in the bytes that are read, and the one in the buffer that belongs to it.
+struct Places {
+    from: usize,
+    to: usize,
+}
+
+// How many bytes something takes, and the place after it.
+struct Measured {
+    size: usize,
     next: usize,
 }
 
@@ -114,6 +131,42 @@ fn scalar_16(bytes: &[u8], at: usize) -> Scalar
     surrogate(bytes, at, code)
 }
 
+// How many bytes a scalar value takes in UTF-8.
+fn short_len(code: u32) -> usize
+    ensures { λ r. ⌜ (r ≡ length (utf8Of code)) × (r ≤ 4) ⌝ }
+{
+    utf8_len(code)
+}
+
+// How many bytes in UTF-8 the scalar values take that begin from `at` on, before `end`.
+fn measure_units(bytes: &[u8], at: usize, end: usize) -> Measured
+    requires { ⌜ (at < end) × (end ≤ length (now bytes)) × (end ≤ at + 64) ⌝ }
+    ensures { λ r. ⌜ TextAt (now (bytes .entry)) at (r .size) (r .next) ⌝ }
+{
+    let mut size = 0;
+    let mut next = at;
+    while next < end {
+        let here = scalar_16(bytes, next);
+        size += short_len(here.code);
+        next = here.next;
+    }
+    Measured { size, next }
+}
+
+// The same of a block from `at` on.
+fn measure(bytes: &[u8], at: usize) -> Measured
+    requires { ⌜ at < length (now bytes) ⌝ }
+    ensures { λ r. ⌜ TextAt (now (bytes .entry)) at (r .size) (r .next) ⌝ }
+{
+    if ascii_block(bytes, at) {
+        return Measured {
+            size: 32,
+            next: at + 64,
+        };
+    }
+    measure_units(bytes, at, block_end(at, bytes.len()))
+}
+
 // How many bytes the text takes in UTF-8, where that is at most `room`.
 pub fn decoded_len(bytes: &[u8], room: usize) -> Room
     ensures { λ r. ⌜ r ≡ roomFor (length (decodeText (now (bytes .entry)))) room ⌝ }
@@ -121,12 +174,11 @@ pub fn decoded_len(bytes: &[u8], room: usize) -> Room
     let mut at = 0;
     let mut used = 0;
     while at < bytes.len() {
-        let here = scalar_16(bytes, at);
-        let n = utf8_len(here.code);
-        if room - used < n {
+        let here = measure(bytes, at);
+        if room - used < here.size {
             return Room::Over;
         }
-        used += n;
+        used += here.size;
         at = here.next;
     }
     Room::Fits(used)
@@ -145,6 +197,70 @@ fn fits_in(bytes: &[u8], room: usize) -> bool
     }
 }
 
+// Writes a scalar value in UTF-8 from `at` on, where it fits. What takes one byte or two is told first.
+fn put_8(out: &mut [u8], at: usize, code: u32) -> Put
+    ensures { λ r. ⌜ Wrote (utf8Of code) (now (out .entry)) at r (now (out .exit)) ⌝ }
+{
+    if code >= 0x800 {
+        return put(out, at, code);
+    }
+    if out.len() <= at {
+        return Put::Full;
+    }
+    if code < 0x80 {
+        out[at] = code as u8;
+        return Put::Next(at + 1);
+    }
+    if out.len() - at < 2 {
+        return Put::Full;
+    }
+    out[at] = (0xc0 + code / 64) as u8;
+    out[at + 1] = (0x80 + code % 64) as u8;
+    Put::Next(at + 2)
+}
+
+// Writes in UTF-8, from `to` on, the scalar values that begin from `from` on, before `end`.
+fn write_units(bytes: &[u8], from: usize, end: usize, out: &mut [u8], to: usize) -> Places
+    requires { ⌜ (from < end) × (end ≤ length (now bytes)) ⌝ }
+    requires { ⌜ to + length (decodeText (drop from (now bytes))) ≤ length (now out) ⌝ }
+    ensures { λ r. ⌜ PartWrote (now (bytes .entry)) from (now (out .entry)) to (r .from) (now (out .exit)) (r .to) ⌝ }
+{
+    let mut at = from;
+    let mut place = to;
+    while at < end {
+        let here = scalar_16(bytes, at);
+        let Put::Next(after) = put_8(out, place, here.code) else {
+            // never: the text fits
+            return Places {
+                from: at,
+                to: place,
+            };
+        };
+        place = after;
+        at = here.next;
+    }
+    Places {
+        from: at,
+        to: place,
+    }
+}
+
+// The same of a block from `from` on.
+fn write_block(bytes: &[u8], from: usize, out: &mut [u8], to: usize) -> Places
+    requires { ⌜ from < length (now bytes) ⌝ }
+    requires { ⌜ to + length (decodeText (drop from (now bytes))) ≤ length (now out) ⌝ }
+    ensures { λ r. ⌜ PartWrote (now (bytes .entry)) from (now (out .entry)) to (r .from) (now (out .exit)) (r .to) ⌝ }
+{
+    if ascii_block(bytes, from) {
+        let after = copy_units(bytes, from, out, to);
+        return Places {
+            from: from + 64,
+            to: after,
+        };
+    }
+    write_units(bytes, from, block_end(from, bytes.len()), out, to)
+}
+
 // Writes the text in UTF-8 from `at` on, where it fits, and gives the place after it.
 fn write_8(bytes: &[u8], out: &mut [u8], at: usize) -> usize
     requires { ⌜ at + length (decodeText (now bytes)) ≤ length (now out) ⌝ }
@@ -153,12 +269,9 @@ fn write_8(bytes: &[u8], out: &mut [u8], at: usize) -> usize
     let mut from = 0;
     let mut to = at;
     while from < bytes.len() {
-        let here = scalar_16(bytes, from);
-        let Put::Next(end) = put(out, to, here.code) else {
-            return to;
-        };
-        to = end;
-        from = here.next;
+        let done = write_block(bytes, from, out, to);
+        from = done.from;
+        to = done.to;
     }
     to
 }
@@ -180,7 +293,7 @@ pub fn decode(bytes: &[u8], out: &mut [u8], at: usize) -> Put
 }
 
 // The scalar value at a place of a UTF-8 text; U+FFFD for what is ill-formed.
-fn scalar_8(text: &[u8], at: usize) -> Scalar
+fn long_scalar_8(text: &[u8], at: usize) -> Scalar
     requires { ⌜ at < length (now text) ⌝ }
     ensures { λ r. ⌜ ScalarAt scalars (now (text .entry)) at (r .code) (r .next) ⌝ }
 {
@@ -195,6 +308,21 @@ fn scalar_8(text: &[u8], at: usize) -> Scalar
             next: at,
         },
     }
+}
+
+// The same. ASCII is told first, since most text is ASCII.
+fn scalar_8(text: &[u8], at: usize) -> Scalar
+    requires { ⌜ at < length (now text) ⌝ }
+    ensures { λ r. ⌜ ScalarAt scalars (now (text .entry)) at (r .code) (r .next) ⌝ }
+{
+    let first = text[at];
+    if first < 0x80 {
+        return Scalar {
+            code: first as u32,
+            next: at + 1,
+        };
+    }
+    long_scalar_8(text, at)
 }
 
 // How many bytes a scalar value takes in UTF-16.
@@ -286,12 +414,25 @@ fn write_16(text: &[u8], out: &mut [u8]) -> usize
     to
 }
 
+// Whether the text takes at most `room` bytes in UTF-16. No byte gives more than two, so a short text is not measured.
+fn encoded_fits_in(text: &[u8], room: usize) -> bool
+    ensures { λ r. ⌜ r ≡ leb (length (encodeText (now (text .entry)))) room ⌝ }
+{
+    if text.len() <= room / 2 {
+        return true;
+    }
+    match encoded_len(text, room) {
+        Room::Fits(_) => true,
+        Room::Over => false,
+    }
+}
+
 // Encodes UTF-8 to UTF-16LE; the buffer is not touched where the text does not fit.
 pub fn encode(text: &[u8], out: &mut [u8]) -> Put
     ensures { λ r. ⌜ Wrote (encodeText (now (text .entry))) (now (out .entry)) 0 r (now (out .exit)) ⌝ }
 {
-    match encoded_len(text, out.len()) {
-        Room::Fits(_) => Put::Next(write_16(text, out)),
-        Room::Over => Put::Full,
+    if encoded_fits_in(text, out.len()) {
+        return Put::Next(write_16(text, out));
     }
+    Put::Full
 }

@@ -1,9 +1,10 @@
 // The UTF-8 decoder, one code point at a time.
 ghost use mathlib.Core.Path.{_≡_};
-ghost use Prim.Native.Nat.{_<_};
-ghost use lib.ListN.{drop};
+ghost use Prim.Native.Nat.{_<_, _≤_};
+ghost use lib.ListN.{length, getD, drop};
 ghost use Rattle.utf_8.specs.Utf8.{lowerOf, upperOf, state, nextFrom, nextAt, wellFormed};
 use crate::Char;
+use crate::ascii::ascii_block;
 
 // A byte as a number that six more bits can be added to.
 fn wide(x: u8) -> u32
@@ -80,7 +81,23 @@ fn three_more(text: &[u8], at: usize, code: u32, lower: u8, upper: u8) -> Char
     }
 }
 
-// The code point at `at`, or the ill-formed part there. ASCII is told first, since most text is ASCII.
+// The code point of three or four bytes at `at`, or the ill-formed part there.
+fn next_long(text: &[u8], at: usize) -> Char
+    requires { ⌜ (at < length (now text)) × (0xe0 ≤ getD (now text) at 0) ⌝ }
+    ensures { λ r. ⌜ r ≡ nextAt (now (text .entry)) at ⌝ }
+{
+    let b = text[at];
+    if b < 0xf0 {
+        return two_more(text, at + 1, wide(b) % 16, lower_of(b), upper_of(b));
+    }
+    if b < 0xf5 {
+        return three_more(text, at + 1, wide(b) % 8, lower_of(b), upper_of(b));
+    }
+    Char::Error(at + 1)
+}
+
+// The code point at `at`, or the ill-formed part there. ASCII is told first, since most text is ASCII; the long forms have a
+// function of their own, so that this one is short enough to be compiled into its callers.
 pub fn next(text: &[u8], at: usize) -> Char
     ensures { λ r. ⌜ r ≡ nextAt (now (text .entry)) at ⌝ }
 {
@@ -97,25 +114,25 @@ pub fn next(text: &[u8], at: usize) -> Char
     if b < 0xe0 {
         return one_more(text, at + 1, wide(b) % 32, 0x80, 0xbf);
     }
-    if b < 0xf0 {
-        return two_more(text, at + 1, wide(b) % 16, lower_of(b), upper_of(b));
-    }
-    if b < 0xf5 {
-        return three_more(text, at + 1, wide(b) % 8, lower_of(b), upper_of(b));
-    }
-    Char::Error(at + 1)
+    next_long(text, at)
 }
 
-// Whether the whole text is UTF-8: no overlong form, no surrogate, no cut code point.
+// Whether the whole text is UTF-8: no overlong form, no surrogate, no cut code point. ASCII does not need `next`.
 pub fn well_formed(text: &[u8]) -> bool
     ensures { λ r. ⌜ r ≡ wellFormed (now (text .entry)) ⌝ }
 {
     let mut at = 0;
     while at < text.len() {
-        match next(text, at) {
-            Char::Code(_, e) => at = e,
-            Char::Error(_) => return false,
-            Char::End => return true,
+        if ascii_block(text, at) {
+            at += 64;
+        } else if text[at] < 0x80 {
+            at += 1;
+        } else {
+            match next(text, at) {
+                Char::Code(_, e) => at = e,
+                Char::Error(_) => return false,
+                Char::End => return true,
+            }
         }
     }
     true

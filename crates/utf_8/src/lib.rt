@@ -1,5 +1,6 @@
 // UTF-8 as the WHATWG Encoding Standard has it: the decoder and the encoder, and the answers that the other encodings
 // share with it.
+mod ascii;
 pub mod decoder;
 pub mod encoder;
 

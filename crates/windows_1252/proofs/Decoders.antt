@@ -5,6 +5,8 @@ use mathlib.Core.List.{List, [], _∷_, _++_}
 use Prim.Native.Nat.{ℕ, _+_, _-_, _≤_, _<_}
 use native.Mathlib.Omega.{arith}
 use lib.ListN.{length, getD, take, drop, set, length-append}
+use lib.Dec.{leb}
+use borrow.Author.Tests.{leb-true, leb-false, le-leb, lt-leb}
 use Rattle.utf_8.specs.declared.Put.{Put}
 use Rattle.utf_8.specs.declared.Put.the-variants.{Next, Full}
 use Rattle.utf_8.specs.declared.Room.{Room}
@@ -84,6 +86,15 @@ module _ (block : List ℕ) (t : Bool) (e : t ≡ ascii block) (y : t ≡ true) 
   pub block-copied : (out out₁ : List ℕ) (at r : ℕ) → Laid block out at r out₁ → Laid (decodeText block) out at r out₁
   block-copied out out₁ at r l = laid-as (ascii-text block (sym e ∙ y)) l
 
+-- ---- fits_in
+
+module _ (len room : ℕ) (r : Room) (e : r ≡ roomFor len room) where
+  pub measured-fits : (n : ℕ) → r ≡ Fits n → true ≡ leb len room
+  measured-fits n q = sym (le-leb len room (room-fits n len room e q .fits))
+
+  pub measured-over : r ≡ Over → false ≡ leb len room
+  measured-over q = sym (lt-leb len room (room-over len room e q))
+
 -- ---- decode
 
 module _ (bytes out : List ℕ) (at : ℕ) where
@@ -93,20 +104,15 @@ module _ (bytes out : List ℕ) (at : ℕ) where
   pub decode-past : (length bytes ≡ 0 → ⊥) → length out < at → Wrote (decodeText bytes) out at Full out
   decode-past n h = wrote-over (decodeText bytes) out at (omega arith) (decode-some bytes n)
 
-  module _ (r : Room) (h : at ≤ length out) (e : r ≡ roomFor (length (decodeText bytes)) (length out - at)) where
-    pub decode-over : r ≡ Over → Wrote (decodeText bytes) out at Full out
+  module _ (t : Bool) (h : at ≤ length out) (e : t ≡ leb (length (decodeText bytes)) (length out - at)) where
+    pub decode-over : t ≡ false → Wrote (decodeText bytes) out at Full out
     decode-over q =
-        let o : length out - at < length (decodeText bytes) = room-over (length (decodeText bytes)) (length out - at) e q in
+        let o = leb-false (length (decodeText bytes)) (length out - at) (sym e ∙ q) in
         wrote-over (decodeText bytes) out at (omega arith) (omega arith)
 
-    module _ (n : ℕ) (q : r ≡ Fits n) where
+    module _ (q : t ≡ true) where
       pub decode-room : at + length (decodeText bytes) ≤ length out
-      decode-room = omega (arith, room-fits n (length (decodeText bytes)) (length out - at) e q)
+      decode-room = omega (arith, leb-true (length (decodeText bytes)) (length out - at) (sym e ∙ q))
 
-      pub decode-sum : at + n ≤ length out
-      decode-sum = omega (arith, room-fits n (length (decodeText bytes)) (length out - at) e q)
-
-      pub decode-done : (k : ℕ) (out₁ : List ℕ) → Laid (decodeText bytes) out at k out₁ → Wrote (decodeText bytes) out at (Next (at + n)) out₁
-      decode-done k out₁ l =
-          let z : at + n ≡ k = omega (arith, l .next, room-fits n (length (decodeText bytes)) (length out - at) e q) in
-          rw z (wrote-laid (decodeText bytes) out at decode-room l)
+      pub decode-done : (k : ℕ) (out₁ : List ℕ) → Laid (decodeText bytes) out at k out₁ → Wrote (decodeText bytes) out at (Next k) out₁
+      decode-done k out₁ l = wrote-laid (decodeText bytes) out at decode-room l

@@ -2,13 +2,15 @@
 use mathlib.Core.Path.{_≡_, refl, sym, ap, _∙_}
 use mathlib.Core.Bool.{Bool, true, false, cond}
 use mathlib.Core.List.{List, [], _∷_, _++_, append-assoc, flatMap}
-use Prim.Native.Nat.{ℕ, zero, suc, _+_, _-_, _/_, _≤_, _<_, zero-le}
+use Prim.Native.Nat.{ℕ, zero, suc, _+_, _*_, _-_, _/_, _≤_, _<_, zero-le}
 use native.Mathlib.Omega.{arith}
 use native.Mathlib.Numerals.{add-one}
 use lib.ListN.{length, getD, take, drop, length-append, take-append-drop, drop-of-length-le}
 use lib.Seq.{drop-cons, drop-drop, take-add, length-take-le}
 use lib.Dec.{eqb, ltb, leb}
-use borrow.Author.Tests.{eq-eqb, ne-eqb, lt-ltb, le-ltb, leb-true, ltb-false}
+use mir.Syntax.{w8}
+use mir.Val.{Fits}
+use borrow.Author.Tests.{eq-eqb, ne-eqb, lt-ltb, le-ltb, le-leb, leb-true, ltb-false}
 use Rattle.utf_8.specs.declared.TextEnd.{TextEnd}
 use Rattle.utf_8.specs.declared.TextEnd.the-variants.{Terminated, Unterminated}
 use Rattle.utf_8.specs.Utf8.{utf8Of, encoded}
@@ -71,6 +73,15 @@ module _ (bytes : List ℕ) (i : ℕ) where
       ap decodeText (sym (take-append-drop (e - i) (drop i bytes)))
       ∙ decode-append (take (e - i) (drop i bytes)) (drop (e - i) (drop i bytes))
       ∙ ap (λ (l : List ℕ). decodeText (take (e - i) (drop i bytes)) ++ decodeText l) (drop-drop (e - i) i bytes ∙ ap (λ (n : ℕ). drop n bytes) k)
+
+-- no byte gives more than three
+text-three : (bytes : List ℕ) → ((i : ℕ) → getD bytes i 0 < 256) → length (decodeText bytes) ≤ 3 * length bytes
+unfolding decodeText flatMap
+text-three [] h = omega arith
+text-three (b ∷ bs) h = rw length-append (omega (arith, byte-short b (h 0), text-three bs (λ i. h (suc i))))
+
+pub fits-short : (bytes : List ℕ) (room : ℕ) → ((i : ℕ) → Fits w8 (getD bytes i 0)) → length bytes ≤ room / 3 → true ≡ leb (length (decodeText bytes)) room
+fits-short bytes room f h = sym (le-leb _ room (omega (arith, text-three bytes (λ i. f i .fits))))
 
 pub decode-some : (bytes : List ℕ) → (length bytes ≡ 0 → ⊥) → 0 < length (decodeText bytes)
 unfolding decodeText flatMap

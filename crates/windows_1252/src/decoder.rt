@@ -2,6 +2,7 @@
 ghost use mathlib.Core.Path.{_≡_};
 ghost use Prim.Native.Nat.{_+_, _<_, _≤_};
 ghost use lib.ListN.{length};
+ghost use lib.Dec.{leb};
 ghost use Rattle.utf_8.specs.Buffer.{Wrote, roomFor};
 ghost use Rattle.windows_1252.specs.Index.{codePoints};
 ghost use Rattle.windows_1252.specs.Text.{stringEnd, decodeByte, decodeText, Laid};
@@ -126,6 +127,19 @@ fn put_text(bytes: &[u8], out: &mut [u8], at: usize) -> usize
     next
 }
 
+// Whether the text of some bytes takes at most `room` bytes. No byte gives more than three, so a short text is not measured.
+fn fits_in(bytes: &[u8], room: usize) -> bool
+    ensures { λ r. ⌜ r ≡ leb (length (decodeText (now (bytes .entry)))) room ⌝ }
+{
+    if bytes.len() <= room / 3 {
+        return true;
+    }
+    match decoded_len(bytes, room) {
+        Room::Fits(_) => true,
+        Room::Over => false,
+    }
+}
+
 // Writes the text of some bytes from `at` on, all of it or nothing. An empty text fits anywhere.
 pub fn decode(bytes: &[u8], out: &mut [u8], at: usize) -> Put
     ensures { λ r. ⌜ Wrote (decodeText (now (bytes .entry))) (now (out .entry)) at r (now (out .exit)) ⌝ }
@@ -136,11 +150,8 @@ pub fn decode(bytes: &[u8], out: &mut [u8], at: usize) -> Put
     if out.len() < at {
         return Put::Full;
     }
-    match decoded_len(bytes, out.len() - at) {
-        Room::Fits(len) => {
-            put_text(bytes, out, at);
-            Put::Next(at + len)
-        }
-        Room::Over => Put::Full,
+    if fits_in(bytes, out.len() - at) {
+        return Put::Next(put_text(bytes, out, at));
     }
+    Put::Full
 }

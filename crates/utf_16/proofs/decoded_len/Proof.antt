@@ -1,5 +1,4 @@
 -- `utf_16::decoded_len` meets its contract. The loop's invariant: `used` and the length of the text from `at` on are the length of the whole text. Assumes nothing.
-use borrow.Author.Needs.{needs}
 use mathlib.Core.Path.{_≡_}
 use Prim.Native.Nat.{_+_, _-_, _≤_}
 use native.Mathlib.Omega.{arith}
@@ -7,7 +6,9 @@ use lib.ListN.{length, drop}
 use Rattle.utf_8.specs.Utf8.{utf8Of}
 use Rattle.utf_16.specs.Decode.{decodeScalars, decodeText}
 use Rattle.utf_16.proofs.Decodes.{nothing-left}
-use Rattle.utf_16.proofs.Runs.{size-again, size-over, size-end}
+use Rattle.utf_16.proofs.Runs.{size-end}
+use Rattle.utf_16.proofs.Blocks.{part-again, part-over}
+use borrow.Author.Needs.{needs}
 use Rattle.utf_16.proofs.decoded_len.Statement.{statement}
 use Rattle.utf_16.proofs.decoded_len.Tie as tie
 
@@ -22,17 +23,14 @@ abbrev μ-loop : tie.MeasureT-loop
 loop-holds : tie.Need-loop-holds Inv-loop μ-loop
 loop-holds c = (search needs, search needs, omega arith)
 
-scalar-16-requires : tie.Need-scalar-16-requires Inv-loop μ-loop
-scalar-16-requires c κs = search needs
-
-utf8-len-requires : tie.Need-utf8-len-requires Inv-loop μ-loop
-utf8-len-requires c κs = search needs
+measure-requires : tie.Need-measure-requires Inv-loop μ-loop
+measure-requires c κs = search needs
 
 sub-if1 : tie.Need-sub-if1 Inv-loop μ-loop
 sub-if1 c = search needs
 
 returns : tie.Need-returns Inv-loop μ-loop
-returns c = search (size-over decodeScalars utf8Of nothing-left)
+returns c = search part-over
 
 add-used : tie.Need-add-used Inv-loop μ-loop
 add-used c = search needs
@@ -41,7 +39,7 @@ loop-less : tie.Need-loop-less Inv-loop μ-loop
 loop-less c = search needs
 
 loop-again : tie.Need-loop-again Inv-loop μ-loop
-loop-again c = (search needs, search needs, search (size-again decodeScalars utf8Of nothing-left))
+loop-again c = (search needs, search needs, search part-again)
 
 returns-2 : tie.Need-returns-2 Inv-loop μ-loop
 returns-2 c = search (size-end decodeScalars utf8Of nothing-left)
@@ -53,8 +51,7 @@ decoded-len-spec =
     Inv-loop
     μ-loop
     loop-holds
-    scalar-16-requires
-    utf8-len-requires
+    measure-requires
     sub-if1
     returns
     add-used

@@ -1,20 +1,14 @@
 -- `utf_16::encode` meets its contract: a text that fits, and one that does not. Assumes nothing.
 use borrow.Author.Needs.{needs}
-use Rattle.utf_16.proofs.Runs.{full-all, fits-all}
+use Rattle.utf_16.proofs.Runs.{fits-all, full-all}
 use Rattle.utf_16.proofs.encode.Statement.{statement}
 use Rattle.utf_16.proofs.encode.Tie as tie
 
-encoded-len-requires : tie.Need-encoded-len-requires
-encoded-len-requires c κs = search needs
-
-enum-told : tie.Need-enum-told
-enum-told c = search needs
+encoded-fits-in-requires : tie.Need-encoded-fits-in-requires
+encoded-fits-in-requires c κs = search needs
 
 write-16-requires : tie.Need-write-16-requires
 write-16-requires c κs = search fits-all
-
-enum-told-2 : tie.Need-enum-told-2
-enum-told-2 c = search needs
 
 same-length : tie.Need-same-length
 same-length c = search needs
@@ -27,12 +21,4 @@ returns-2 c = search full-all
 
 pub encode-spec : {M : Type 1} → statement M
 encode-spec =
-    tie.close
-    (tie.spec
-    encoded-len-requires
-    enum-told
-    write-16-requires
-    enum-told-2
-    same-length
-    returns
-    returns-2)
+    tie.close (tie.spec encoded-fits-in-requires write-16-requires same-length returns returns-2)

@@ -1,31 +1,28 @@
--- `utf_16::scalar_8` meets its contract: each exit is a law of the UTF-8 decoder. Assumes nothing.
-use Rattle.utf_16.proofs.Scalars.{scalar-code, scalar-error, scalar-end}
+-- `utf_16::scalar_8` meets its contract: an ASCII byte is its own scalar value. Assumes nothing.
+use Rattle.utf_16.proofs.Scalars.{scalar-ascii}
 use borrow.Author.Needs.{needs}
 use Rattle.utf_16.proofs.scalar_8.Statement.{statement}
 use Rattle.utf_16.proofs.scalar_8.Tie as tie
 
-next-requires : tie.Need-next-requires
-next-requires c κs = search needs
+shared-slice-read-first : tie.Need-shared-slice-read-first
+shared-slice-read-first c = search needs
 
-enum-known-code : tie.Need-enum-known-code
-enum-known-code c = search needs
+cast-t7 : tie.Need-cast-t7
+cast-t7 c = search needs
 
-enum-known-next : tie.Need-enum-known-next
-enum-known-next c = search needs
-
-enum-told : tie.Need-enum-told
-enum-told c = search needs
+add-t8 : tie.Need-add-t8
+add-t8 c = search needs
 
 returns : tie.Need-returns
-returns c = search scalar-code
+returns c = search scalar-ascii
+
+long-scalar-8-requires : tie.Need-long-scalar-8-requires
+long-scalar-8-requires c κs = search needs
 
 returns-2 : tie.Need-returns-2
-returns-2 c = search scalar-error
-
-returns-3 : tie.Need-returns-3
-returns-3 c = search scalar-end
+returns-2 c = search needs
 
 pub scalar-8-spec : {M : Type 1} → statement M
 scalar-8-spec =
     tie.close
-    (tie.spec next-requires enum-known-code enum-known-next enum-told returns returns-2 returns-3)
+    (tie.spec shared-slice-read-first cast-t7 add-t8 returns long-scalar-8-requires returns-2)

@@ -6,7 +6,8 @@ use lib.ListN.{length, drop}
 use Rattle.utf_8.specs.Utf8.{scalars}
 use Rattle.utf_16.specs.Encode.{utf16Of, encodeText}
 use Rattle.utf_16.proofs.Scalars.{no-scalars}
-use Rattle.utf_16.proofs.Runs.{Left, left-all, write-again, write-never, write-end}
+use Rattle.utf_16.specs.Step.{Left}
+use Rattle.utf_16.proofs.Runs.{left-all, write-again, write-never, write-end}
 use Rattle.utf_16.proofs.write_16.Statement.{statement}
 use Rattle.utf_16.proofs.write_16.Tie as tie
 
