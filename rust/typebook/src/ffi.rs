@@ -513,8 +513,9 @@ impl<'a> Checked<'a> {
     pub(crate) fn new(bytes: Cow<'a, [u8]>) -> Result<Self, u8> {
         match total::check_book(&bytes, bytes.len()) {
             0 => {
-                // Four slots a type serve well; a block that isn't a type leaves more room.
-                let mut index = vec![0; 4 * (bytes.len() / 512)];
+                // Four slots a type serve well; more would only fill the processor's caches.
+                let types = bytes.chunks_exact(512).filter(|block| block[0] == 1).count();
+                let mut index = vec![0; 4 * types];
                 total::fill_index(&bytes, &mut index);
                 Ok(Self { bytes, index })
             }
