@@ -24,7 +24,7 @@
  * returned 1. With any other book or root nothing is known of what they do. `index` may hold anything and may be empty; one that
  * gateway_fill_index made of the book makes look-ups quick. The other calls take any bytes and any numbers.
  *
- * A call takes up to 256 KiB of stack (measured), and no other memory.
+ * A call takes up to 320 KiB of stack (measured: a read of 63 arrays in one another takes the most), and no other memory.
  */
 #ifndef GATEWAY_H
 #define GATEWAY_H
