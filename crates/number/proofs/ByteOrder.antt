@@ -8,8 +8,8 @@ use lib.Pow.{pow-add}
 use native.Mathlib.Numerals.{add-one}
 use native.Mathlib.Omega.{arith}
 use lib.ListN.{length, getD, take, drop, set, length-drop, take-append-drop}
-use lib.Seq.{take-all, take-add, drop-cons, getD-drop, length-take-le, take-suc-set, drop-set-lt}
-use mir.Syntax.{w8}
+use lib.Seq.{take-all, take-add, drop-length, drop-cons, getD-drop, length-take-le, take-suc-set, drop-set-lt}
+use mir.Syntax.{w8, w32}
 use mir.Val.{Fits}
 use Rattle.number.specs.Le.{Bytes, leValue, leBytes, leStored}
 
@@ -82,34 +82,34 @@ bytes-of s f i = f i .fits
 pub bytes-drop : (k : ℕ) (s : List ℕ) → Bytes s → Bytes (drop k s)
 bytes-drop k s h i = rw (getD-drop k s i 0) (h (k + i))
 
--- ---- fewer than four bytes
+-- ---- a number folded from its last byte down
 
-pub no-byte : (s : List ℕ) → length s ≡ 0 → 0 ≡ leValue s
-unfolding leValue
-no-byte [] l = refl
-no-byte (x ∷ s) l = absurd (omega arith)
+module _ (s : List ℕ) where
+  pub fold-start : 0 ≡ leValue (drop (length s) s)
+  unfolding leValue
+  fold-start = rw (drop-length s)
 
-pub one-byte : (s : List ℕ) → length s ≡ 1 → (a : ℕ) → a ≡ getD s 0 0 → a ≡ leValue s
-unfolding leValue
-one-byte [] l a ea = absurd (omega arith)
-one-byte (x ∷ []) l a ea = omega arith
-one-byte (x ∷ y ∷ s) l a ea = absurd (omega arith)
+  module _ (i value : ℕ) (inv : value ≡ leValue (drop i s)) where
+    pub fold-end : i ≤ 0 → value ≡ leValue s
+    fold-end h = let e : i ≡ 0 = omega arith in inv ∙ rw e
 
-pub two-bytes : (s : List ℕ) → length s ≡ 2 → (a b : ℕ) → a ≡ getD s 0 0 → b ≡ getD s 1 0 → a + 256 * b ≡ leValue s
-unfolding leValue
-two-bytes [] l a b ea eb = absurd (omega arith)
-two-bytes (x ∷ []) l a b ea eb = absurd (omega arith)
-two-bytes (x ∷ y ∷ []) l a b ea eb = omega arith
-two-bytes (x ∷ y ∷ z ∷ s) l a b ea eb = absurd (omega arith)
+    pub fold-more : 0 < i → i ≤ length s → (x : ℕ) → x ≡ getD s (i - 1) 0 → x + 256 * value ≡ leValue (drop (i - 1) s)
+    unfolding leValue
+    fold-more h l x e =
+        let k : suc (i - 1) ≡ i = omega arith in
+        let m : i - 1 < length s = omega arith in
+        let d : drop (i - 1) s ≡ getD s (i - 1) 0 ∷ drop i s = drop-cons s (i - 1) 0 m ∙ ap (λ (j : ℕ). getD s (i - 1) 0 ∷ drop j s) k in
+        rw (d, e, inv)
 
-pub three-bytes : (s : List ℕ) → length s < 4 → (length s ≡ 0 → ⊥) → (length s ≡ 1 → ⊥) → (length s ≡ 2 → ⊥) → (a b c : ℕ) → a ≡ getD s 0 0 → b ≡ getD s 1 0 → c ≡ getD s 2 0
-    → a + 256 * b + 65536 * c ≡ leValue s
-unfolding leValue
-three-bytes [] l n0 n1 n2 a b c ea eb ec = absurd (n0 refl)
-three-bytes (x ∷ []) l n0 n1 n2 a b c ea eb ec = absurd (n1 refl)
-three-bytes (x ∷ y ∷ []) l n0 n1 n2 a b c ea eb ec = absurd (n2 refl)
-three-bytes (x ∷ y ∷ z ∷ []) l n0 n1 n2 a b c ea eb ec = omega arith
-three-bytes (x ∷ y ∷ z ∷ w ∷ s) l n0 n1 n2 a b c ea eb ec = absurd (omega arith)
+    module _ (l : i ≤ length s) (m : length s < 4) (h : 0 < i) (b : (k : ℕ) → Fits w8 (getD s k 0)) where
+      fold-small : value < 65536
+      fold-small = rw inv (leValue-below 2 (drop i s) (bytes-drop i s (bytes-of s b)) (simp length-drop (omega arith)))
+
+      pub fold-mul : Fits w32 (256 * value)
+      fold-mul = record { fits = omega (arith, fold-small) }
+
+      pub fold-add : (x : ℕ) → x < 256 → Fits w32 (x + 256 * value)
+      fold-add x q = record { fits = omega (arith, fold-small) }
 
 -- ---- four bytes at once, and eight as twice four
 

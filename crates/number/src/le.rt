@@ -11,21 +11,18 @@ fn wide(x: u8) -> u32
     x as u32
 }
 
-// The number in fewer than four bytes, the lowest first: without a loop, since names end in such a part.
+// The number in fewer than four bytes, the lowest first.
 fn le_short(slice: &[u8]) -> u32
     requires { ⌜ length (now slice) < 4 ⌝ }
     ensures { λ r. ⌜ r ≡ leValue (now (slice .entry)) ⌝ }
 {
-    if slice.len() == 0 {
-        return 0;
+    let mut value: u32 = 0;
+    let mut i = slice.len();
+    while 0 < i {
+        i -= 1;
+        value = wide(slice[i]) + 256 * value;
     }
-    if slice.len() == 1 {
-        return wide(slice[0]);
-    }
-    if slice.len() == 2 {
-        return wide(slice[0]) + 256 * wide(slice[1]);
-    }
-    wide(slice[0]) + 256 * wide(slice[1]) + 65536 * wide(slice[2])
+    value
 }
 
 // The number in the first four bytes, the lowest first; in all of them where there are fewer.

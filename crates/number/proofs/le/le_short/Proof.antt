@@ -1,100 +1,60 @@
 -- `number::le::le_short` meets its contract. Assumes nothing.
-use Rattle.number.proofs.ByteOrder.{no-byte, one-byte, two-bytes, three-bytes}
 use borrow.Author.Needs.{needs}
+use mathlib.Core.Path.{_≡_}
+use Prim.Native.Nat.{_≤_}
+use lib.ListN.{length, drop}
+use Rattle.number.specs.Le.{leValue}
+use Rattle.number.proofs.ByteOrder.{fold-start, fold-end, fold-more, fold-mul, fold-add}
 use Rattle.number.proofs.le.le_short.Statement.{statement}
 use Rattle.number.proofs.le.le_short.Tie as tie
 
-ruleset exits = (no-byte, one-byte, two-bytes, three-bytes)
+abbrev Inv-loop : tie.InvT-loop
+Inv-loop slice value₀ i₀ value i =
+    (i ≤ length slice) × (value ≡ leValue (drop i slice))
 
-returns : tie.Need-returns
-returns c = search exits
+abbrev μ-loop : tie.MeasureT-loop
+μ-loop slice value₀ i₀ value i =
+    i
 
-shared-slice-read-wide : tie.Need-shared-slice-read-wide
+loop-holds : tie.Need-loop-holds Inv-loop μ-loop
+loop-holds c = (search needs, fold-start (c .before .args .slice .now))
+
+sub-i : tie.Need-sub-i Inv-loop μ-loop
+sub-i c = search needs
+
+shared-slice-read-wide : tie.Need-shared-slice-read-wide Inv-loop μ-loop
 shared-slice-read-wide c = search needs
 
-wide-requires : tie.Need-wide-requires
+wide-requires : tie.Need-wide-requires Inv-loop μ-loop
 wide-requires c κs = search needs
 
-returns-2 : tie.Need-returns-2
-returns-2 c = search exits
+mul-value : tie.Need-mul-value Inv-loop μ-loop
+mul-value c = search fold-mul
 
-shared-slice-read-wide-2 : tie.Need-shared-slice-read-wide-2
-shared-slice-read-wide-2 c = search needs
+add-value : tie.Need-add-value Inv-loop μ-loop
+add-value c = search fold-add
 
-wide-requires-2 : tie.Need-wide-requires-2
-wide-requires-2 c κs = search needs
+loop-less : tie.Need-loop-less Inv-loop μ-loop
+loop-less c = search needs
 
-shared-slice-read-wide-3 : tie.Need-shared-slice-read-wide-3
-shared-slice-read-wide-3 c = search needs
+loop-again : tie.Need-loop-again Inv-loop μ-loop
+loop-again c = (search needs, search fold-more)
 
-wide-requires-3 : tie.Need-wide-requires-3
-wide-requires-3 c κs = search needs
-
-mul-result : tie.Need-mul-result
-mul-result c = search needs
-
-add-result : tie.Need-add-result
-add-result c = search needs
-
-returns-3 : tie.Need-returns-3
-returns-3 c = search exits
-
-shared-slice-read-wide-4 : tie.Need-shared-slice-read-wide-4
-shared-slice-read-wide-4 c = search needs
-
-wide-requires-4 : tie.Need-wide-requires-4
-wide-requires-4 c κs = search needs
-
-shared-slice-read-wide-5 : tie.Need-shared-slice-read-wide-5
-shared-slice-read-wide-5 c = search needs
-
-wide-requires-5 : tie.Need-wide-requires-5
-wide-requires-5 c κs = search needs
-
-mul-result-2 : tie.Need-mul-result-2
-mul-result-2 c = search needs
-
-add-result-2 : tie.Need-add-result-2
-add-result-2 c = search needs
-
-shared-slice-read-wide-6 : tie.Need-shared-slice-read-wide-6
-shared-slice-read-wide-6 c = search needs
-
-wide-requires-6 : tie.Need-wide-requires-6
-wide-requires-6 c κs = search needs
-
-mul-result-3 : tie.Need-mul-result-3
-mul-result-3 c = search needs
-
-add-result-3 : tie.Need-add-result-3
-add-result-3 c = search needs
-
-returns-4 : tie.Need-returns-4
-returns-4 c = search exits
+returns : tie.Need-returns Inv-loop μ-loop
+returns c = search fold-end
 
 pub le-short-spec : {M : Type 1} → statement M
 le-short-spec =
     tie.close
     (tie.spec
-    returns
+    Inv-loop
+    μ-loop
+    loop-holds
+    sub-i
     shared-slice-read-wide
     wide-requires
-    returns-2
-    shared-slice-read-wide-2
-    wide-requires-2
-    shared-slice-read-wide-3
-    wide-requires-3
-    mul-result
-    add-result
-    returns-3
-    shared-slice-read-wide-4
-    wide-requires-4
-    shared-slice-read-wide-5
-    wide-requires-5
-    mul-result-2
-    add-result-2
-    shared-slice-read-wide-6
-    wide-requires-6
-    mul-result-3
-    add-result-3
-    returns-4)
+    mul-value
+    add-value
+    loop-less
+    loop-again
+    returns)
