@@ -2,10 +2,7 @@
 use mathlib.Core.Path.{_≡_, refl, sym, ap, _∙_}
 use mathlib.Core.Bool.{Bool, true, false}
 use mathlib.Core.List.{List}
-use Prim.Native.Nat.{ℕ, _+_, _*_, _/_, _≤_, _<_}
-use native.Mathlib.Nat.{mul-lt-mul-of-pos-right}
-use mir.Syntax.{w64}
-use mir.Val.{Fits}
+use Prim.Native.Nat.{ℕ, _+_, _<_}
 use native.Mathlib.Omega.{arith}
 use lib.ListN.{length, getD, set, replicate, length-set, length-replicate, getD-replicate, List·getD-eq-default}
 use lib.Seq.{getD-set-same, getD-set-other}
@@ -17,20 +14,6 @@ use Rattle.typebook.specs.Book.{isNamed, kindOf}
 use Rattle.typebook.specs.Find.{searched, find, FoundBy, TypeBlock, Slots, IndexOf}
 use Rattle.typebook.specs.Probe.{Probed, Entered}
 use Rattle.typebook.proofs.Finds.{find-named, unique-find}
-
--- ---- `first_slot`
-
-module _ (h len : ℕ) (b : h < 0x1_0000_0000) (z : 0 < len) where
-  scaled : h * len < 0x1_0000_0000 * len
-  scaled = mul-lt-mul-of-pos-right b z
-
-  pub slot-fits : len ≤ 0xffff_ffff → Fits w64 (h * len)
-  slot-fits l = record { fits = omega (arith, scaled) }
-
-  pub slot-below : h * len / 0x1_0000_0000 < len
-  slot-below = omega (arith, scaled)
-
--- ---- `believe`, `probe`
 
 module _ (book name : List ℕ) where
   pub probed-none : Probed book name Nothing

@@ -1,8 +1,8 @@
 // What the blocks of a type book say. A block is 512 bytes; document 01, "The type book", has its layout.
 // Every function takes any bytes and any block number: past the end a byte is 0 and a part is empty.
 ghost use mathlib.Core.Path.{_≡_};
-ghost use Prim.Native.Nat.{_+_, _*_, _/_, _%_, _≤_, _<_};
-ghost use lib.ListN.{length, take, drop};
+ghost use Prim.Native.Nat.{_+_, _*_, _/_, _%_, _<_};
+ghost use lib.ListN.{take, drop};
 ghost use lib.Dec.{eqb};
 ghost use Rattle.number.specs.TypeId.{idOf};
 ghost use Rattle.typebook.specs.Book.{blocks as blocksOf, byteAt, u32At, kindOf, isType, flagOf, dimensionsOf, typeIdOf, offsetOf, sizeOf, fieldsOf, entriesOf, countOf, valueOf, nameOf, typeNameOf, sameName};
@@ -183,15 +183,7 @@ pub fn type_name(book: &[u8], n: u32) -> &[u8]
     counted(book, n, 53, 254)
 }
 
-// Whether at most four bytes of two names are the same, from byte i on.
-fn same_part(a: &[u8], b: &[u8], i: usize) -> bool
-    requires { ⌜ (length (now a) ≡ length (now b)) × (i ≤ length (now a)) ⌝ }
-    ensures { λ r. ⌜ r ≡ sameName (take 4 (drop i (now (a .entry)))) (take 4 (drop i (now (b .entry)))) ⌝ }
-{
-    le_u32(&a[i..]) == le_u32(&b[i..])
-}
-
-// Whether two names are the same bytes: four at a time, the last four or fewer after the loop.
+// Whether two names are the same bytes.
 pub fn same_name(a: &[u8], b: &[u8]) -> bool
     ensures { λ r. ⌜ r ≡ sameName (now (a .entry)) (now (b .entry)) ⌝ }
 {
@@ -199,11 +191,11 @@ pub fn same_name(a: &[u8], b: &[u8]) -> bool
         return false;
     }
     let mut i = 0;
-    while 4 < a.len() - i {
-        if !same_part(a, b, i) {
+    while i < a.len() {
+        if a[i] != b[i] {
             return false;
         }
-        i += 4;
+        i += 1;
     }
-    same_part(a, b, i)
+    true
 }

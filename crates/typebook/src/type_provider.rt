@@ -6,7 +6,6 @@ ghost use Rattle.typebook.specs.Book.{isNamed};
 ghost use Rattle.typebook.specs.Find.{searched as searchedOf, find as findIn, FoundBy, IndexOf};
 ghost use Rattle.typebook.specs.Probe.{Probed, Entered};
 use crate::block;
-use number::le::le_u32;
 
 // A type block's number, or that the book has no type of that name.
 pub enum Found {
@@ -56,39 +55,25 @@ pub fn find(book: &[u8], name: &[u8]) -> Found
     Found::Nothing
 }
 
-// Four more bytes of a name go into its hash: both halves of a product count, since the low bits of its low half depend only
-// on the low bits of the bytes.
-fn mixed(h: u64, w: u32) -> u64
-    requires { ⌜ h < 0x1_0000_0000 ⌝ }
-    ensures { λ r. ⌜ r < 0x1_0000_0000 ⌝ }
+fn wide(x: u8) -> u64
+    ensures { λ r. ⌜ r < 256 ⌝ }
 {
-    let p = (h + w as u64) % 0x1_0000_0000 * 0x9e37_79b1;
-    (p + p / 0x1_0000_0000) % 0x1_0000_0000
+    x as u64
 }
 
-// A hash of all bytes of a name, four at a time.
-fn hash(name: &[u8]) -> u64
-    ensures { λ r. ⌜ r < 0x1_0000_0000 ⌝ }
-{
-    let mut h: u64 = 0;
-    let mut i = 0;
-    while 4 < name.len() - i {
-        h = mixed(h, le_u32(&name[i..]));
-        i += 4;
-    }
-    mixed(h, le_u32(&name[i..]))
-}
-
-// The slot of an index of len slots at which a name is tried first: its hash, scaled to the length. No index is so long that
-// the product could wrap; slot 0 then.
+// The slot of an index of len slots at which a name is tried first: a product hash of all its bytes.
 fn first_slot(name: &[u8], len: usize) -> usize
     requires { ⌜ 0 < len ⌝ }
     ensures { λ r. ⌜ r < len ⌝ }
 {
-    if 0xffff_ffff < len {
-        return 0;
+    let mut h: u64 = 0;
+    let mut i = 0;
+    while i < name.len() {
+        h = (h + wide(name[i])) * 0x9e37_79b1 % 0x1_0000_0000;
+        i += 1;
     }
-    (hash(name) * (len as u64) / 0x1_0000_0000) as usize
+    // The high bits depend on all bytes, the low ones only on the low bits of each.
+    (h / 1024 % (len as u64)) as usize
 }
 
 fn next_slot(at: usize, len: usize) -> usize

@@ -22,11 +22,11 @@ returns c = search same-lengths
 loop-holds : tie.Need-loop-holds Inv-loop μ-loop
 loop-holds c = (search needs, refl)
 
-sub-loop : tie.Need-sub-loop Inv-loop μ-loop
-sub-loop c = search needs
+shared-slice-read-if2 : tie.Need-shared-slice-read-if2 Inv-loop μ-loop
+shared-slice-read-if2 c = search needs
 
-same-part-requires : tie.Need-same-part-requires Inv-loop μ-loop
-same-part-requires c κs = search needs
+shared-slice-read-if2-2 : tie.Need-shared-slice-read-if2-2 Inv-loop μ-loop
+shared-slice-read-if2-2 c = search needs
 
 returns-2 : tie.Need-returns-2 Inv-loop μ-loop
 returns-2 c = search same-differ
@@ -40,9 +40,6 @@ loop-less c = search needs
 loop-again : tie.Need-loop-again Inv-loop μ-loop
 loop-again c = (search needs, search same-again)
 
-same-part-requires-2 : tie.Need-same-part-requires-2 Inv-loop μ-loop
-same-part-requires-2 c κs = search needs
-
 returns-3 : tie.Need-returns-3 Inv-loop μ-loop
 returns-3 c = search same-end
 
@@ -54,11 +51,10 @@ same-name-spec =
     μ-loop
     returns
     loop-holds
-    sub-loop
-    same-part-requires
+    shared-slice-read-if2
+    shared-slice-read-if2-2
     returns-2
     add-i
     loop-less
     loop-again
-    same-part-requires-2
     returns-3)
