@@ -105,7 +105,7 @@ fn believe(book: &[u8], name: &[u8], slot: u32) -> Found
 }
 
 // The block of that name that the index leads to: up to the first empty slot.
-fn probe(book: &[u8], index: &[u32], name: &[u8]) -> Found
+pub fn probe(book: &[u8], index: &[u32], name: &[u8]) -> Found
     ensures { λ r. ⌜ Probed (now (book .entry)) (now (name .entry)) r ⌝ }
 {
     if index.len() == 0 {
