@@ -15,7 +15,7 @@ use mir.Val.{Fits}
 use Rattle.typebook.specs.declared.type_provider.Found.{Found}
 use Rattle.typebook.specs.declared.type_provider.Found.the-variants as found
 use Rattle.typebook.specs.Book.{blocks, kindOf, isType, dimensionsOf, fieldsOf, nameOf, typeNameOf, sameName}
-use Rattle.typebook.specs.Find.{find, FoundBy}
+use Rattle.typebook.specs.Find.{find}
 use Rattle.typebook.proofs.Finds.{find-named, named-name}
 use Rattle.type_category.specs.declared.type_category.AdsTypeCategory.{AdsTypeCategory}
 use Rattle.type_category.specs.declared.type_category.AdsTypeCategory.the-variants as category
@@ -25,7 +25,7 @@ use Rattle.book_check.specs.Check.{ValidBook}
 use Rattle.book_check.proofs.Valid.{valid-size, valid-below, valid-type}
 use Rattle.resolvers.specs.declared.Resolved.the-variants.{Lacks}
 use Rattle.resolvers.specs.Resolve.{isFollowed, resolveAlias}
-use Rattle.resolvers.proofs.Chains.{alias-breaks, follow-breaks, found-typed}
+use Rattle.resolvers.proofs.Chains.{alias-breaks, follow-breaks, found-type}
 use Rattle.walks.specs.declared.Parts.{Parts}
 use Rattle.walks.specs.declared.Parts.the-variants.{Element, Fields, Nothing}
 use Rattle.walks.specs.Walk.{partsKind, after, partsIn, partsOf}
@@ -118,9 +118,13 @@ part-is book width t v y b m = by (partsKind (categoryOf book width t)) refl m
 pub find-name : (book name : List ℕ) (t : ℕ) → find book name ≡ found.At t → nameOf book t ≡ name
 find-name book name t e = named-name book name t (find-named book name t e .named)
 
--- what block b names is found below block 65,536
-pub found-below : (book : List ℕ) → ValidBook book → (b : ℕ) (name : List ℕ) → name ≡ typeNameOf book b → (f : Found) → FoundBy book name f → (t : ℕ) → f ≡ found.At t → t < 65536
-found-below book v b name en f ef t h = type-below book t v (found-typed book v b name en f ef t h)
+-- what block b names is a type block, below block 65,536
+module _ (book : List ℕ) (b : ℕ) (f : Found) (ef : f ≡ find book (typeNameOf book b)) (t : ℕ) (h : f ≡ found.At t) where
+  pub found-typed : isType book t ≡ true
+  found-typed = found-type book (typeNameOf book b) t (sym ef ∙ h)
+
+  pub found-below : ValidBook book → t < 65536
+  found-below v = type-below book t v found-typed
 
 -- ---- names among the listed
 

@@ -12,14 +12,13 @@ use borrow.Author.Tests.{eq-eqb, ne-eqb}
 use Rattle.typebook.specs.declared.type_provider.Found.{Found}
 use Rattle.typebook.specs.declared.type_provider.Found.the-variants.{At, Nothing}
 use Rattle.typebook.specs.Book.{isType, nameOf, typeNameOf, sameName}
-use Rattle.typebook.specs.Find.{find, FoundBy}
+use Rattle.typebook.specs.Find.{find}
 use Rattle.typebook.proofs.Names.{same-eq, eq-same}
 use Rattle.book_check.specs.Check.{ValidBook}
 use Rattle.book_check.proofs.Valid.{valid-own}
 use Rattle.resolvers.specs.declared.Resolved.{Resolved}
 use Rattle.resolvers.specs.declared.Resolved.the-variants.{Base, Lacks, Endless}
 use Rattle.resolvers.specs.Resolve.{onward, resolveAlias}
-use Rattle.resolvers.proofs.Chains.{found-is}
 use Rattle.walks.specs.declared.Event.{Event}
 use Rattle.walks.specs.declared.Event.the-variants.{Old, Lacking, New, Long, Full}
 use Rattle.walks.specs.declared.Taken.{Taken}
@@ -164,9 +163,9 @@ module _ (book : List ℕ) (width : ℕ) (ls : List ℕ) (left : ℕ) {sc sc′ 
   seen-after : {w : Walk} (l : Left book width sc ls left depth w) (x : List ℕ) → has (l .v) x ≡ seenBy book sc′ ls x (find book x)
   seen-after l x = l .seen pos x ∙ seen-marks book ls sc sc′ (took .marks) x (find book x)
 
-  is-seen : {w : Walk} (l : Left book width sc ls left depth w) (name : List ℕ) → name ≡ typeNameOf book (k .block) → (f : Found) → f ≡ find book name
-      → has (l .v) (typeNameOf book (k .block)) ≡ seenBy book sc′ ls name f
-  is-seen l name en f ef = rw (← en, ef) (seen-after l name)
+  is-seen : {w : Walk} (l : Left book width sc ls left depth w) (f : Found) → f ≡ find book (typeNameOf book (k .block))
+      → has (l .v) (typeNameOf book (k .block)) ≡ seenBy book sc′ ls (typeNameOf book (k .block)) f
+  is-seen l f ef = rw ef (seen-after l (typeNameOf book (k .block)))
 
   is-top : {w : Walk} (l : Left book width sc ls left depth w) → w ≡ walk book width left (l .v) (k .block ∷ stackOf sc′ (k .depth))
   is-top l = l .is ∙ ap (walk book width left (l .v)) (took .top)
@@ -177,18 +176,15 @@ module _ (book : List ℕ) (width : ℕ) (ls : List ℕ) (left : ℕ) {sc sc′ 
   length-top : length (stackOf sc depth) ≡ suc (length (stackOf sc′ (k .depth)))
   length-top = ap length (took .top)
 
-  module _ (valid : ValidBook book) (name : List ℕ) (en : name ≡ typeNameOf book (k .block)) (f : Found) (by : FoundBy book name f) where
-    ef : f ≡ find book name
-    ef = rw en (found-is book valid (k .block) name en f by)
-
-    stepped-old : seenBy book sc′ ls name f ≡ true → Stepped book width sc ls left depth (Old (k .depth)) sc′
+  module _ (f : Found) (ef : f ≡ find book (typeNameOf book (k .block))) where
+    stepped-old : seenBy book sc′ ls (typeNameOf book (k .block)) f ≡ true → Stepped book width sc ls left depth (Old (k .depth)) sc′
     unfolding work
     stepped-old h =
         record {
           goes = λ w l. record {
             v = l .v;
             seen = λ p. seen-after l;
-            is = is-top l ∙ walk-old book width (l .v) (stackOf sc′ (k .depth)) (k .block) left (is-seen l name en f ef ∙ h);
+            is = is-top l ∙ walk-old book width (l .v) (stackOf sc′ (k .depth)) (k .block) left (is-seen l f ef ∙ h);
             room = let a = l .room in let b = took .less in omega arith;
             valid = l .valid;
             parts = parts-after l;
@@ -196,7 +192,7 @@ module _ (book : List ℕ) (width : ℕ) (ls : List ℕ) (left : ℕ) {sc sc′ 
           falls = omega (arith, length-top);
         }
 
-    stepped-stop : seenBy book sc′ ls name f ≡ false → left ≡ 0 → Stepped book width sc ls left depth Full sc′
+    stepped-stop : seenBy book sc′ ls (typeNameOf book (k .block)) f ≡ false → left ≡ 0 → Stepped book width sc ls left depth Full sc′
     stepped-stop h z =
         record {
           goes = λ w l. record {
@@ -204,18 +200,18 @@ module _ (book : List ℕ) (width : ℕ) (ls : List ℕ) (left : ℕ) {sc sc′ 
             name = typeNameOf book (k .block);
             is =
                 is-top l ∙ ap (λ (n : ℕ). walk book width n (l .v) (k .block ∷ stackOf sc′ (k .depth))) z
-                ∙ walk-stop book width (l .v) (stackOf sc′ (k .depth)) (k .block) (is-seen l name en f ef ∙ h);
+                ∙ walk-stop book width (l .v) (stackOf sc′ (k .depth)) (k .block) (is-seen l f ef ∙ h);
           };
           falls = z;
         }
 
-    module _ (h : seenBy book sc′ ls name f ≡ false) (n : left ≡ 0 → ⊥) {w : Walk} (l : Left book width sc ls left depth w) (g : Found) (eg : f ≡ g) where
+    module _ (h : seenBy book sc′ ls (typeNameOf book (k .block)) f ≡ false) (n : left ≡ 0 → ⊥) {w : Walk} (l : Left book width sc ls left depth w) (g : Found) (eg : f ≡ g) where
       is-met : w ≡ met (k .block) (typeNameOf book (k .block)) (comesTo book width (k .block) g) (walk book width (left - 1) (typeNameOf book (k .block) ∷ l .v) (push book width (comesTo book width (k .block) g) (stackOf sc′ (k .depth))))
       is-met =
           let q : left ≡ suc (left - 1) = omega arith in
-          let e : find book (typeNameOf book (k .block)) ≡ g = ap (find book) (sym en) ∙ sym ef ∙ eg in
+          let e : find book (typeNameOf book (k .block)) ≡ g = sym ef ∙ eg in
           is-top l ∙ ap (λ (n : ℕ). walk book width n (l .v) (k .block ∷ stackOf sc′ (k .depth))) q
-          ∙ walk-fresh book width (l .v) (stackOf sc′ (k .depth)) (k .block) (left - 1) (is-seen l name en f ef ∙ h)
+          ∙ walk-fresh book width (l .v) (stackOf sc′ (k .depth)) (k .block) (left - 1) (is-seen l f ef ∙ h)
           ∙ ap (λ (g : Found). met (k .block) (typeNameOf book (k .block)) (comesTo book width (k .block) g) (walk book width (left - 1) (typeNameOf book (k .block) ∷ l .v) (push book width (comesTo book width (k .block) g) (stackOf sc′ (k .depth))))) e
 
     -- the book defines it
@@ -225,7 +221,7 @@ module _ (book : List ℕ) (width : ℕ) (ls : List ℕ) (left : ℕ) {sc sc′ 
       step-marked g eg h = stepped-old (rw ft (sym eg ∙ h))
 
       module _ (g : Bool) (eg : g ≡ markedIn sc′ t) (h : g ≡ false) where
-        fresh : seenBy book sc′ ls name f ≡ false
+        fresh : seenBy book sc′ ls (typeNameOf book (k .block)) f ≡ false
         unfolding seenBy
         fresh = rw ft (sym eg ∙ h)
 
@@ -235,7 +231,7 @@ module _ (book : List ℕ) (width : ℕ) (ls : List ℕ) (left : ℕ) {sc sc′ 
         pub step-new : {sc″ : List ℕ} {r : Event} → (left ≡ 0 → ⊥) → Settles book width sc′ (k .depth) t r sc″ → Stepped book width sc ls left depth r sc″
         unfolding work
         step-new {sc″} {r} n x =
-            let ey : find book (typeNameOf book (k .block)) ≡ At t = ap (find book) (sym en) ∙ sym ef ∙ ft in
+            let ey : find book (typeNameOf book (k .block)) ≡ At t = sym ef ∙ ft in
             let p : 0 < left = omega (arith, n) in
             record {
               goes = λ w l.
@@ -246,15 +242,15 @@ module _ (book : List ℕ) (width : ℕ) (ls : List ℕ) (left : ℕ) {sc sc′ 
             }
 
     -- the book lacks it
-    module _ (ft : f ≡ Nothing) where
+    module _ (ft : f ≡ Nothing) (name : List ℕ) (en : name ≡ typeNameOf book (k .block)) where
       pub step-listed : (g : Bool) → g ≡ hasRef book ls name → g ≡ true → Stepped book width sc ls left depth (Old (k .depth)) sc′
       unfolding seenBy
-      step-listed g eg h = stepped-old (rw ft (sym eg ∙ h))
+      step-listed g eg h = stepped-old (rw (ft, ← en) (sym eg ∙ h))
 
       module _ (g : Bool) (eg : g ≡ hasRef book ls name) (h : g ≡ false) where
-        fresh′ : seenBy book sc′ ls name f ≡ false
+        fresh′ : seenBy book sc′ ls (typeNameOf book (k .block)) f ≡ false
         unfolding seenBy
-        fresh′ = rw ft (sym eg ∙ h)
+        fresh′ = rw (ft, ← en) (sym eg ∙ h)
 
         pub step-full′ : left ≡ 0 → Stepped book width sc ls left depth Full sc′
         step-full′ z = stepped-stop fresh′ z
@@ -262,7 +258,7 @@ module _ (book : List ℕ) (width : ℕ) (ls : List ℕ) (left : ℕ) {sc sc′ 
         pub step-lacking : (left ≡ 0 → ⊥) → Stepped book width sc ls left depth (Lacking (k .block) (k .depth)) sc′
         unfolding push onward work
         step-lacking n =
-            let ey : find book (typeNameOf book (k .block)) ≡ Nothing = ap (find book) (sym en) ∙ sym ef ∙ ft in
+            let ey : find book (typeNameOf book (k .block)) ≡ Nothing = sym ef ∙ ft in
             record {
               goes = λ w l.
                   let pb : isPart book (k .block) ≡ true = l .parts (k .block) (rw (took .top) (List·Memᴰ·head refl)) in

@@ -7,6 +7,7 @@ ghost use Prim.Native.Nat.{_≤_, _<_, _+_};
 ghost use lib.ListN.{length, take as first, replicate};
 ghost use Rattle.typebook.specs.Book.{isType};
 ghost use Rattle.book_check.specs.Check.{ValidBook};
+ghost use Rattle.links.specs.Links.{LinksOf};
 ghost use Rattle.walks.specs.Walk.{partsKind};
 ghost use Rattle.walks.specs.Reads.{keepsState};
 ghost use Rattle.walks.specs.State.{markedIn, isPart, namesIt, hasRef, Took, Marked, Pushed, Grown, Settles, Stepped, IsDue, Applied, Decided, Started};
@@ -283,6 +284,7 @@ fn in_list(book: &[u8], list: &[u32], n: usize, name: &[u8]) -> bool
 fn step(
     book: &[u8],
     index: &[u32],
+    links: &[u32],
     width: u8,
     scratch: &mut [u32],
     list: &[u32],
@@ -290,14 +292,13 @@ fn step(
     left: usize,
     depth: usize,
 ) -> Event
-    requires { ⌜ ValidBook (now book) × (16384 ≤ length (now scratch)) × (n ≤ length (now list)) × (0 < depth) × (depth + left ≤ 4096) ⌝ }
+    requires { ⌜ ValidBook (now book) × LinksOf (now book) (now links) × (16384 ≤ length (now scratch)) × (n ≤ length (now list)) × (0 < depth) × (depth + left ≤ 4096) ⌝ }
     ensures { λ r. ⌜ Stepped (now (book .entry)) width (now (scratch .entry)) (first n (now (list .entry))) left depth r (now (scratch .exit)) ⌝ }
 {
     let taken = take(scratch, depth);
     let b = taken.block;
     let d = taken.depth;
-    let name = block::type_name(book, b);
-    let found = type_provider::find_by(book, index, name);
+    let found = links::type_of(book, index, links, b);
     match found {
         Found::At(t) => {
             if marked(scratch, t) {
@@ -309,7 +310,7 @@ fn step(
             settle(book, index, width, scratch, d, t)
         }
         Found::Nothing => {
-            if in_list(book, list, n, name) {
+            if in_list(book, list, n, block::type_name(book, b)) {
                 return Event::Old(d);
             }
             if left == 0 {
@@ -351,12 +352,13 @@ fn apply(e: Event, list: &mut [u32], left: usize, n: usize, ok: bool) -> Turn
 fn missing_walk(
     book: &[u8],
     index: &[u32],
+    links: &[u32],
     width: u8,
     root: u32,
     scratch: &mut [u32],
     list: &mut [u32],
 ) -> Missing
-    requires { ⌜ ValidBook (now book) × (isType (now book) root ≡ true) × (16384 ≤ length (now scratch)) × (4096 ≤ length (now list)) × (now scratch ≡ replicate (length (now scratch)) 0) ⌝ }
+    requires { ⌜ ValidBook (now book) × LinksOf (now book) (now links) × (isType (now book) root ≡ true) × (16384 ≤ length (now scratch)) × (4096 ≤ length (now list)) × (now scratch ≡ replicate (length (now scratch)) 0) ⌝ }
     ensures { λ r. ⌜ Walked (now (book .entry)) width root (now (list .entry)) r (now (list .exit)) ⌝ }
 {
     let mut e = start(book, index, width, root, scratch);
@@ -374,24 +376,25 @@ fn missing_walk(
         left = l;
         n = k;
         ok = o;
-        e = step(book, index, width, scratch, list, n, left, d);
+        e = step(book, index, links, width, scratch, list, n, left, d);
     }
 }
 
-// `missing_types` for a book that was checked, with an index of its names.
+// `missing_types` for a book that was checked, with an index of its names and its links.
 pub fn missing_types_in(
     book: &[u8],
     index: &[u32],
+    links: &[u32],
     width: u8,
     root: u32,
     scratch: &mut [u32],
     list: &mut [u32],
 ) -> Missing
-    requires { ⌜ ValidBook (now book) × (isType (now book) root ≡ true) × (16384 ≤ length (now scratch)) × (4096 ≤ length (now list)) ⌝ }
+    requires { ⌜ ValidBook (now book) × LinksOf (now book) (now links) × (isType (now book) root ≡ true) × (16384 ≤ length (now scratch)) × (4096 ≤ length (now list)) ⌝ }
     ensures { λ r. ⌜ MissingIn true (now (book .entry)) width root (now (scratch .entry)) (now (list .entry)) r (now (scratch .exit)) (now (list .exit)) ⌝ }
 {
     clear(scratch);
-    let answer = missing_walk(book, index, width, root, scratch, list);
+    let answer = missing_walk(book, index, links, width, root, scratch, list);
     clear(scratch);
     answer
 }
@@ -408,7 +411,9 @@ fn missing_at(book: &[u8], width: u8, root: u32, scratch: &mut [u32], list: &mut
     }
     let mut index = [0u32; 16384];
     type_provider::fill_index(book, &mut index);
-    missing_types_in(book, &index, width, root, scratch, list)
+    // One walk doesn't make up for the links of a whole book.
+    let unlinked: [u32; 1] = [0];
+    missing_types_in(book, &index, &unlinked, width, root, scratch, list)
 }
 
 // Lists every type that the root is made of and the book lacks, each by the block that names it, in the order found: without an
@@ -477,8 +482,15 @@ fn decide(e: Event, left: usize) -> TurnRmw
 }
 
 // The walk for read-modify-write, over a scratch of zeros. It ends at the first name that the book lacks, so it keeps no list.
-fn rmw_walk(book: &[u8], index: &[u32], width: u8, root: u32, scratch: &mut [u32]) -> Rmw
-    requires { ⌜ ValidBook (now book) × (isType (now book) root ≡ true) × (16384 ≤ length (now scratch)) × (now scratch ≡ replicate (length (now scratch)) 0) ⌝ }
+fn rmw_walk(
+    book: &[u8],
+    index: &[u32],
+    links: &[u32],
+    width: u8,
+    root: u32,
+    scratch: &mut [u32],
+) -> Rmw
+    requires { ⌜ ValidBook (now book) × LinksOf (now book) (now links) × (isType (now book) root ≡ true) × (16384 ≤ length (now scratch)) × (now scratch ≡ replicate (length (now scratch)) 0) ⌝ }
     ensures { λ r. ⌜ r ≡ rmwAnswer true (now (book .entry)) width root ⌝ }
 {
     let none: [u32; 1] = [0];
@@ -493,26 +505,27 @@ fn rmw_walk(book: &[u8], index: &[u32], width: u8, root: u32, scratch: &mut [u32
                 if depth == 0 {
                     return Rmw::No;
                 }
-                let e = step(book, index, width, scratch, &none, 0, left, depth);
+                let e = step(book, index, links, width, scratch, &none, 0, left, depth);
                 here = decide(e, left);
             }
         }
     }
 }
 
-// `requires_read_modify_write` for a book that was checked, with an index of its names.
+// `requires_read_modify_write` for a book that was checked, with an index of its names and its links.
 pub fn requires_read_modify_write_in(
     book: &[u8],
     index: &[u32],
+    links: &[u32],
     width: u8,
     root: u32,
     scratch: &mut [u32],
 ) -> Rmw
-    requires { ⌜ ValidBook (now book) × (isType (now book) root ≡ true) × (16384 ≤ length (now scratch)) ⌝ }
+    requires { ⌜ ValidBook (now book) × LinksOf (now book) (now links) × (isType (now book) root ≡ true) × (16384 ≤ length (now scratch)) ⌝ }
     ensures { λ r. ⌜ RmwIn true (now (book .entry)) width root (now (scratch .entry)) r (now (scratch .exit)) ⌝ }
 {
     clear(scratch);
-    let answer = rmw_walk(book, index, width, root, scratch);
+    let answer = rmw_walk(book, index, links, width, root, scratch);
     clear(scratch);
     answer
 }
@@ -526,7 +539,9 @@ fn rmw_at(book: &[u8], width: u8, root: u32, scratch: &mut [u32]) -> Rmw
     }
     let mut index = [0u32; 16384];
     type_provider::fill_index(book, &mut index);
-    requires_read_modify_write_in(book, &index, width, root, scratch)
+    // One walk doesn't make up for the links of a whole book.
+    let unlinked: [u32; 1] = [0];
+    requires_read_modify_write_in(book, &index, &unlinked, width, root, scratch)
 }
 
 // Whether the memory of a value of the root's type must be read, changed and written back: it is, or is made of, a function block.

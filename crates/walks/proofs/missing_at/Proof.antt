@@ -1,5 +1,6 @@
 -- `missing_at` meets its contract. Assumes nothing.
 use Rattle.walks.proofs.Ends.{missing-scratch, missing-list, missing-fits}
+use Rattle.links.proofs.Tables.{silent}
 use borrow.Author.Needs.{needs}
 use Rattle.walks.proofs.missing_at.Statement.{statement}
 use Rattle.walks.proofs.missing_at.Tie as tie
@@ -21,8 +22,11 @@ fill-index-requires c κs = search needs
 slice-aggregate-missing-types-in : tie.Need-slice-aggregate-missing-types-in
 slice-aggregate-missing-types-in c = search needs
 
+slice-aggregate-missing-types-in-2 : tie.Need-slice-aggregate-missing-types-in-2
+slice-aggregate-missing-types-in-2 c = search needs
+
 missing-types-in-requires : tie.Need-missing-types-in-requires
-missing-types-in-requires c κs = search needs
+missing-types-in-requires c κs = (search needs, search silent, search needs, search needs, search needs)
 
 same-length : tie.Need-same-length
 same-length c = search needs
@@ -42,6 +46,7 @@ missing-at-spec =
     slice-aggregate-fill-index
     fill-index-requires
     slice-aggregate-missing-types-in
+    slice-aggregate-missing-types-in-2
     missing-types-in-requires
     same-length
     same-length-2

@@ -8,7 +8,7 @@ clear-requires : tie.Need-clear-requires
 clear-requires c κs = search needs
 
 missing-walk-requires : tie.Need-missing-walk-requires
-missing-walk-requires c κs = (search needs, search needs, search zeros-room, search needs, search zeros)
+missing-walk-requires c κs = (search needs, search needs, search needs, search zeros-room, search needs, search zeros)
 
 clear-requires-2 : tie.Need-clear-requires-2
 clear-requires-2 c κs = search needs

@@ -8,7 +8,7 @@ clear-requires : tie.Need-clear-requires
 clear-requires c κs = search needs
 
 rmw-walk-requires : tie.Need-rmw-walk-requires
-rmw-walk-requires c κs = (search needs, search needs, search zeros-room, search zeros)
+rmw-walk-requires c κs = (search needs, search needs, search needs, search zeros-room, search zeros)
 
 clear-requires-2 : tie.Need-clear-requires-2
 clear-requires-2 c κs = search needs

@@ -1,5 +1,6 @@
 -- `rmw_at` meets its contract. Assumes nothing.
 use Rattle.walks.proofs.Ends.{rmw-scratch, rmw-fits}
+use Rattle.links.proofs.Tables.{silent}
 use borrow.Author.Needs.{needs}
 use Rattle.walks.proofs.rmw_at.Statement.{statement}
 use Rattle.walks.proofs.rmw_at.Tie as tie
@@ -18,8 +19,11 @@ fill-index-requires c κs = search needs
 slice-aggregate-requires-read-modify-write-in : tie.Need-slice-aggregate-requires-read-modify-write-in
 slice-aggregate-requires-read-modify-write-in c = search needs
 
+slice-aggregate-requires-read-modify-write-in-2 : tie.Need-slice-aggregate-requires-read-modify-write-in-2
+slice-aggregate-requires-read-modify-write-in-2 c = search needs
+
 requires-read-modify-write-in-requires : tie.Need-requires-read-modify-write-in-requires
-requires-read-modify-write-in-requires c κs = search needs
+requires-read-modify-write-in-requires c κs = (search needs, search silent, search needs, search needs)
 
 same-length : tie.Need-same-length
 same-length c = search needs
@@ -35,6 +39,7 @@ rmw-at-spec =
     slice-aggregate-fill-index
     fill-index-requires
     slice-aggregate-requires-read-modify-write-in
+    slice-aggregate-requires-read-modify-write-in-2
     requires-read-modify-write-in-requires
     same-length
     returns-2)

@@ -1,6 +1,5 @@
 -- `step` meets its contract. Assumes nothing.
-use Rattle.resolvers.proofs.Chains.{found-typed}
-use Rattle.walks.proofs.Places.{found-below}
+use Rattle.walks.proofs.Places.{found-typed, found-below}
 use Rattle.walks.proofs.Turns.{step-marked, step-full, step-new, step-listed, step-full′, step-lacking}
 use borrow.Author.Needs.{needs}
 use Rattle.walks.proofs.step.Statement.{statement}
@@ -11,11 +10,8 @@ ruleset exits = (step-marked, step-full, step-new, step-listed, step-full′, st
 take-requires : tie.Need-take-requires
 take-requires c κs = search needs
 
-type-name-requires : tie.Need-type-name-requires
-type-name-requires c κs = search needs
-
-find-by-requires : tie.Need-find-by-requires
-find-by-requires c κs = search needs
+type-of-requires : tie.Need-type-of-requires
+type-of-requires c κs = search needs
 
 enum-known-found : tie.Need-enum-known-found
 enum-known-found c = search needs
@@ -40,6 +36,9 @@ settle-requires c κs = (search needs, search found-typed, search needs, search 
 
 enum-told : tie.Need-enum-told
 enum-told c = search needs
+
+type-name-requires : tie.Need-type-name-requires
+type-name-requires c κs = search needs
 
 in-list-requires : tie.Need-in-list-requires
 in-list-requires c κs = search needs
@@ -73,8 +72,7 @@ step-spec =
     tie.close
     (tie.spec
     take-requires
-    type-name-requires
-    find-by-requires
+    type-of-requires
     enum-known-found
     marked-requires
     same-length
@@ -83,6 +81,7 @@ step-spec =
     returns-2
     settle-requires
     enum-told
+    type-name-requires
     in-list-requires
     same-length-3
     returns-3
