@@ -1,7 +1,6 @@
 -- Laws that the functions' proofs cite, and those on the walk that the crates above cite.
 mod Places
-mod Stacks
-mod Bits
+mod Settles
 mod Turns
 mod Lists
 mod Rmws

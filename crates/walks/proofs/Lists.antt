@@ -10,6 +10,7 @@ use lib.Seq.{take-suc-set, drop-set-lt, drop-drop, length-take-le}
 use Rattle.resolvers.specs.declared.Resolved.{Resolved}
 use Rattle.resolvers.specs.declared.Resolved.the-variants.{Base, Lacks, Endless}
 use Rattle.type_category.specs.declared.type_category.AdsTypeCategory.{AdsTypeCategory}
+use Rattle.visits.specs.Scratch.{stackOf}
 use Rattle.walks.specs.declared.Event.{Event}
 use Rattle.walks.specs.declared.Event.the-variants.{Old, Lacking, New, Long, Full}
 use Rattle.walks.specs.declared.Turn.{Turn}
@@ -17,7 +18,7 @@ use Rattle.walks.specs.declared.Turn.the-variants as turn
 use Rattle.walks.specs.declared.Missing.the-variants as missing
 use Rattle.walks.specs.Walk.{Walk, over, met, walk, walkOf}
 use Rattle.walks.specs.Reads.{names, count, listed, whole}
-use Rattle.walks.specs.State.{stackOf, Left, After, Falls, Due, IsDue, work, Stepped, Started, Reading, Pending, pend, Now, Stopped, Then, Less, Applied}
+use Rattle.walks.specs.State.{Left, After, Falls, Due, IsDue, work, Stepped, Started, Reading, Pending, pend, Now, Stopped, Then, Less, Applied}
 use Rattle.walks.specs.Calls.{Walked, missingAnswer, missingList}
 use Rattle.walks.proofs.Goes.{walk-none}
 

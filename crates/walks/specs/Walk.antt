@@ -2,50 +2,17 @@
 -- Assumes nothing.
 use mathlib.Core.Bool.{Bool, false, cond, _||_}
 use mathlib.Core.List.{List, [], _∷_, _++_}
-use Prim.Native.Nat.{ℕ, zero, suc, _+_}
+use Prim.Native.Nat.{ℕ, zero, suc}
 use Rattle.typebook.specs.declared.type_provider.Found.{Found}
-use Rattle.typebook.specs.Book.{fieldsOf, nameOf, typeNameOf, sameName}
+use Rattle.typebook.specs.Book.{nameOf, typeNameOf, sameName}
 use Rattle.typebook.specs.Find.{find}
-use Rattle.type_category.specs.declared.type_category.AdsTypeCategory.{AdsTypeCategory}
-use Rattle.type_category.specs.declared.type_category.AdsTypeCategory.the-variants as category
 use Rattle.type_category.specs.Category.{categoryOf}
 use Rattle.resolvers.specs.declared.Resolved.{Resolved}
 use Rattle.resolvers.specs.declared.Resolved.the-variants.{Base, Lacks, Endless}
 use Rattle.resolvers.specs.Resolve.{onward, resolveAlias}
-use Rattle.walks.specs.declared.Parts.{Parts}
-use Rattle.walks.specs.declared.Parts.the-variants.{Element, Fields, Nothing}
+use Rattle.visits.specs.Parts.{partsKind, partsIn}
 
 -- ---- what a type is made of
-
--- an array is made of its element type; a struct, a union or a function block of the types of its fields
-abbrev pub partsKind : AdsTypeCategory → Parts
-partsKind category.Array = Element
-partsKind category.Struct = Fields
-partsKind category.Union = Fields
-partsKind category.FunctionBlock = Fields
-partsKind category.None = Nothing
-partsKind category.Primitive = Nothing
-partsKind category.Alias = Nothing
-partsKind category.Enum = Nothing
-partsKind category.Program = Nothing
-partsKind category.Function = Nothing
-partsKind category.SubRange = Nothing
-partsKind category.String = Nothing
-partsKind category.Bitset = Nothing
-partsKind category.Pointer = Nothing
-partsKind category.Reference = Nothing
-partsKind category.Interface = Nothing
-
--- the k blocks after block t, the last one first
-unfoldable pub after : ℕ → ℕ → List ℕ
-after t zero = []
-after t (suc k) = (t + suc k) ∷ after t k
-
--- the blocks that name what type block t is made of, by the kind of its parts
-unfoldable pub partsIn : List ℕ → ℕ → Parts → List ℕ
-partsIn book t Element = t ∷ []
-partsIn book t Fields = after t (fieldsOf book t)
-partsIn book t Nothing = []
 
 -- the blocks whose type names are those that type block t is made of, in the order they are taken: an array's own block, or field blocks
 unfoldable pub partsOf : List ℕ → ℕ → ℕ → List ℕ

@@ -8,9 +8,8 @@ ghost use lib.ListN.{length, take as first, replicate};
 ghost use Rattle.typebook.specs.Book.{isType};
 ghost use Rattle.book_check.specs.Check.{ValidBook};
 ghost use Rattle.links.specs.Links.{LinksOf};
-ghost use Rattle.walks.specs.Walk.{partsKind};
 ghost use Rattle.walks.specs.Reads.{keepsState};
-ghost use Rattle.walks.specs.State.{markedIn, isPart, namesIt, hasRef, Took, Marked, Pushed, Grown, Settles, Stepped, IsDue, Applied, Decided, Started};
+ghost use Rattle.walks.specs.State.{Settles, Stepped, IsDue, Applied, Decided, Started};
 ghost use Rattle.walks.specs.Calls.{scratchFits, listFits, rmwAnswer, Walked, RmwIn, RmwIs, MissingIn, MissingIs};
 use book_check::RootCheck;
 use resolvers::Resolved;
@@ -18,6 +17,12 @@ use type_category::type_category::AdsTypeCategory;
 use typebook::block;
 use typebook::type_provider;
 use typebook::type_provider::Found;
+use visits::clear;
+use visits::expand;
+use visits::in_list;
+use visits::mark;
+use visits::marked;
+use visits::take;
 
 // The maximum number of distinct type names to visit before a corrupted type table is assumed: this guards against very wide type
 // graphs only, since cycles end at the visited names.
@@ -46,19 +51,6 @@ pub enum Missing {
     Refused(u8),
 }
 
-// What a type is made of: the type that an array names, the types of fields, or nothing that is walked.
-enum Parts {
-    Element,
-    Fields,
-    Nothing,
-}
-
-// A block that was taken off the stack, and the entries that are left.
-struct Taken {
-    block: u32,
-    depth: usize,
-}
-
 // What one turn of a walk finds; the last number is the entries on the stack after it.
 enum Event {
     // The name was visited before.
@@ -85,125 +77,7 @@ enum TurnRmw {
     Is(Rmw),
 }
 
-// ---- the scratch: a stack in 0 to 4,095, a bit for each block in 4,096 to 6,143
-
-fn marked(scratch: &[u32], t: u32) -> bool
-    requires { ⌜ (t < 65536) × (16384 ≤ length (now scratch)) ⌝ }
-    ensures { λ r. ⌜ r ≡ markedIn (now (scratch .entry)) t ⌝ }
-{
-    let i = MAX_TYPES_VISITED + (t / 32) as usize;
-    (scratch[i] >> (t % 32)) % 2 == 1
-}
-
-fn mark(scratch: &mut [u32], t: u32)
-    requires { ⌜ (t < 65536) × (16384 ≤ length (now scratch)) ⌝ }
-    ensures { λ _. ⌜ Marked (now (scratch .entry)) t (now (scratch .exit)) ⌝ }
-{
-    let i = MAX_TYPES_VISITED + (t / 32) as usize;
-    scratch[i] = scratch[i] | (1 << (t % 32));
-}
-
-// Takes the top block off the stack. An entry t * 65536 + k stands for the k blocks after block t, the last one taken first; with
-// k = 0 for block t itself. So a type of many fields takes one entry.
-fn take(scratch: &mut [u32], depth: usize) -> Taken
-    requires { ⌜ (0 < depth) × (depth ≤ 4096) × (16384 ≤ length (now scratch)) ⌝ }
-    ensures { λ r. ⌜ Took (now (scratch .entry)) depth r (now (scratch .exit)) ⌝ }
-{
-    let d = depth - 1;
-    let e = scratch[d];
-    let t = e / 65536;
-    let k = e % 65536;
-    if k == 0 {
-        return Taken { block: t, depth: d };
-    }
-    if k == 1 {
-        return Taken {
-            block: t + 1,
-            depth: d,
-        };
-    }
-    scratch[d] = e - 1;
-    Taken {
-        block: t + k,
-        depth,
-    }
-}
-
-// Sets the whole scratch to 0.
-fn clear(scratch: &mut [u32])
-    ensures { λ _. ⌜ now (scratch .exit) ≡ replicate (length (now (scratch .entry))) 0 ⌝ }
-{
-    let mut i = 0;
-    while i < scratch.len() {
-        scratch[i] = 0;
-        i += 1;
-    }
-}
-
 // ---- one turn of the walk
-
-fn parts_of(category: AdsTypeCategory) -> Parts
-    ensures { λ r. ⌜ r ≡ partsKind category ⌝ }
-{
-    match category {
-        AdsTypeCategory::Array => Parts::Element,
-        AdsTypeCategory::Struct => Parts::Fields,
-        AdsTypeCategory::Union => Parts::Fields,
-        AdsTypeCategory::FunctionBlock => Parts::Fields,
-        AdsTypeCategory::None => Parts::Nothing,
-        AdsTypeCategory::Primitive => Parts::Nothing,
-        AdsTypeCategory::Alias => Parts::Nothing,
-        AdsTypeCategory::Enum => Parts::Nothing,
-        AdsTypeCategory::Program => Parts::Nothing,
-        AdsTypeCategory::Function => Parts::Nothing,
-        AdsTypeCategory::SubRange => Parts::Nothing,
-        AdsTypeCategory::String => Parts::Nothing,
-        AdsTypeCategory::Bitset => Parts::Nothing,
-        AdsTypeCategory::Pointer => Parts::Nothing,
-        AdsTypeCategory::Reference => Parts::Nothing,
-        AdsTypeCategory::Interface => Parts::Nothing,
-    }
-}
-
-// Lays the parts of type t, by its category, on the stack.
-fn push(book: &[u8], scratch: &mut [u32], depth: usize, t: u32, category: AdsTypeCategory) -> usize
-    requires { ⌜ ValidBook (now book) × (isType (now book) t ≡ true) × (depth < 4096) × (16384 ≤ length (now scratch)) ⌝ }
-    ensures { λ r. ⌜ Pushed (now (book .entry)) category (now (scratch .entry)) depth t r (now (scratch .exit)) ⌝ }
-{
-    let kind = parts_of(category);
-    match kind {
-        Parts::Element => {
-            scratch[depth] = t * 65536;
-            depth + 1
-        }
-        Parts::Fields => {
-            let n = block::fields(book, t);
-            if n == 0 {
-                return depth;
-            }
-            scratch[depth] = t * 65536 + n;
-            depth + 1
-        }
-        Parts::Nothing => depth,
-    }
-}
-
-// Marks type block t visited, and lays on the parts of u, which t comes to, by its category. The alias's target u is not marked:
-// it may be met by its own name later.
-fn expand(
-    book: &[u8],
-    scratch: &mut [u32],
-    depth: usize,
-    t: u32,
-    u: u32,
-    category: AdsTypeCategory,
-) -> usize
-    requires { ⌜ ValidBook (now book) × (isType (now book) t ≡ true) × (isType (now book) u ≡ true) × (depth < 4096) × (16384 ≤ length (now scratch)) ⌝ }
-    ensures { λ r. ⌜ Grown (now (book .entry)) category (now (scratch .entry)) depth t u r (now (scratch .exit)) ⌝ }
-{
-    mark(scratch, t);
-    push(book, scratch, depth, u, category)
-}
 
 // The event of the new name of alias t.
 fn settle_alias(
@@ -244,40 +118,6 @@ fn settle(book: &[u8], index: &[u32], width: u8, scratch: &mut [u32], depth: usi
         return settle_alias(book, index, width, scratch, depth, t);
     }
     Event::New(t, expand(book, scratch, depth, t, t, category), category)
-}
-
-// Whether block b names a type as a field or as an array, and is no alias: aliases have no dimensions.
-fn is_part(book: &[u8], b: u32) -> bool
-    ensures { λ r. ⌜ r ≡ isPart (now (book .entry)) b ⌝ }
-{
-    if block::is_type(book, b) {
-        return block::dimensions(book, b) > 0;
-    }
-    true
-}
-
-fn names_it(book: &[u8], b: u32, name: &[u8]) -> bool
-    ensures { λ r. ⌜ r ≡ namesIt (now (book .entry)) b (now (name .entry)) ⌝ }
-{
-    if block::same_name(block::type_name(book, b), name) {
-        return is_part(book, b);
-    }
-    false
-}
-
-// Whether one of the first n listed blocks names it: a name that the book lacks was visited.
-fn in_list(book: &[u8], list: &[u32], n: usize, name: &[u8]) -> bool
-    requires { ⌜ n ≤ length (now list) ⌝ }
-    ensures { λ r. ⌜ r ≡ hasRef (now (book .entry)) (first n (now (list .entry))) (now (name .entry)) ⌝ }
-{
-    let mut i = 0;
-    while i < n {
-        if names_it(book, list[i], name) {
-            return true;
-        }
-        i += 1;
-    }
-    false
 }
 
 // One turn: the top block's name is new, or was visited.

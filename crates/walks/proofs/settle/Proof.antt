@@ -1,5 +1,5 @@
 -- `settle` meets its contract. Assumes nothing.
-use Rattle.walks.proofs.Stacks.{settle-own}
+use Rattle.walks.proofs.Settles.{settle-own}
 use borrow.Author.Needs.{needs}
 use Rattle.walks.proofs.settle.Statement.{statement}
 use Rattle.walks.proofs.settle.Tie as tie

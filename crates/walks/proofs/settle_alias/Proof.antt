@@ -1,6 +1,6 @@
 -- `settle_alias` meets its contract. Assumes nothing.
-use Rattle.walks.proofs.Places.{type-below}
-use Rattle.walks.proofs.Stacks.{settle-base, settle-lacks, settle-long, base-type}
+use Rattle.visits.proofs.Places.{type-below}
+use Rattle.walks.proofs.Settles.{settle-base, settle-lacks, settle-long, base-type}
 use borrow.Author.Needs.{needs}
 use Rattle.walks.proofs.settle_alias.Statement.{statement}
 use Rattle.walks.proofs.settle_alias.Tie as tie

@@ -1,0 +1,130 @@
+-- The stack and the bits lie apart. Assumes nothing.
+use mathlib.Core.Path.{_≡_, refl, sym, ap, _∙_}
+use mathlib.Core.Bool.{true}
+use mathlib.Core.List.{List, [], _∷_, _++_}
+use Prim.Native.Nat.{ℕ, zero, suc, _+_, _*_, _-_, _/_, _%_, _≤_, _<_}
+use native.Mathlib.Omega.{arith}
+use native.Mathlib.Numerals.{add-one}
+use lib.ListN.{length, getD, set, length-append}
+use lib.Seq.{getD-set-same, getD-set-other}
+use Rattle.typebook.specs.Book.{isType, fieldsOf}
+use Rattle.type_category.specs.declared.type_category.AdsTypeCategory.{AdsTypeCategory}
+use Rattle.book_check.specs.Check.{ValidBook}
+use Rattle.visits.specs.declared.Parts.{Parts}
+use Rattle.visits.specs.declared.Parts.the-variants.{Element, Fields, Nothing}
+use Rattle.visits.specs.Parts.{partsKind, after, partsIn}
+use Rattle.visits.specs.Scratch.{entryOf, stackOf, markedIn, Took, Pushed, Marked, Grown}
+use Rattle.visits.proofs.Places.{fields-below}
+
+pub stack-set : (sc : List ℕ) (i x d : ℕ) → d ≤ i → stackOf (set sc i x) d ≡ stackOf sc d
+unfolding stackOf
+stack-set sc i x zero h = refl
+stack-set sc i x (suc d) h =
+    let n : d ≡ i → ⊥ = λ e. omega arith in
+    rw (getD-set-other sc i d x 0 n, stack-set sc i x d (omega arith))
+
+pub marks-set : (sc : List ℕ) (i x u : ℕ) → i < 4096 → markedIn (set sc i x) u ≡ markedIn sc u
+unfolding markedIn
+marks-set sc i x u h =
+    let n : 4096 + u / 32 ≡ i → ⊥ = λ e. omega arith in
+    rw (getD-set-other sc i (4096 + u / 32) x 0 n)
+
+stack-suc : (sc : List ℕ) (depth t k : ℕ) → 0 < depth → getD sc (depth - 1) 0 / 65536 ≡ t → getD sc (depth - 1) 0 % 65536 ≡ k → stackOf sc depth ≡ entryOf t k ++ stackOf sc (depth - 1)
+unfolding stackOf
+stack-suc sc depth t k h et ek =
+    let q : depth ≡ suc (depth - 1) = omega arith in
+    ap (stackOf sc) q ∙ rw (et, ek)
+
+-- ---- take
+
+module _ (sc : List ℕ) (depth e : ℕ) (p : 0 < depth) (l : depth ≤ 4096) (z : 16384 ≤ length sc) (ee : e ≡ getD sc (depth - 1) 0) where
+  pub took-own : e % 65536 ≡ 0 → Took sc depth (record { block = e / 65536; depth = depth - 1 }) sc
+  unfolding entryOf
+  took-own h = record { top = stack-suc sc depth (e / 65536) 0 p (rw (← ee)) (rw (← ee) h); marks = λ u. refl; less = omega arith }
+
+  pub took-last : e % 65536 ≡ 1 → Took sc depth (record { block = e / 65536 + 1; depth = depth - 1 }) sc
+  unfolding entryOf after
+  took-last h = record { top = stack-suc sc depth (e / 65536) 1 p (rw (← ee)) (rw (← ee) h); marks = λ u. refl; less = omega arith }
+
+  pub took-more : (e % 65536 ≡ 0 → ⊥) → (e % 65536 ≡ 1 → ⊥) → Took sc depth (record { block = e / 65536 + e % 65536; depth = depth }) (set sc (depth - 1) (e - 1))
+  unfolding entryOf after
+  took-more h0 h1 =
+      let d : ℕ = depth - 1 in
+      let j : ℕ = e % 65536 - 2 in
+      let kj : e % 65536 ≡ suc (suc j) = omega arith in
+      let s = getD-set-same sc (depth - 1) (e - 1) 0 (omega arith) in
+      let et : (e - 1) / 65536 ≡ e / 65536 = omega arith in
+      let ek : (e - 1) % 65536 ≡ suc j = omega arith in
+      record {
+        top =
+            stack-suc sc depth (e / 65536) (suc (suc j)) p (rw (← ee)) (rw (← ee) kj)
+            ∙ ap (λ (n : ℕ). (e / 65536 + n) ∷ (entryOf (e / 65536) (suc j) ++ stackOf sc (depth - 1))) (sym kj)
+            ∙ ap (λ (r : List ℕ). (e / 65536 + e % 65536) ∷ (entryOf (e / 65536) (suc j) ++ r)) (sym (stack-set sc (depth - 1) (e - 1) (depth - 1) (omega arith)))
+            ∙ ap (λ (r : List ℕ). (e / 65536 + e % 65536) ∷ r) (sym (stack-suc (set sc (depth - 1) (e - 1)) depth (e / 65536) (suc j) p (rw s et) (rw s ek)));
+        marks = λ u. marks-set sc (depth - 1) (e - 1) u (omega arith);
+        less = omega arith;
+      }
+
+-- ---- push
+
+after-few : (t k : ℕ) → length (after t k) ≡ k
+unfolding after
+after-few t zero = refl
+after-few t (suc k) = ap suc (after-few t k)
+
+module _ (book : List ℕ) (sc : List ℕ) (depth t : ℕ) (l : depth < 4096) (z : 16384 ≤ length sc) (c : AdsTypeCategory) where
+  abbrev parts : List ℕ
+  parts = partsIn book t (partsKind c)
+
+  laid : (n : ℕ) → n < 65536 → entryOf t n ≡ parts → length parts ≤ 65535 → Pushed book c sc depth t (depth + 1) (set sc depth (t * 65536 + n))
+  unfolding stackOf
+  laid n h e f =
+      let s = getD-set-same sc depth (t * 65536 + n) 0 (omega arith) in
+      let a : (t * 65536 + n) / 65536 ≡ t = omega arith in
+      let b : (t * 65536 + n) % 65536 ≡ n = omega arith in
+      let q : stackOf (set sc depth (t * 65536 + n)) (depth + 1) ≡ parts ++ stackOf sc depth =
+      ap (stackOf (set sc depth (t * 65536 + n))) (add-one depth)
+      ∙ rw (s, stack-set sc depth (t * 65536 + n) depth (omega arith), a, b, e) in
+      record { top = q; marks = λ u. marks-set sc depth (t * 65536 + n) u l; more = omega arith; few = rw (q, length-append) (omega arith) }
+
+  kept : [] ≡ parts → Pushed book c sc depth t depth sc
+  kept e = record { top = rw (← e); marks = λ u. refl; more = omega arith; few = omega arith }
+
+  module _ (k : Parts) (ek : k ≡ partsKind c) where
+    kind-is : (x : Parts) → k ≡ x → parts ≡ partsIn book t x
+    kind-is x h = ap (partsIn book t) (sym ek ∙ h)
+
+    pub push-element : k ≡ Element → Pushed book c sc depth t (depth + 1) (set sc depth (t * 65536))
+    unfolding partsIn entryOf
+    push-element h =
+        let q : t * 65536 + 0 ≡ t * 65536 = omega arith in
+        let p = kind-is Element h in
+        rw q at (laid 0 (omega arith) (sym p) (rw p (omega arith)))
+
+    pub push-nothing : k ≡ Nothing → Pushed book c sc depth t depth sc
+    unfolding partsIn
+    push-nothing h = kept (sym (kind-is Nothing h))
+
+    module _ (h : k ≡ Fields) (n : ℕ) (en : n ≡ fieldsOf book t) where
+      fields : parts ≡ after t n
+      unfolding partsIn
+      fields = kind-is Fields h ∙ rw (← en)
+
+      pub push-none : n ≡ 0 → Pushed book c sc depth t depth sc
+      unfolding after
+      push-none e = kept (sym (fields ∙ ap (after t) e))
+
+      pub push-fields : ValidBook book → isType book t ≡ true → (n ≡ 0 → ⊥) → Pushed book c sc depth t (depth + 1) (set sc depth (t * 65536 + n))
+      unfolding entryOf
+      push-fields v y e =
+          let q : n ≡ suc (n - 1) = omega arith in
+          let b : n < 65536 = fields-below book t v y n en in
+          laid n b (ap (entryOf t) q ∙ ap (after t) (sym q) ∙ sym fields) (rw (fields, after-few) (omega arith))
+
+-- ---- expand
+
+pub grow : (book sc : List ℕ) (depth t u : ℕ) (c : AdsTypeCategory) → depth < 4096 → {sc₁ : List ℕ} → Marked sc t sc₁ → {r : ℕ} {sc₂ : List ℕ}
+    → Pushed book c sc₁ depth u r sc₂ → Grown book c sc depth t u r sc₂
+grow book sc depth t u c l m p =
+    let s = m .stack depth (omega arith) in
+    record { top = rw (← s) (p .top); marks = λ u. p .marks u ∙ m .marks u; more = p .more; few = rw (← s) (p .few) }

@@ -1,0 +1,38 @@
+-- What a type is made of, and the blocks that name it (document 01, "resolvers.rs"). Assumes nothing.
+use mathlib.Core.List.{List, [], _∷_}
+use Prim.Native.Nat.{ℕ, zero, suc, _+_}
+use Rattle.typebook.specs.Book.{fieldsOf}
+use Rattle.type_category.specs.declared.type_category.AdsTypeCategory.{AdsTypeCategory}
+use Rattle.type_category.specs.declared.type_category.AdsTypeCategory.the-variants as category
+use Rattle.visits.specs.declared.Parts.{Parts}
+use Rattle.visits.specs.declared.Parts.the-variants.{Element, Fields, Nothing}
+
+-- an array is made of its element type; a struct, a union or a function block of the types of its fields
+abbrev pub partsKind : AdsTypeCategory → Parts
+partsKind category.Array = Element
+partsKind category.Struct = Fields
+partsKind category.Union = Fields
+partsKind category.FunctionBlock = Fields
+partsKind category.None = Nothing
+partsKind category.Primitive = Nothing
+partsKind category.Alias = Nothing
+partsKind category.Enum = Nothing
+partsKind category.Program = Nothing
+partsKind category.Function = Nothing
+partsKind category.SubRange = Nothing
+partsKind category.String = Nothing
+partsKind category.Bitset = Nothing
+partsKind category.Pointer = Nothing
+partsKind category.Reference = Nothing
+partsKind category.Interface = Nothing
+
+-- the k blocks after block t, the last one first
+unfoldable pub after : ℕ → ℕ → List ℕ
+after t zero = []
+after t (suc k) = (t + suc k) ∷ after t k
+
+-- the blocks that name what type block t is made of, by the kind of its parts
+unfoldable pub partsIn : List ℕ → ℕ → Parts → List ℕ
+partsIn book t Element = t ∷ []
+partsIn book t Fields = after t (fieldsOf book t)
+partsIn book t Nothing = []

@@ -1,0 +1,62 @@
+-- A new name's event: what its type comes to, and what is laid on the stack. Assumes nothing.
+use mathlib.Core.Path.{_≡_, sym, _∙_}
+use mathlib.Core.Bool.{Bool, true, false}
+use mathlib.Core.List.{List}
+use Prim.Native.Nat.{ℕ, _<_}
+use native.Mathlib.Omega.{arith}
+use Rattle.typebook.specs.Book.{isType}
+use Rattle.type_category.specs.declared.type_category.AdsTypeCategory.{AdsTypeCategory}
+use Rattle.type_category.specs.Category.{categoryOf}
+use Rattle.resolvers.specs.declared.Resolved.{Resolved}
+use Rattle.resolvers.specs.declared.Resolved.the-variants.{Base, Lacks, Endless}
+use Rattle.resolvers.specs.Resolve.{goesOn, isFollowed, resolveAlias, ResolvedIs}
+use Rattle.resolvers.proofs.Chains.{follow-base}
+use Rattle.visits.specs.Scratch.{Marked, Grown}
+use Rattle.walks.specs.declared.Event.the-variants.{New, Lacking, Long}
+use Rattle.walks.specs.Walk.{partsOf}
+use Rattle.walks.specs.State.{Dead, Settles}
+use Rattle.walks.proofs.Places.{alias-not-part}
+
+-- what a type of category c comes to, and its parts
+expanded : (book : List ℕ) (width : ℕ) (sc : List ℕ) (depth t u : ℕ) (c : AdsTypeCategory) → c ≡ categoryOf book width u → resolveAlias book width t ≡ Base u
+    → isType book u ≡ true → {r : ℕ} {sc₂ : List ℕ} → Grown book c sc depth t u r sc₂ → Settles book width sc depth t (New u r c) sc₂
+unfolding partsOf
+expanded book width sc depth t u c ec to y g =
+    record {
+      so = record {
+        kind = ec;
+        to = to;
+        typed = y;
+        top = rw (← ec) (g .top);
+        marks = g .marks;
+        more = g .more;
+        few = g .few;
+      };
+    }
+
+pub settle-own : (book : List ℕ) (width : ℕ) (sc : List ℕ) (depth t : ℕ) (c : AdsTypeCategory) → c ≡ categoryOf book width t → (g : Bool) → g ≡ goesOn false c → g ≡ false
+    → isType book t ≡ true → {r : ℕ} {sc₂ : List ℕ} → Grown book c sc depth t t r sc₂ → Settles book width sc depth t (New t r c) sc₂
+unfolding isFollowed
+settle-own book width sc depth t c ec g eg h y =
+    expanded book width sc depth t t c ec (follow-base (isFollowed false book width) book 31 t (rw (← ec) (sym eg ∙ h))) y
+
+module _ (book : List ℕ) (width : ℕ) (sc : List ℕ) (depth t : ℕ) (y : isType book t ≡ true) (l : depth < 4096) {a : Resolved}
+    (ra : ResolvedIs book (resolveAlias book width t) a) where
+  pub settle-base : (u : ℕ) → a ≡ Base u → (c : AdsTypeCategory) → c ≡ categoryOf book width u → {r : ℕ} {sc₂ : List ℕ} → Grown book c sc depth t u r sc₂
+      → Settles book width sc depth t (New u r c) sc₂
+  settle-base u e c ec = expanded book width sc depth t u c ec (sym (ra .is) ∙ e) (ra .typed u e)
+
+  module _ {sc₁ : List ℕ} (m : Marked sc t sc₁) where
+    dead : Dead sc depth t depth sc₁
+    dead = record { top = m .stack depth (omega arith); marks = m .marks; more = omega arith }
+
+    pub settle-lacks : (c : ℕ) → a ≡ Lacks c → Settles book width sc depth t (Lacking c depth) sc₁
+    settle-lacks c e =
+        let q = sym (ra .is) ∙ e in
+        record { so = record { to = q; alias = alias-not-part book width t c y q; dead = dead } }
+
+    pub settle-long : a ≡ Endless → Settles book width sc depth t (Long depth) sc₁
+    settle-long e = record { so = record { to = sym (ra .is) ∙ e; dead = dead } }
+
+pub base-type : (book : List ℕ) (answer : Resolved) (u : ℕ) {a : Resolved} → ResolvedIs book answer a → a ≡ Base u → isType book u ≡ true
+base-type book answer u r h = r .typed u h
