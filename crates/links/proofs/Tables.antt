@@ -48,13 +48,16 @@ asked-link book links s b link e n =
 pub at-end : (links : List ℕ) (b : ℕ) → length links ≤ b → 0 ≡ getD links b 0
 at-end links b h = sym (List·getD-eq-default links 0 h)
 
--- a table of one 0 says nothing
+-- a table of one 0 says nothing, and an empty one
 pub silent : (book : List ℕ) → LinksOf book (0 ∷ [])
 silent book = record { slot = by }
   where
     by : (b : ℕ) → LinkOf book b (getD (0 ∷ []) b 0)
     by zero = link-none book zero
     by (suc b) = link-none book (suc b)
+
+pub empty : (book : List ℕ) → LinksOf book []
+empty book = record { slot = link-none book }
 
 -- ---- the loop of `fill_links`
 
