@@ -22,7 +22,8 @@
  * The calls whose names end in _in are for many calls on one book and test neither book nor root. They may only be called with a
  * `book` for which gateway_check_book(book, book_len, book_len) returned 0, unchanged since, and a `root` for which gateway_is_type
  * returned 1. With any other book or root nothing is known of what they do. `index` may hold anything and may be empty; one that
- * gateway_fill_index made of the book makes look-ups quick. The other calls take any bytes and any numbers.
+ * gateway_fill_index made of the book makes look-ups quick. `links`, which the two walks take, is believed: it must be empty, or as
+ * gateway_fill_links left it for this book, unchanged since. The other calls take any bytes and any numbers.
  *
  * A call takes up to 320 KiB of stack (measured: a read of 63 arrays in one another takes the most), and no other memory.
  */
@@ -135,15 +136,20 @@ uint8_t gateway_requires_read_modify_write(const uint8_t *buffer, size_t buffer_
 uint8_t gateway_missing_types(const uint8_t *buffer, size_t buffer_len, size_t len, uint8_t width, uint64_t root, uint32_t *scratch,
                               size_t scratch_len, uint32_t *list, size_t list_len, uint64_t *values, size_t values_len);
 
+/* Fills `links` for a checked book: element b is 0, or one more than the type block that block b's type name finds. One element for
+ * each block serves best. It goes by the index alone: a name to which that does not lead is 0, and a walk looks it up. */
+void gateway_fill_links(const uint8_t *book, size_t book_len, const uint32_t *index, size_t index_len, uint32_t *links,
+                        size_t links_len);
+
 /* gateway_requires_read_modify_write in a checked book: 0, 6, 7, 8, 9. Scratch: as before after 6, else all zero. */
 uint8_t gateway_requires_read_modify_write_in(const uint8_t *book, size_t book_len, const uint32_t *index, size_t index_len,
-                                              uint8_t width, uint32_t root, uint32_t *scratch, size_t scratch_len, uint64_t *values,
-                                              size_t values_len);
+                                              const uint32_t *links, size_t links_len, uint8_t width, uint32_t root,
+                                              uint32_t *scratch, size_t scratch_len, uint64_t *values, size_t values_len);
 
 /* gateway_missing_types in a checked book: 0 or 6; after 6 scratch and list are as before. */
-uint8_t gateway_missing_types_in(const uint8_t *book, size_t book_len, const uint32_t *index, size_t index_len, uint8_t width,
-                                 uint32_t root, uint32_t *scratch, size_t scratch_len, uint32_t *list, size_t list_len,
-                                 uint64_t *values, size_t values_len);
+uint8_t gateway_missing_types_in(const uint8_t *book, size_t book_len, const uint32_t *index, size_t index_len,
+                                 const uint32_t *links, size_t links_len, uint8_t width, uint32_t root, uint32_t *scratch,
+                                 size_t scratch_len, uint32_t *list, size_t list_len, uint64_t *values, size_t values_len);
 
 /* ---- read */
 

@@ -268,7 +268,7 @@ fn walks() {
 /// What each side does once for a book.
 fn prepared(bytes: &[u8]) {
     pair(
-        "once: checks and index; decoding into the HashMap",
+        "once: checks, index, links; decoding into the HashMap",
         7,
         || TypeBook::new(bytes),
         || cache(bytes),

@@ -3,6 +3,7 @@ ghost use mathlib.Core.Path.{_≡_};
 ghost use mathlib.Core.Bool.{true, _&&_};
 ghost use Rattle.typebook.specs.Book.{isType};
 ghost use Rattle.book_check.specs.Check.{ValidBook};
+ghost use Rattle.links.specs.Links.{LinksOf, LinksMade};
 ghost use Rattle.walks.specs.Calls.{scratchFits, listFits, RmwIn, MissingIn};
 ghost use Rattle.gateway.specs.Calls.{RmwGiven, RmwInGiven, MissingGiven, MissingInGiven};
 use answers::values::give_missing;
@@ -14,6 +15,15 @@ use walks::Rmw;
 const SCRATCH: usize = 16384;
 
 const LIST: usize = 4096;
+
+// The type that each block's type name finds, looked up once for the two calls by a checked book.
+#[no_mangle]
+pub extern "C" fn gateway_fill_links(book: &[u8], index: &[u32], links: &mut [u32])
+    requires { ⌜ ValidBook (now book) ⌝ }
+    ensures { λ _. ⌜ LinksMade (now (book .entry)) (now (links .entry)) (now (links .exit)) ⌝ }
+{
+    links::fill_links(book, index, links);
+}
 
 // 1 where a value's memory must be read before it is written, else 0.
 #[no_mangle]
@@ -34,29 +44,37 @@ pub extern "C" fn gateway_requires_read_modify_write(
 }
 
 // 6 for a short scratch, then the walk.
-fn rmw_in(book: &[u8], index: &[u32], width: u8, root: u32, scratch: &mut [u32]) -> Rmw
-    requires { ⌜ ValidBook (now book) × (isType (now book) root ≡ true) ⌝ }
+fn rmw_in(
+    book: &[u8],
+    index: &[u32],
+    links: &[u32],
+    width: u8,
+    root: u32,
+    scratch: &mut [u32],
+) -> Rmw
+    requires { ⌜ ValidBook (now book) × LinksOf (now book) (now links) × (isType (now book) root ≡ true) ⌝ }
     ensures { λ r. ⌜ RmwIn (scratchFits (now (scratch .entry))) (now (book .entry)) width root (now (scratch .entry)) r (now (scratch .exit)) ⌝ }
 {
     if scratch.len() < SCRATCH {
         return Rmw::Refused(6);
     }
-    walks::requires_read_modify_write_in(book, index, width, root, scratch)
+    walks::requires_read_modify_write_in(book, index, links, width, root, scratch)
 }
 
 #[no_mangle]
 pub extern "C" fn gateway_requires_read_modify_write_in(
     book: &[u8],
     index: &[u32],
+    links: &[u32],
     width: u8,
     root: u32,
     scratch: &mut [u32],
     values: &mut [u64],
 ) -> u8
-    requires { ⌜ ValidBook (now book) × (isType (now book) root ≡ true) ⌝ }
+    requires { ⌜ ValidBook (now book) × LinksOf (now book) (now links) × (isType (now book) root ≡ true) ⌝ }
     ensures { λ r. ⌜ RmwInGiven (scratchFits (now (scratch .entry))) (now (book .entry)) width root (now (scratch .entry)) (now (values .entry)) r (now (scratch .exit)) (now (values .exit)) ⌝ }
 {
-    give_rmw(rmw_in(book, index, width, root, scratch), values)
+    give_rmw(rmw_in(book, index, links, width, root, scratch), values)
 }
 
 // How many blocks are listed, 1 where the walk is whole, else 0, and how many names were met.
@@ -82,12 +100,13 @@ pub extern "C" fn gateway_missing_types(
 fn missing_in(
     book: &[u8],
     index: &[u32],
+    links: &[u32],
     width: u8,
     root: u32,
     scratch: &mut [u32],
     list: &mut [u32],
 ) -> Missing
-    requires { ⌜ ValidBook (now book) × (isType (now book) root ≡ true) ⌝ }
+    requires { ⌜ ValidBook (now book) × LinksOf (now book) (now links) × (isType (now book) root ≡ true) ⌝ }
     ensures { λ r. ⌜ MissingIn (scratchFits (now (scratch .entry)) && listFits (now (list .entry))) (now (book .entry)) width root (now (scratch .entry)) (now (list .entry)) r (now (scratch .exit)) (now (list .exit)) ⌝ }
 {
     if scratch.len() < SCRATCH {
@@ -96,21 +115,25 @@ fn missing_in(
     if list.len() < LIST {
         return Missing::Refused(6);
     }
-    walks::missing_types_in(book, index, width, root, scratch, list)
+    walks::missing_types_in(book, index, links, width, root, scratch, list)
 }
 
 #[no_mangle]
 pub extern "C" fn gateway_missing_types_in(
     book: &[u8],
     index: &[u32],
+    links: &[u32],
     width: u8,
     root: u32,
     scratch: &mut [u32],
     list: &mut [u32],
     values: &mut [u64],
 ) -> u8
-    requires { ⌜ ValidBook (now book) × (isType (now book) root ≡ true) ⌝ }
+    requires { ⌜ ValidBook (now book) × LinksOf (now book) (now links) × (isType (now book) root ≡ true) ⌝ }
     ensures { λ r. ⌜ MissingInGiven (scratchFits (now (scratch .entry)) && listFits (now (list .entry))) (now (book .entry)) width root (now (scratch .entry)) (now (list .entry)) (now (values .entry)) r (now (scratch .exit)) (now (list .exit)) (now (values .exit)) ⌝ }
 {
-    give_missing(missing_in(book, index, width, root, scratch, list), values)
+    give_missing(
+        missing_in(book, index, links, width, root, scratch, list),
+        values,
+    )
 }

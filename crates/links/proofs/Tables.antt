@@ -12,7 +12,7 @@ use Rattle.typebook.specs.declared.type_provider.Found.{Found}
 use Rattle.typebook.specs.declared.type_provider.Found.the-variants.{At}
 use Rattle.typebook.specs.Book.{blocks, typeNameOf}
 use Rattle.typebook.specs.Find.{find, FoundBy}
-use Rattle.typebook.specs.Probe.{Probed}
+use Rattle.typebook.specs.Probe.{LookedUp}
 use Rattle.typebook.proofs.Finds.{unique-find}
 use Rattle.book_check.specs.Check.{ValidBook}
 use Rattle.book_check.proofs.Valid.{valid-unique}
@@ -26,14 +26,14 @@ link-none book b = record { at = λ t e. absurd (omega arith) }
 
 module _ (book : List ℕ) (v : ValidBook book) (b : ℕ) (name : List ℕ) (en : name ≡ typeNameOf book b) (f : Found) where
   -- what the index leads to is what the name finds, since no two types of a valid book have one name
-  pub link-found : Probed book name f → (t : ℕ) → f ≡ At t → LinkOf book b (t + 1)
+  pub link-found : LookedUp book name false f → (t : ℕ) → f ≡ At t → LinkOf book b (t + 1)
   link-found p t e =
-      let q : find book (typeNameOf book b) ≡ At t = rw (← en) (unique-find book (valid-unique book v) name t (p .at t e)) in
+      let q : find book (typeNameOf book b) ≡ At t = rw (← en) (unique-find book (valid-unique book v) name t (p .probed .at t e)) in
       record { at = λ u h. let w : t ≡ u = omega arith in rw (← w) q }
 
   -- and its number has room for one more
-  pub link-fits : Probed book name f → (t : ℕ) → f ≡ At t → t + 1 < 4294967296
-  link-fits p t e = let l : t < min (blocks book) 65536 = p .at t e .below in omega arith
+  pub link-fits : LookedUp book name false f → (t : ℕ) → f ≡ At t → t + 1 < 4294967296
+  link-fits p t e = let l : t < min (blocks book) 65536 = p .probed .at t e .below in omega arith
 
   -- without a link the name is looked up
   pub asked-name : FoundBy book name f → f ≡ find book (typeNameOf book b)
@@ -48,13 +48,16 @@ asked-link book links s b link e n =
 pub at-end : (links : List ℕ) (b : ℕ) → length links ≤ b → 0 ≡ getD links b 0
 at-end links b h = sym (List·getD-eq-default links 0 h)
 
--- a table of one 0 says nothing
+-- a table of one 0 says nothing, and an empty one
 pub silent : (book : List ℕ) → LinksOf book (0 ∷ [])
 silent book = record { slot = by }
   where
     by : (b : ℕ) → LinkOf book b (getD (0 ∷ []) b 0)
     by zero = link-none book zero
     by (suc b) = link-none book (suc b)
+
+pub empty : (book : List ℕ) → LinksOf book []
+empty book = record { slot = link-none book }
 
 -- ---- the loop of `fill_links`
 

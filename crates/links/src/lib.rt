@@ -22,7 +22,7 @@ fn link(book: &[u8], index: &[u32], b: usize) -> u32
     if MAX_BLOCKS <= b {
         return 0;
     }
-    let found = type_provider::probe(book, index, block::type_name(book, b as u32));
+    let found = type_provider::look_up(book, index, block::type_name(book, b as u32), false);
     match found {
         Found::At(t) => t + 1,
         Found::Nothing => 0,

@@ -12,7 +12,7 @@ use Rattle.typebook.specs.declared.type_provider.Found.{Found}
 use Rattle.typebook.specs.declared.type_provider.Found.the-variants.{At, Nothing}
 use Rattle.typebook.specs.Book.{isNamed, kindOf}
 use Rattle.typebook.specs.Find.{searched, find, FoundBy, TypeBlock, Slots, IndexOf}
-use Rattle.typebook.specs.Probe.{Probed, Entered}
+use Rattle.typebook.specs.Probe.{Probed, LookedUp, Entered}
 use Rattle.typebook.proofs.Finds.{find-named, unique-find}
 
 module _ (book name : List ℕ) where
@@ -25,7 +25,7 @@ module _ (book name : List ℕ) where
         at = λ m e. let q : n ≡ m = cc in record { below = omega arith; named = rw (← q) (sym et ∙ h) };
       }
 
-  pub by-search : (r : Found) → r ≡ find book name → FoundBy book name r
+  by-search : (r : Found) → r ≡ find book name → FoundBy book name r
   by-search r e =
       record {
         at = λ n h. find-named book name n (sym e ∙ h);
@@ -33,13 +33,26 @@ module _ (book name : List ℕ) where
         unique = λ u. e;
       }
 
-  pub by-probe : (r : Found) (n : ℕ) → Probed book name r → r ≡ At n → FoundBy book name (At n)
+  by-probe : (r : Found) (n : ℕ) → Probed book name r → r ≡ At n → FoundBy book name (At n)
   by-probe r n p e =
       record {
         at = λ m h. p .at m (e ∙ h);
         nothing = λ h. absurd (let z : _≡_ {A = ℕ} 0 1 = cc in omega arith);
         unique = λ u. sym (unique-find book u name n (p .at n e));
       }
+
+  module _ (search : Bool) where
+    pub looked-search : search ≡ true → (r : Found) → r ≡ find book name → LookedUp book name search r
+    looked-search s r e = let f = by-search r e in record { probed = record { at = f .at }; whole = λ t. f }
+
+    pub looked-none : search ≡ false → LookedUp book name search Nothing
+    looked-none s = record { probed = probed-none; whole = λ t. absurd (let z : _≡_ {A = ℕ} 0 1 = cc in omega arith) }
+
+    pub looked-at : (r : Found) (n : ℕ) → Probed book name r → r ≡ At n → LookedUp book name search (At n)
+    looked-at r n p e = let f = by-probe r n p e in record { probed = record { at = f .at }; whole = λ t. f }
+
+  pub by-look-up : {r : Found} → LookedUp book name true r → FoundBy book name r
+  by-look-up l = l .whole refl
 
 module _ (book : List ℕ) where
   pub entered-at : (xs : List ℕ) (at n k : ℕ) → k ≡ kindOf book n → k ≡ 1 → n < searched book → at < length xs → Entered book xs (set xs at (n + 1))

@@ -4,7 +4,7 @@ ghost use Prim.Native.Nat.{_<_};
 ghost use lib.ListN.{length, replicate};
 ghost use Rattle.typebook.specs.Book.{isNamed};
 ghost use Rattle.typebook.specs.Find.{searched as searchedOf, find as findIn, FoundBy, IndexOf};
-ghost use Rattle.typebook.specs.Probe.{Probed, Entered};
+ghost use Rattle.typebook.specs.Probe.{Probed, LookedUp, Entered};
 use crate::block;
 
 // A type block's number, or that the book has no type of that name.
@@ -105,7 +105,7 @@ fn believe(book: &[u8], name: &[u8], slot: u32) -> Found
 }
 
 // The block of that name that the index leads to: up to the first empty slot.
-pub fn probe(book: &[u8], index: &[u32], name: &[u8]) -> Found
+fn probe(book: &[u8], index: &[u32], name: &[u8]) -> Found
     ensures { λ r. ⌜ Probed (now (book .entry)) (now (name .entry)) r ⌝ }
 {
     if index.len() == 0 {
@@ -128,16 +128,26 @@ pub fn probe(book: &[u8], index: &[u32], name: &[u8]) -> Found
     Found::Nothing
 }
 
-// The type block of that name, by an index that `fill_index` made, or by any other: a name that the index does not
-// lead to is searched for in the book.
-pub fn find_by(book: &[u8], index: &[u32], name: &[u8]) -> Found
-    ensures { λ r. ⌜ FoundBy (now (book .entry)) (now (name .entry)) r ⌝ }
+// The type block of that name, by an index that `fill_index` made, or by any other. A name that the index does not lead to is
+// searched for in the book where that is asked for.
+pub fn look_up(book: &[u8], index: &[u32], name: &[u8], search: bool) -> Found
+    ensures { λ r. ⌜ LookedUp (now (book .entry)) (now (name .entry)) search r ⌝ }
 {
     let found = probe(book, index, name);
     let Found::At(n) = found else {
-        return find(book, name);
+        if search {
+            return find(book, name);
+        }
+        return Found::Nothing;
     };
     Found::At(n)
+}
+
+// The type block of that name, whatever the index holds.
+pub fn find_by(book: &[u8], index: &[u32], name: &[u8]) -> Found
+    ensures { λ r. ⌜ FoundBy (now (book .entry)) (now (name .entry)) r ⌝ }
+{
+    look_up(book, index, name, true)
 }
 
 // The first empty slot for a name, or the index's length where those that are tried are taken.

@@ -21,8 +21,8 @@ fn done(number: u8, values: &[u64]) -> Result<(), Refusal> {
 
 /// A type book that was checked: document 01's refusals 1 to 4 are behind it.
 ///
-/// It owns its bytes or borrows them, and keeps an index of its names, so that look-ups are quick. Nothing changes a checked
-/// book; [`append`](TypeBook::append) gives back a new one.
+/// It owns its bytes or borrows them, and keeps an index of its names and a link from each block to the type that it names, so
+/// that look-ups and walks are quick. Nothing changes a checked book; [`append`](TypeBook::append) gives back a new one.
 #[derive(Clone)]
 pub struct TypeBook<'a> {
     checked: Checked<'a>,

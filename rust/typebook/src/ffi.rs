@@ -1,8 +1,8 @@
 //! The library's functions, declared, and this crate's only unsafe code.
 //!
 //! The calls of [`total`] take any bytes: each is proved for all of them. The forms whose names end in `_in` need a book
-//! that was checked and a root that is one of its type blocks; [`Checked`] and [`TypeBlock`] can only be had by those checks,
-//! and their bytes can't change while they are lent.
+//! that was checked and a root that is one of its type blocks, and the two walks a table of links that was made for that book;
+//! [`Checked`] and [`TypeBlock`] can only be had by those checks, and their bytes can't change while they are lent.
 
 use std::borrow::Cow;
 
@@ -151,11 +151,21 @@ mod raw {
             values: *mut u64,
             values_len: usize,
         ) -> u8;
+        pub fn gateway_fill_links(
+            book: *const u8,
+            book_len: usize,
+            index: *const u32,
+            index_len: usize,
+            links: *mut u32,
+            links_len: usize,
+        );
         pub fn gateway_requires_read_modify_write_in(
             book: *const u8,
             book_len: usize,
             index: *const u32,
             index_len: usize,
+            links: *const u32,
+            links_len: usize,
             width: u8,
             root: u32,
             scratch: *mut u32,
@@ -168,6 +178,8 @@ mod raw {
             book_len: usize,
             index: *const u32,
             index_len: usize,
+            links: *const u32,
+            links_len: usize,
             width: u8,
             root: u32,
             scratch: *mut u32,
@@ -501,11 +513,35 @@ pub mod total {
     }
 }
 
-/// A book that the library has found valid, with an index of its names.
+/// A book that the library has found valid, with an index of its names and the links of its blocks.
 #[derive(Clone)]
 pub(crate) struct Checked<'a> {
     bytes: Cow<'a, [u8]>,
     index: Vec<u32>,
+    links: Links,
+}
+
+/// For each block the type that its type name finds. The walks believe it, so it is made for one book and never changed.
+#[derive(Clone)]
+struct Links(Vec<u32>);
+
+impl Links {
+    /// The links of a book that was checked; any index gives right ones.
+    fn of_checked(book: &[u8], index: &[u32]) -> Self {
+        let mut links = vec![0; book.len() / 512];
+        // SAFETY: the book was checked, and every pointer and length is one slice's, lent for the call alone.
+        unsafe {
+            raw::gateway_fill_links(
+                book.as_ptr(),
+                book.len(),
+                index.as_ptr(),
+                index.len(),
+                links.as_mut_ptr(),
+                links.len(),
+            );
+        }
+        Self(links)
+    }
 }
 
 impl<'a> Checked<'a> {
@@ -517,7 +553,8 @@ impl<'a> Checked<'a> {
                 let types = bytes.chunks_exact(512).filter(|block| block[0] == 1).count();
                 let mut index = vec![0; 4 * types];
                 total::fill_index(&bytes, &mut index);
-                Ok(Self { bytes, index })
+                let links = Links::of_checked(&bytes, &index);
+                Ok(Self { bytes, index, links })
             }
             number => Err(number),
         }
@@ -548,8 +585,8 @@ pub(crate) struct TypeBlock<'b> {
     block: u32,
 }
 
-// SAFETY, in each call below: the book was checked and its bytes are lent unchanged, the root is one of its type blocks, and
-// every pointer and length is one slice's, lent for the call alone.
+// SAFETY, in each call below: the book was checked and its bytes are lent unchanged, the root is one of its type blocks, the
+// links are those of this book, and every pointer and length is one slice's, lent for the call alone.
 impl<'b> TypeBlock<'b> {
     pub(crate) fn book(self) -> &'b Checked<'b> {
         self.book
@@ -592,13 +629,15 @@ impl<'b> TypeBlock<'b> {
     }
 
     pub(crate) fn requires_read_modify_write(self, width: u8, scratch: &mut [u32], values: &mut [u64]) -> u8 {
-        let (b, i, v) = (self.book.bytes(), self.book.index(), values);
+        let (b, i, l, v) = (self.book.bytes(), self.book.index(), &self.book.links.0, values);
         unsafe {
             raw::gateway_requires_read_modify_write_in(
                 b.as_ptr(),
                 b.len(),
                 i.as_ptr(),
                 i.len(),
+                l.as_ptr(),
+                l.len(),
                 width,
                 self.block,
                 scratch.as_mut_ptr(),
@@ -610,13 +649,15 @@ impl<'b> TypeBlock<'b> {
     }
 
     pub(crate) fn missing_types(self, width: u8, scratch: &mut [u32], list: &mut [u32], values: &mut [u64]) -> u8 {
-        let (b, i, v) = (self.book.bytes(), self.book.index(), values);
+        let (b, i, l, v) = (self.book.bytes(), self.book.index(), &self.book.links.0, values);
         unsafe {
             raw::gateway_missing_types_in(
                 b.as_ptr(),
                 b.len(),
                 i.as_ptr(),
                 i.len(),
+                l.as_ptr(),
+                l.len(),
                 width,
                 self.block,
                 scratch.as_mut_ptr(),
@@ -674,7 +715,41 @@ mod tests {
         (numbers, v, [scratch, list].concat(), [tape, text].concat())
     }
 
-    /// Any index is allowed: an empty one, one of another book, one of random numbers.
+    /// A table of fewer links, of more, and of none gives the same answers.
+    #[test]
+    fn fewer_links_change_no_answer() {
+        for seed in 0..400 {
+            let rng = &mut Rng::new(seed);
+            let made = made(rng);
+            let memory = memory(rng, &made);
+            let mut book = Checked::new(Cow::Borrowed(&made.book)).expect("valid");
+            let told = answers(book.type_block(made.root).expect("a type"), made.width, &memory);
+            let full = [&book.links.0[..], &[0; 3]].concat();
+            for len in [0, 1, full.len() / 2, full.len()] {
+                book.links = Links(full[..len].to_vec());
+                assert_eq!(
+                    answers(book.type_block(made.root).expect("a type"), made.width, &memory),
+                    told
+                );
+            }
+        }
+    }
+
+    /// A slot is one more than the block that the type name finds, or 0 where it finds none.
+    #[test]
+    fn links_are_what_the_names_find() {
+        for seed in 0..400 {
+            let made = made(&mut Rng::new(seed));
+            let checked = Checked::new(Cow::Borrowed(&made.book)).expect("valid");
+            let twin = twin::Book::new(&made.book);
+            for (b, &link) in checked.links.0.iter().enumerate() {
+                let found = twin.find(twin::block::type_name(&made.book, b as u32));
+                assert_eq!(link, found.map_or(0, |t| t + 1), "block {b} of {seed}");
+            }
+        }
+    }
+
+    /// Any index is allowed, also to make the links by: an empty one, one of another book, one of random numbers.
     #[test]
     fn foreign_indexes_change_no_answer() {
         for seed in 0..400 {
@@ -687,6 +762,7 @@ mod tests {
             let blocks = book.bytes().len() as u64 / 512;
             for most in [1, 2, blocks + 3, u64::from(u32::MAX) + 1] {
                 book.index = (0..rng.below(200)).map(|_| (rng.number() % most) as u32).collect();
+                book.links = Links::of_checked(&book.bytes, &book.index);
                 assert_eq!(
                     answers(book.type_block(made.root).expect("a type"), made.width, &memory),
                     told

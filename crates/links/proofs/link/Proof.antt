@@ -15,8 +15,8 @@ cast-type-name c = search needs
 type-name-requires : tie.Need-type-name-requires
 type-name-requires c κs = search needs
 
-probe-requires : tie.Need-probe-requires
-probe-requires c κs = search needs
+look-up-requires : tie.Need-look-up-requires
+look-up-requires c κs = search needs
 
 enum-known-found : tie.Need-enum-known-found
 enum-known-found c = search needs
@@ -40,7 +40,7 @@ link-spec =
     returns
     cast-type-name
     type-name-requires
-    probe-requires
+    look-up-requires
     enum-known-found
     add-result
     enum-told
