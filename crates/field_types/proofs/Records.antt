@@ -1,24 +1,28 @@
--- The records of fields: whether they fit, and the loop that stores them. Assumes nothing.
+-- The records of fields: whether they fit, the loop that stores them, and what the call owes at each exit. Assumes nothing.
 use mathlib.Core.Path.{_≡_, refl, sym, ap, _∙_}
 use mathlib.Core.Bool.{Bool, true, false, cond}
 use mathlib.Core.List.{List, [], _∷_, _++_}
 use Prim.Native.Nat.{ℕ, zero, suc, _+_, _*_, _-_, _/_, _≤_, _<_}
 use native.Mathlib.Omega.{arith}
 use borrow.Author.Tests.{le-leb, lt-leb, leb-true}
-use lib.ListN.{length, set}
+use lib.ListN.{length, take, set}
 use lib.Dec.{leb}
 use lib.Seq.{sets, length-sets, sets-eq}
 use Rattle.typebook.specs.Book.{fieldsOf}
-use Rattle.resolvers.specs.declared.ResolvedField.{ResolvedField}
-use Rattle.resolvers.specs.declared.FieldAnswer.{FieldAnswer}
-use Rattle.resolvers.specs.declared.FieldAnswer.the-variants as answer
-use Rattle.resolvers.specs.declared.FieldsCheck.{FieldsCheck}
-use Rattle.resolvers.specs.declared.FieldsCheck.the-variants as check
-use Rattle.resolvers.specs.declared.FieldsAnswer.{FieldsAnswer}
-use Rattle.resolvers.specs.declared.FieldsAnswer.the-variants as fields
-use Rattle.resolvers.specs.Resolve.{resolveField, fieldsFrom, fieldsCheck, FieldResolved}
-use Rattle.resolvers.specs.Calls.{fits, fieldsEnd, fieldsAnswer, recordOf, recordsFrom, fieldRecords, storedIn, Filled}
-use Rattle.resolvers.proofs.Fields.{fields-more, fields-lacks, fields-endless}
+use Rattle.book_check.specs.declared.RootCheck.{RootCheck}
+use Rattle.book_check.specs.declared.RootCheck.the-variants as checked
+use Rattle.book_check.specs.Check.{checkRoot}
+use Rattle.resolvers.specs.Calls.{atRoot}
+use Rattle.field_types.specs.declared.ResolvedField.{ResolvedField}
+use Rattle.field_types.specs.declared.FieldAnswer.{FieldAnswer}
+use Rattle.field_types.specs.declared.FieldAnswer.the-variants as answer
+use Rattle.field_types.specs.declared.FieldsCheck.{FieldsCheck}
+use Rattle.field_types.specs.declared.FieldsCheck.the-variants as check
+use Rattle.field_types.specs.declared.FieldsAnswer.{FieldsAnswer}
+use Rattle.field_types.specs.declared.FieldsAnswer.the-variants as fields
+use Rattle.field_types.specs.Fields.{resolveField, fieldsFrom, fieldsCheck, FieldResolved}
+use Rattle.field_types.specs.Calls.{fits, fieldsEnd, fieldsAnswer, recordOf, recordsFrom, fieldRecords, storedIn, Filled, rootFields, rootRecords}
+use Rattle.field_types.proofs.Fields.{fields-more, fields-lacks, fields-endless}
 
 -- ---- how many records fit
 
@@ -185,3 +189,17 @@ module _ (book : List ℕ) (width t : ℕ) (before : List ℕ) (r : FieldsAnswer
         let l : 0 + length (recordsFrom book width (t + 1) (fieldsOf book t)) ≤ length before = omega arith in
         let z : 0 + length (recordsFrom book width (t + 1) (fieldsOf book t)) ≡ length (recordsFrom book width (t + 1) (fieldsOf book t)) = omega arith in
         record { is = sym h ∙ e; records = rw (← e, h) (q ∙ sets-eq (recordsFrom book width (t + 1) (fieldsOf book t)) before 0 l ∙ rw z) }
+
+-- ---- the root
+
+module _ (buffer : List ℕ) (len root : ℕ) (k : RootCheck) (e : k ≡ checkRoot buffer len root) (width : ℕ) (before : List ℕ) where
+  pub fields-refused : (n : ℕ) → k ≡ checked.Refused n
+      → Filled (rootFields buffer len width root (length before)) (rootRecords buffer len width root) before (fields.Refused n) before
+  unfolding rootFields atRoot storedIn
+  fields-refused n h = record { is = rw (← e, h); records = rw (← e, h) }
+
+  pub fields-root : (t : ℕ) → k ≡ checked.Root t → (r : FieldsAnswer) (after : List ℕ)
+      → Filled (fieldsAnswer (take len buffer) width t (length before)) (fieldRecords (take len buffer) width t) before r after
+      → Filled (rootFields buffer len width root (length before)) (rootRecords buffer len width root) before r after
+  unfolding rootFields rootRecords atRoot
+  fields-root t h r after q = record { is = rw (← e, h) (q .is); records = rw (← e, h) (q .records) }

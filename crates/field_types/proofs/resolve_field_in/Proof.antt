@@ -1,9 +1,9 @@
 -- `resolve_field_in` meets its contract. Assumes nothing.
 use Rattle.resolvers.proofs.Chains.{found-typed}
-use Rattle.resolvers.proofs.Fields.{resolved-nothing, resolved-base, resolved-lacks, resolved-endless}
+use Rattle.field_types.proofs.Fields.{resolved-nothing, resolved-base, resolved-lacks, resolved-endless}
 use borrow.Author.Needs.{needs}
-use Rattle.resolvers.proofs.resolve_field_in.Statement.{statement}
-use Rattle.resolvers.proofs.resolve_field_in.Tie as tie
+use Rattle.field_types.proofs.resolve_field_in.Statement.{statement}
+use Rattle.field_types.proofs.resolve_field_in.Tie as tie
 
 ruleset exits = (resolved-nothing, resolved-base, resolved-lacks, resolved-endless)
 

@@ -1,8 +1,9 @@
 -- `resolve_fields` meets its contract. Assumes nothing.
-use Rattle.resolvers.proofs.Calls.{root-cut, root-book, root-type, fields-refused, fields-root}
+use Rattle.resolvers.proofs.Calls.{root-cut, root-book, root-type}
+use Rattle.field_types.proofs.Records.{fields-refused, fields-root}
 use borrow.Author.Needs.{needs}
-use Rattle.resolvers.proofs.resolve_fields.Statement.{statement}
-use Rattle.resolvers.proofs.resolve_fields.Tie as tie
+use Rattle.field_types.proofs.resolve_fields.Statement.{statement}
+use Rattle.field_types.proofs.resolve_fields.Tie as tie
 
 ruleset exits = (fields-refused, fields-root)
 

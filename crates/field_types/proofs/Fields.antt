@@ -12,15 +12,16 @@ use Rattle.typebook.specs.Book.{isType, offsetOf, sizeOf, fieldsOf, typeNameOf}
 use Rattle.typebook.specs.Find.{find, FoundBy}
 use Rattle.book_check.specs.Check.{ValidBook}
 use Rattle.book_check.proofs.Valid.{valid-size, valid-type}
 use Rattle.resolvers.specs.declared.Resolved.{Resolved}
 use Rattle.resolvers.specs.declared.Resolved.the-variants.{Base, Lacks, Endless}
-use Rattle.resolvers.specs.declared.ResolvedField.{ResolvedField}
-use Rattle.resolvers.specs.declared.FieldAnswer.{FieldAnswer}
-use Rattle.resolvers.specs.declared.FieldAnswer.the-variants as answer
-use Rattle.resolvers.specs.declared.FieldsCheck.{FieldsCheck}
-use Rattle.resolvers.specs.declared.FieldsCheck.the-variants as check
-use Rattle.resolvers.specs.Resolve.{resolveAlias, fieldOf, fieldFound, resolveField, fieldThen, fieldsFrom, fieldsCheck, ResolvedIs, FieldResolved}
+use Rattle.field_types.specs.declared.ResolvedField.{ResolvedField}
+use Rattle.field_types.specs.declared.FieldAnswer.{FieldAnswer}
+use Rattle.field_types.specs.declared.FieldAnswer.the-variants as answer
+use Rattle.field_types.specs.declared.FieldsCheck.{FieldsCheck}
+use Rattle.field_types.specs.declared.FieldsCheck.the-variants as check
+use Rattle.resolvers.specs.Resolve.{resolveAlias, ResolvedIs}
+use Rattle.field_types.specs.Fields.{fieldOf, fieldFound, resolveField, fieldThen, fieldsFrom, fieldsCheck, FieldResolved}
 use Rattle.resolvers.proofs.Chains.{found-is}
 
 -- ---- one field
 

@@ -1,10 +1,10 @@
 -- `store_field` meets its contract. Assumes nothing.
 use native.Mathlib.Omega.{arith}
 use lib.ListN.{length-set}
-use Rattle.resolvers.proofs.Records.{store-four}
+use Rattle.field_types.proofs.Records.{store-four}
 use borrow.Author.Needs.{needs}
-use Rattle.resolvers.proofs.store_field.Statement.{statement}
-use Rattle.resolvers.proofs.store_field.Tie as tie
+use Rattle.field_types.proofs.store_field.Statement.{statement}
+use Rattle.field_types.proofs.store_field.Tie as tie
 
 mul-records : tie.Need-mul-records
 mul-records c = search needs

@@ -1,8 +1,8 @@
 -- `fill_fields` meets its contract. Assumes nothing.
-use Rattle.resolvers.proofs.Records.{filled-lacks, filled-refused, filled-fine, filled-room, filled-done}
+use Rattle.field_types.proofs.Records.{filled-lacks, filled-refused, filled-fine, filled-room, filled-done}
 use borrow.Author.Needs.{needs}
-use Rattle.resolvers.proofs.fill_fields.Statement.{statement}
-use Rattle.resolvers.proofs.fill_fields.Tie as tie
+use Rattle.field_types.proofs.fill_fields.Statement.{statement}
+use Rattle.field_types.proofs.fill_fields.Tie as tie
 
 ruleset exits = (filled-lacks, filled-refused, filled-done)
 

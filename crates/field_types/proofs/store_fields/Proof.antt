@@ -2,10 +2,10 @@
 use borrow.Author.Needs.{needs}
 use Prim.Native.Nat.{_≤_, _-_}
 use Rattle.typebook.specs.Book.{fieldsOf}
-use Rattle.resolvers.proofs.Fields.{field-first, field-number}
-use Rattle.resolvers.proofs.Records.{Storing, store-start, store-end, store-room, store-again, store-lacks, store-endless}
-use Rattle.resolvers.proofs.store_fields.Statement.{statement}
-use Rattle.resolvers.proofs.store_fields.Tie as tie
+use Rattle.field_types.proofs.Fields.{field-first, field-number}
+use Rattle.field_types.proofs.Records.{Storing, store-start, store-end, store-room, store-again, store-lacks, store-endless}
+use Rattle.field_types.proofs.store_fields.Statement.{statement}
+use Rattle.field_types.proofs.store_fields.Tie as tie
 
 ruleset exits = (store-lacks, store-endless, store-end)
 
