@@ -9,8 +9,8 @@ use Rattle.resolvers.specs.declared.Resolved.{Resolved}
 use Rattle.resolvers.specs.declared.Resolved.the-variants as resolved
 use Rattle.resolvers.specs.declared.Resolution.{Resolution}
 use Rattle.resolvers.specs.declared.Resolution.the-variants as resolution
-use Rattle.resolvers.specs.declared.FieldsAnswer.{FieldsAnswer}
-use Rattle.resolvers.specs.declared.FieldsAnswer.the-variants as fields
+use Rattle.field_types.specs.declared.FieldsAnswer.{FieldsAnswer}
+use Rattle.field_types.specs.declared.FieldsAnswer.the-variants as fields
 use Rattle.walks.specs.declared.Rmw.{Rmw}
 use Rattle.walks.specs.declared.Rmw.the-variants as rmw
 use Rattle.walks.specs.declared.Missing.{Missing}

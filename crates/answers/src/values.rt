@@ -5,7 +5,7 @@ ghost use lib.ListN.{set};
 ghost use Rattle.answers.specs.Values.{Gives, AppendedAs, ResolvedAs, ResolutionAs, FieldsAs, RmwAs, MissingAs, ReadAs};
 use crate::numbers::truth;
 use de::deserializer::ReadAnswer;
-use resolvers::FieldsAnswer;
+use field_types::FieldsAnswer;
 use resolvers::Resolution;
 use resolvers::Resolved;
 use type_cache::Appended;

@@ -14,11 +14,12 @@ use Rattle.typebook.specs.Find.{find}
 use Rattle.typebook.specs.declared.type_provider.Found.the-variants.{Nothing}
 use Rattle.typebook.proofs.Blocks.{block-append, same-byte, same-u32, same-counted}
 use Rattle.typebook.proofs.Finds.{same-named, find-nothing, searched-all}
-use Rattle.book_check.specs.Form.{sumRight, typeForm, fieldForm, entryForm}
-use Rattle.book_check.specs.Check.{allFrom, sumAt, placeOf, onward, placedFrom, placed, isOther, isFirst, ValidBook}
-use Rattle.book_check.proofs.Bytes.{and-left, and-right}
-use Rattle.book_check.proofs.Blocks.{all-of, each-of}
-use Rattle.book_check.proofs.Doubles.{other-holds}
+use Rattle.block_form.specs.Form.{sumRight, typeForm, fieldForm, entryForm}
+use Rattle.doubles.specs.Doubles.{allFrom, isOther, isFirst}
+use Rattle.book_check.specs.Check.{sumAt, placeOf, onward, placedFrom, placed, ValidBook}
+use Rattle.block_form.proofs.Bytes.{and-left, and-right}
+use Rattle.doubles.proofs.All.{all-of, each-of}
+use Rattle.doubles.proofs.Doubles.{other-holds}
 use Rattle.book_check.proofs.Checks.{passes-again, size-in}
 use Rattle.book_check.proofs.Valid.{chosen, went, valid-passes, valid-size, valid-names, valid-first}
 

@@ -1,20 +1,18 @@
 -- The blocks of a book, one after another: one law for each way out of each function. Assumes nothing.
-use mathlib.Core.Path.{_≡_, refl, sym, _∙_}
+use mathlib.Core.Path.{_≡_, sym, _∙_}
 use mathlib.Core.Bool.{Bool, true, false, _&&_, not, cond}
 use mathlib.Core.List.{List}
-use Prim.Native.Nat.{ℕ, zero, suc, _+_, _*_, _-_, _≤_, _<_}
+use Prim.Native.Nat.{ℕ, suc, _+_, _*_, _-_, _≤_, _<_}
 use native.Mathlib.Omega.{arith}
 use lib.ListN.{length, take, drop, length-drop}
-use lib.Seq.{length-take-le, take-take}
-use lib.Dec.{eqb, lit≤}
-use borrow.Author.Tests.{eq-eqb, ne-eqb, eqb-true, eqb-false, not-true, not-false}
+use lib.Seq.{length-take-le}
+use lib.Dec.{eqb}
+use borrow.Author.Tests.{eq-eqb, ne-eqb, not-true, not-false}
 use Rattle.typebook.specs.Book.{blocks, blockOf, fieldsOf, entriesOf}
-use Rattle.number.specs.Le.{leValue}
-use Rattle.book_check.specs.Form.{sumOf, sumRight, typeForm, fieldForm, entryForm}
-use Rattle.book_check.specs.Check.{allFrom, sumAt, placeOf, onward, placedFrom, placed}
+use Rattle.block_form.specs.Form.{sumRight, typeForm, fieldForm, entryForm}
+use Rattle.book_check.specs.Check.{sumAt, placeOf, onward, placedFrom, placed}
 use Rattle.book_check.specs.declared.Place.{Place}
 use Rattle.book_check.specs.declared.Place.the-variants.{Next, Wrong}
-use Rattle.book_check.proofs.Bytes.{and-left, and-right}
 
 module _ (book : List ℕ) (n : ℕ) (l : n < blocks book) where
   long : n * 512 + 512 - n * 512 ≡ 512
@@ -29,60 +27,7 @@ module _ (book : List ℕ) (n : ℕ) (l : n < blocks book) where
   pub block-whole : length (take (n * 512 + 512 - n * 512) (drop (n * 512) book)) ≡ 512
   block-whole = rw long block-length
 
--- a test of every block, from the first on
-module _ (p : ℕ → Bool) (n : ℕ) where
-  pub all-start : allFrom p 0 n ≡ allFrom p 0 (n - 0)
-  all-start = let k : n - 0 ≡ n = omega arith in rw k
-
-  module _ (i : ℕ) (inv : allFrom p 0 n ≡ allFrom p i (n - i)) (m : ℕ) (e : m ≡ n) where
-    module _ (l : i < m) where
-      turn : allFrom p 0 n ≡ p i && allFrom p (i + 1) (n - (i + 1))
-      unfolding allFrom
-      turn = let k : n - i ≡ suc (n - (i + 1)) = omega arith in inv ∙ rw k
-
-      pub all-stop : p i ≡ false → false ≡ allFrom p 0 n
-      all-stop h = sym (turn ∙ rw h)
-
-      pub all-again : p i ≡ true → allFrom p 0 n ≡ allFrom p (i + 1) (n - (i + 1))
-      all-again h = turn ∙ rw h
-
-    pub all-end : m ≤ i → true ≡ allFrom p 0 n
-    unfolding allFrom
-    all-end h = let k : n - i ≡ 0 = omega arith in sym (inv ∙ rw k)
-
--- what every block passes, and back
-all-from : (p : ℕ → Bool) (i k : ℕ) → ((m : ℕ) → i ≤ m → m < i + k → p m ≡ true) → allFrom p i k ≡ true
-unfolding allFrom
-all-from p i zero h = refl
-all-from p i (suc k) h = rw (h i (omega arith) (omega arith)) (all-from p (i + 1) k (λ m l g. h m (omega arith) (omega arith)))
-
-pub all-of : (p : ℕ → Bool) (n : ℕ) → ((m : ℕ) → m < n → p m ≡ true) → allFrom p 0 n ≡ true
-all-of p n h = all-from p 0 n (λ m l g. h m (omega arith))
-
-each-from : (p : ℕ → Bool) (i k : ℕ) → allFrom p i k ≡ true → (m : ℕ) → i ≤ m → m < i + k → p m ≡ true
-unfolding allFrom
-each-from p i zero h m l g = absurd (omega arith)
-each-from p i (suc k) h m l g = by (eqb m i) refl (each-from p (i + 1) k (and-right (p i) _ h) m)
-  where
-    by : (t : Bool) → eqb m i ≡ t → (i + 1 ≤ m → m < i + 1 + k → p m ≡ true) → p m ≡ true
-    by true e go = rw (eqb-true m i e) (and-left _ _ h)
-    by false e go = let n : m ≡ i → ⊥ = eqb-false m i e in go (omega (arith, n)) (omega arith)
-
-pub each-of : (p : ℕ → Bool) (n : ℕ) → allFrom p 0 n ≡ true → (m : ℕ) → m < n → p m ≡ true
-each-of p n h m l = each-from p 0 n h m (omega arith) (omega arith)
-
 -- refusal 2
-module _ (b : List ℕ) (h : length b ≡ 512) where
-  pub sum-head : 508 ≡ length (take 508 b)
-  sum-head = sym (length-take-le 508 b (omega arith))
-
-  pub sum-short : length (take 508 b) ≤ 512
-  sum-short = omega (arith, sum-head)
-
-pub sum-is : (b : List ℕ) (s r : ℕ) → s ≡ leValue (take 4 (take 4 (drop 508 b))) → r ≡ sumOf (take 508 b) → eqb s r ≡ sumRight b
-unfolding sumRight
-sum-is b s r e q = rw (e, q, take-take 4 4 (drop 508 b) (lit≤ tt))
-
 module _ (book : List ℕ) (i : ℕ) (s : List ℕ) (e : s ≡ blockOf book i) (t : Bool) (q : t ≡ sumRight s) where
   pub sum-fails : not t ≡ true → sumAt book i ≡ false
   unfolding sumAt

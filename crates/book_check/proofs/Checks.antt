@@ -9,12 +9,13 @@ use lib.ListN.{length, take}
 use lib.Seq.{length-take-le}
 use lib.Dec.{eqb, leb, ltb}
 use Rattle.typebook.specs.Book.{blocks, isType}
-use Rattle.book_check.specs.Check.{sizeRight, sums, placed, distinct, checkBlocks, checkBook, bookRefusal, rootOf, checkRoot}
+use Rattle.doubles.specs.Doubles.{distinct}
+use Rattle.book_check.specs.Check.{sizeRight, sums, placed, checkBlocks, checkBook, bookRefusal, rootOf, checkRoot}
 use Rattle.book_check.specs.declared.BookCheck.{BookCheck}
 use Rattle.book_check.specs.declared.BookCheck.the-variants.{Valid, Size, Sum, Form, Doubled}
 use Rattle.book_check.specs.declared.RootCheck.{RootCheck}
 use Rattle.book_check.specs.declared.RootCheck.the-variants.{Root, Refused}
-use Rattle.book_check.proofs.Bytes.{and-left, and-right}
+use Rattle.block_form.proofs.Bytes.{and-left, and-right}
 
 -- ---- refusal 1
 module _ (room len : ℕ) where

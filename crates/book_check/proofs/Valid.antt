@@ -14,14 +14,15 @@ use Rattle.typebook.specs.Find.{find, TypeBlock, UniqueNames}
 use Rattle.typebook.specs.declared.type_provider.Found.the-variants.{At}
 use Rattle.typebook.proofs.Blocks.{byte-of-block, part-of-block}
 use Rattle.typebook.proofs.Finds.{named-own, find-is, searched-all}
-use Rattle.book_check.specs.Form.{every, isZero, isPrintable, part, unusedZero, nameForm, namesForm, typeForm, fieldForm, entryForm}
-use Rattle.book_check.specs.Check.{allFrom, sizeRight, placeOf, onward, placedFrom, isOther, isFirst, checkBook, ValidBook, rootOf, checkRoot, bookRefusal}
+use Rattle.block_form.specs.Form.{every, isZero, isPrintable, part, unusedZero, nameForm, namesForm, typeForm, fieldForm, entryForm}
+use Rattle.doubles.specs.Doubles.{allFrom, isOther, isFirst}
+use Rattle.book_check.specs.Check.{sizeRight, placeOf, onward, placedFrom, checkBook, ValidBook, rootOf, checkRoot, bookRefusal}
 use Rattle.book_check.specs.declared.Place.the-variants.{Next, Wrong}
 use Rattle.book_check.specs.declared.BookCheck.the-variants.{Valid}
 use Rattle.book_check.specs.declared.RootCheck.the-variants.{Root, Refused}
-use Rattle.book_check.proofs.Bytes.{and-left, and-right}
-use Rattle.book_check.proofs.Forms.{unused-room}
-use Rattle.book_check.proofs.Blocks.{each-of}
+use Rattle.block_form.proofs.Bytes.{and-left, and-right}
+use Rattle.block_form.proofs.Forms.{unused-room}
+use Rattle.doubles.proofs.All.{each-of}
 use Rattle.book_check.proofs.Checks.{Sized, Passed, passes, passed-size, passes-again, size-again, size-in, book-length, zero-valid}
 
 -- ---- one block

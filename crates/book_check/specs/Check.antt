@@ -1,23 +1,19 @@
 -- Refusals 1 to 5 of document 01, over a book that fills the first `len` bytes of a buffer. Assumes nothing.
 use mathlib.Core.Path.{_≡_}
-use mathlib.Core.Bool.{Bool, true, false, cond, not, _&&_, _||_}
+use mathlib.Core.Bool.{Bool, false, cond, _&&_}
 use mathlib.Core.List.{List}
 use Prim.Native.Nat.{ℕ, zero, suc, _+_, _/_, _%_}
 use lib.ListN.{length, take}
 use lib.Dec.{eqb, leb, ltb}
-use Rattle.typebook.specs.Book.{blocks, blockOf, isType, fieldsOf, entriesOf, nameOf, isNamed}
-use Rattle.book_check.specs.Form.{sumRight, typeForm, fieldForm, entryForm}
+use Rattle.typebook.specs.Book.{blocks, blockOf, isType, fieldsOf, entriesOf}
+use Rattle.block_form.specs.Form.{sumRight, typeForm, fieldForm, entryForm}
+use Rattle.doubles.specs.Doubles.{allFrom, distinct}
 use Rattle.book_check.specs.declared.Place.{Place}
 use Rattle.book_check.specs.declared.Place.the-variants.{Next, Wrong}
 use Rattle.book_check.specs.declared.BookCheck.{BookCheck}
 use Rattle.book_check.specs.declared.BookCheck.the-variants.{Valid, Size, Sum, Form, Doubled}
 use Rattle.book_check.specs.declared.RootCheck.{RootCheck}
 use Rattle.book_check.specs.declared.RootCheck.the-variants.{Root, Refused}
-
--- each of the k blocks from block i on passes a test
-unfoldable pub allFrom : (ℕ → Bool) → ℕ → ℕ → Bool
-allFrom p i zero = true
-allFrom p i (suc k) = p i && allFrom p (i + 1) k
 
 -- 1: a book lies in its buffer, is not empty, and is 1 to 65,536 whole blocks
 unfoldable pub sizeRight : ℕ → ℕ → Bool
@@ -48,18 +44,7 @@ placedFrom book n (suc k) f e = onward (placedFrom book (n + 1) k) (placeOf book
 abbrev pub placed : List ℕ → Bool
 placed book = placedFrom book 0 (blocks book) 0 0
 
--- 4: block n is no type block of that name
-unfoldable pub isOther : List ℕ → List ℕ → ℕ → Bool
-isOther book name n = not (isNamed book name n)
-
--- no block before type block n is a type block of its name
-unfoldable pub isFirst : List ℕ → ℕ → Bool
-isFirst book n = not (isType book n) || allFrom (isOther book (nameOf book n)) 0 n
-
-abbrev pub distinct : List ℕ → Bool
-distinct book = allFrom (isFirst book) 0 (blocks book)
-
--- all of 1 before all of 2, all of 2 before all of 3, all of 3 before 4
+-- all of 1 before all of 2, all of 2 before all of 3, all of 3 before 4, which is `distinct`: no two types of one name
 unfoldable pub checkBlocks : List ℕ → BookCheck
 checkBlocks book = cond (sums book) (cond (placed book) (cond (distinct book) Valid Doubled) Form) Sum
 

@@ -4,8 +4,8 @@ use mathlib.Core.Bool.{true}
 use mathlib.Core.List.{List}
 use Prim.Native.Nat.{ℕ}
 use Rattle.field_plan.specs.Plan.{Entries, Ready}
-use Rattle.resolvers.specs.declared.FieldsCheck.{FieldsCheck}
-use Rattle.resolvers.specs.declared.FieldsCheck.the-variants as check
+use Rattle.field_types.specs.declared.FieldsCheck.{FieldsCheck}
+use Rattle.field_types.specs.declared.FieldsCheck.the-variants as check
 use Rattle.de.specs.declared.deserializer.Shape.the-variants as shape
 use Rattle.de.specs.Walk.{Ctx, shapeAt, isLast, elementCheck}
 

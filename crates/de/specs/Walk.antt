@@ -9,13 +9,14 @@ use Rattle.typebook.specs.Book.{sizeOf, fieldsOf, countOf, dimensionsOf}
 use Rattle.type_category.specs.Category.{categoryOf}
 use Rattle.type_category.specs.declared.type_category.AdsTypeCategory.{AdsTypeCategory}
 use Rattle.type_category.specs.declared.type_category.AdsTypeCategory.the-variants as category
-use Rattle.resolvers.specs.Resolve.{lookUp, resolveField, fieldsCheck}
+use Rattle.resolvers.specs.Resolve.{lookUp}
+use Rattle.field_types.specs.Fields.{resolveField, fieldsCheck}
 use Rattle.resolvers.specs.declared.Resolved.{Resolved}
 use Rattle.resolvers.specs.declared.Resolved.the-variants as resolved
-use Rattle.resolvers.specs.declared.FieldAnswer.{FieldAnswer}
-use Rattle.resolvers.specs.declared.FieldAnswer.the-variants as answer
-use Rattle.resolvers.specs.declared.FieldsCheck.{FieldsCheck}
-use Rattle.resolvers.specs.declared.FieldsCheck.the-variants as check
+use Rattle.field_types.specs.declared.FieldAnswer.{FieldAnswer}
+use Rattle.field_types.specs.declared.FieldAnswer.the-variants as answer
+use Rattle.field_types.specs.declared.FieldsCheck.{FieldsCheck}
+use Rattle.field_types.specs.declared.FieldsCheck.the-variants as check
 use Rattle.de.specs.declared.deserializer.Shape.{Shape}
 use Rattle.de.specs.declared.deserializer.Shape.the-variants as shape
 use Rattle.leaves.specs.Leaf.{leafAt}

@@ -16,7 +16,7 @@ use crate::deserializer::value;
 use crate::step::Step;
 use crate::step::put;
 use crate::step::stop;
-use resolvers::FieldsCheck;
+use field_types::FieldsCheck;
 use resolvers::Resolved;
 use type_category::type_category::AdsTypeCategory;
 

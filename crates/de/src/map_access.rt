@@ -12,7 +12,7 @@ use crate::step::Step;
 use crate::step::put;
 use crate::step::stop;
 use field_plan::Planned;
-use resolvers::FieldsCheck;
+use field_types::FieldsCheck;
 
 // The fields of type block t, after all of them were resolved once: by whoever gave a plan, or here.
 pub(crate) fn map(

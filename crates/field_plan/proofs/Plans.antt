@@ -20,14 +20,15 @@ use Rattle.type_category.specs.Category.{categoryOf}
 use Rattle.type_category.specs.Validate.{placeOf}
 use Rattle.book_check.specs.Check.{ValidBook}
 use Rattle.book_check.proofs.Valid.{valid-size, valid-type}
-use Rattle.resolvers.specs.Resolve.{goesOn, isFollowed, resolveAlias, fieldOf, fieldFound, resolveField, fieldsFrom, fieldsCheck, ResolvedIs}
+use Rattle.resolvers.specs.Resolve.{goesOn, isFollowed, resolveAlias, ResolvedIs}
+use Rattle.field_types.specs.Fields.{fieldOf, fieldFound, resolveField, fieldsFrom, fieldsCheck}
 use Rattle.resolvers.specs.declared.Resolved.{Resolved}
 use Rattle.resolvers.specs.declared.Resolved.the-variants as resolved
-use Rattle.resolvers.specs.declared.ResolvedField.{ResolvedField}
-use Rattle.resolvers.specs.declared.FieldAnswer.the-variants as answer
-use Rattle.resolvers.specs.declared.FieldsCheck.the-variants as check
+use Rattle.field_types.specs.declared.ResolvedField.{ResolvedField}
+use Rattle.field_types.specs.declared.FieldAnswer.the-variants as answer
+use Rattle.field_types.specs.declared.FieldsCheck.the-variants as check
 use Rattle.resolvers.proofs.Chains.{found-is, found-type, follow-base}
-use Rattle.resolvers.proofs.Fields.{field-at, field-nothing, fields-more, fields-lacks, fields-endless, fields-none}
+use Rattle.field_types.proofs.Fields.{field-at, field-nothing, fields-more, fields-lacks, fields-endless, fields-none}
 use Rattle.field_plan.specs.declared.PlannedField.{PlannedField}
 use Rattle.field_plan.specs.declared.Planned.{Planned}
 use Rattle.field_plan.specs.declared.Planned.the-variants as planned

@@ -10,11 +10,11 @@ use Rattle.type_category.specs.declared.type_category.AdsTypeCategory.{AdsTypeC
 use Rattle.type_category.specs.declared.type_category.AdsTypeCategory.the-variants.{None, Primitive, Alias, Enum, Array, Struct, FunctionBlock, Program, Function, SubRange, String, Bitset, Pointer, Union, Reference, Interface}
 use Rattle.type_category.specs.Category.{categoryOf}
 use Rattle.type_category.specs.Validate.{placeOf}
-use Rattle.resolvers.specs.Resolve.{resolveField, fieldsCheck}
-use Rattle.resolvers.specs.declared.ResolvedField.{ResolvedField}
-use Rattle.resolvers.specs.declared.FieldAnswer.the-variants as answer
-use Rattle.resolvers.specs.declared.FieldsCheck.{FieldsCheck}
-use Rattle.resolvers.specs.declared.FieldsCheck.the-variants as check
+use Rattle.field_types.specs.Fields.{resolveField, fieldsCheck}
+use Rattle.field_types.specs.declared.ResolvedField.{ResolvedField}
+use Rattle.field_types.specs.declared.FieldAnswer.the-variants as answer
+use Rattle.field_types.specs.declared.FieldsCheck.{FieldsCheck}
+use Rattle.field_types.specs.declared.FieldsCheck.the-variants as check
 use Rattle.field_plan.specs.declared.PlannedField.{PlannedField}
 use Rattle.field_plan.specs.declared.Planned.{Planned}
 use Rattle.field_plan.specs.declared.Planned.the-variants as planned

@@ -9,7 +9,7 @@ ghost use Rattle.typebook.specs.Find.{find};
 ghost use Rattle.type_category.specs.Validate.{placeOf};
 ghost use Rattle.book_check.specs.Check.{ValidBook};
 ghost use Rattle.field_plan.specs.Plan.{categoryAt, entryOf, PlanEntry, PlannedIs, PlanIs};
-use resolvers::FieldsCheck;
+use field_types::FieldsCheck;
 use resolvers::Resolved;
 use type_category::type_category::AdsTypeCategory;
 use typebook::block;

@@ -9,8 +9,8 @@ use Rattle.type_cache.specs.declared.Appended.{Appended}
 use Rattle.type_cache.specs.Append.{AppendIs}
 use Rattle.resolvers.specs.declared.Resolved.{Resolved}
 use Rattle.resolvers.specs.declared.Resolved.the-variants.{Base}
-use Rattle.resolvers.specs.declared.FieldsAnswer.{FieldsAnswer}
-use Rattle.resolvers.specs.Calls.{Filled}
+use Rattle.field_types.specs.declared.FieldsAnswer.{FieldsAnswer}
+use Rattle.field_types.specs.Calls.{Filled}
 use Rattle.walks.specs.declared.Rmw.{Rmw}
 use Rattle.walks.specs.declared.Missing.{Missing}
 use Rattle.walks.specs.Calls.{RmwIn, RmwIs, MissingIn, MissingIs}

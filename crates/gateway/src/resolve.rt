@@ -5,7 +5,8 @@ ghost use lib.ListN.{length};
 ghost use Rattle.typebook.specs.Book.{isType};
 ghost use Rattle.book_check.specs.Check.{ValidBook};
 ghost use Rattle.resolvers.specs.Resolve.{resolveAlias, resolveIndirection};
-ghost use Rattle.resolvers.specs.Calls.{rootAlias, rootIndirection, rootFields, rootRecords};
+ghost use Rattle.resolvers.specs.Calls.{rootAlias, rootIndirection};
+ghost use Rattle.field_types.specs.Calls.{rootFields, rootRecords};
 ghost use Rattle.answers.specs.Values.{ResolutionAs};
 ghost use Rattle.gateway.specs.Calls.{ChainGiven, FieldsGiven};
 use answers::values::give_fields;
@@ -90,7 +91,7 @@ pub extern "C" fn gateway_resolve_fields(
     ensures { λ r. ⌜ FieldsGiven (rootFields (now (buffer .entry)) len width root (length (now (records .entry)))) (rootRecords (now (buffer .entry)) len width root) (now (records .entry)) (now (values .entry)) r (now (records .exit)) (now (values .exit)) ⌝ }
 {
     give_fields(
-        resolvers::resolve_fields(buffer, len, width, root, records),
+        field_types::resolve_fields(buffer, len, width, root, records),
         values,
     )
 }

@@ -19,10 +19,8 @@ use Rattle.resolvers.specs.declared.Resolved.{Resolved}
 use Rattle.resolvers.specs.declared.Resolved.the-variants as resolved
 use Rattle.resolvers.specs.declared.Resolution.{Resolution}
 use Rattle.resolvers.specs.declared.Resolution.the-variants.{Block, NotFound, Refused}
-use Rattle.resolvers.specs.declared.FieldsAnswer.{FieldsAnswer}
-use Rattle.resolvers.specs.declared.FieldsAnswer.the-variants as fields
 use Rattle.resolvers.specs.Resolve.{resolvedRefusal, resolveType, ResolvedIs}
-use Rattle.resolvers.specs.Calls.{resolutionRefusal, atRoot, resolution, rootResolution, fieldsAnswer, fieldRecords, storedIn, Filled, rootFields, rootRecords}
+use Rattle.resolvers.specs.Calls.{resolutionRefusal, atRoot, resolution, rootResolution}
 
 -- ---- what a chain comes to, as a call answers it
 
@@ -90,15 +88,3 @@ module _ (buffer : List ℕ) (len root : ℕ) (k : RootCheck) (e : k ≡ checkRo
         → r ≡ rootResolution references buffer len width root
     unfolding rootResolution atRoot
     call-root t h r q = rw (← e, h) q
-
-  module _ (width : ℕ) (before : List ℕ) where
-    pub fields-refused : (n : ℕ) → k ≡ checked.Refused n
-        → Filled (rootFields buffer len width root (length before)) (rootRecords buffer len width root) before (fields.Refused n) before
-    unfolding rootFields atRoot storedIn
-    fields-refused n h = record { is = rw (← e, h); records = rw (← e, h) }
-
-    pub fields-root : (t : ℕ) → k ≡ checked.Root t → (r : FieldsAnswer) (after : List ℕ)
-        → Filled (fieldsAnswer (take len buffer) width t (length before)) (fieldRecords (take len buffer) width t) before r after
-        → Filled (rootFields buffer len width root (length before)) (rootRecords buffer len width root) before r after
-    unfolding rootFields rootRecords atRoot
-    fields-root t h r after q = record { is = rw (← e, h) (q .is); records = rw (← e, h) (q .records) }

@@ -1,7 +1,5 @@
--- Laws that the functions' proofs cite. Those on chains and fields, document 01's cases, and what a root that passed 1 to 5 gives are
--- for the crates above too.
+-- Laws that the functions' proofs cite. Those on chains, document 01's cases, and what a root that passed 1 to 5 gives are for the crates
+-- above too.
 pub mod Chains
-pub mod Fields
 pub mod Worked
 pub mod Calls
-mod Records

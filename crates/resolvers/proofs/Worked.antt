@@ -1,25 +1,17 @@
--- Document 01's cases of a chain, in any book: 31 hops resolve; 32 answer 8, but 7 if the 32nd target is missing; an alias to itself is 8. And
--- the order of 15, 7 and 8 where fields are resolved.
+-- Document 01's cases of a chain, in any book: 31 hops resolve; 32 answer 8, but 7 if the 32nd target is missing; an alias to itself is 8.
 -- Assumes nothing.
-use mathlib.Core.Path.{_≡_, refl, sym, ap, _∙_}
+use mathlib.Core.Path.{_≡_, ap, _∙_}
 use mathlib.Core.Bool.{Bool, true, false}
 use mathlib.Core.List.{List}
-use Prim.Native.Nat.{ℕ, zero, suc, _+_, _-_, _≤_, _<_}
+use Prim.Native.Nat.{ℕ, zero, suc, _+_}
 use native.Mathlib.Omega.{arith}
 use Rattle.typebook.specs.declared.type_provider.Found.the-variants.{At, Nothing}
-use Rattle.typebook.specs.Book.{fieldsOf, typeNameOf}
+use Rattle.typebook.specs.Book.{typeNameOf}
 use Rattle.typebook.specs.Find.{find}
 use Rattle.resolvers.specs.declared.Resolved.the-variants.{Base, Lacks, Endless}
-use Rattle.resolvers.specs.declared.ResolvedField.{ResolvedField}
-use Rattle.resolvers.specs.declared.FieldAnswer.the-variants as answer
-use Rattle.resolvers.specs.declared.FieldsCheck.the-variants as check
-use Rattle.resolvers.specs.declared.FieldsAnswer.the-variants as fields
-use Rattle.resolvers.specs.Resolve.{isFollowed, follow, resolveType, resolveField}
-use Rattle.resolvers.specs.Calls.{fits, fieldsAnswer}
+use Rattle.resolvers.specs.Resolve.{isFollowed, follow, resolveType}
 use Rattle.resolvers.specs.Hops.{Hops, none, hop}
 use Rattle.resolvers.proofs.Chains.{follow-none, follow-base, follow-on, follow-lacks}
-use Rattle.resolvers.proofs.Fields.{field-nothing, fields-more, fields-lacks, fields-none}
-use Rattle.resolvers.proofs.Records.{answer-lacks, answer-short}
 
 module _ (goes : ℕ → Bool) (book : List ℕ) where
   -- after k hops, what is left of the look-ups is made from there
@@ -48,32 +40,3 @@ module _ (references : Bool) (book : List ℕ) (width : ℕ) where
 
   pub self-endless : (t : ℕ) → isFollowed references book width t ≡ true → find book (typeNameOf book t) ≡ At t → resolveType references book width t ≡ Endless
   self-endless t h e = hops-32 t t (hops-self (isFollowed references book width) book 32 t h e)
-
--- resolving fields tests each record's room before its field is looked up: with no room it is 15, whatever the first field; with room for
--- one record it is 7 if the first field's type is missing, and 15 if the first field resolves, whatever the second
-module _ (book : List ℕ) (width t room : ℕ) where
-  pub no-room : 0 < fieldsOf book t → room < 4 → fieldsAnswer book width t room ≡ fields.Refused 15
-  no-room h l =
-      let f : 0 ≡ fits (fieldsOf book t) room = omega arith in
-      sym (answer-short book width t room (fieldsOf book t) refl 0 f check.Fine (sym (fields-none book width (t + 1))) refl h)
-
-  pub first-missing : 0 < fieldsOf book t → 4 ≤ room → find book (typeNameOf book (t + 1)) ≡ Nothing
-      → fieldsAnswer book width t room ≡ fields.NotFound (t + 1)
-  first-missing h l e =
-      let k : ℕ = fits (fieldsOf book t) room - 1 in
-      let f : suc k ≡ fits (fieldsOf book t) room = omega arith in
-      sym
-      (answer-lacks book width t room (fieldsOf book t) refl (suc k) f (check.Lacks (t + 1))
-      (sym (fields-lacks book width (t + 1) k (t + 1) (field-nothing book width (t + 1) e)))
-      (t + 1)
-      refl)
-
-  pub room-for-one : (x : ResolvedField) → 1 < fieldsOf book t → 4 ≤ room → room < 8 → resolveField book width (t + 1) ≡ answer.Field x
-      → fieldsAnswer book width t room ≡ fields.Refused 15
-  room-for-one x h l g e =
-      let f : 1 ≡ fits (fieldsOf book t) room = omega arith in
-      sym
-      (answer-short book width t room (fieldsOf book t) refl 1 f check.Fine
-      (sym (fields-more book width (t + 1) 0 x e ∙ fields-none book width (t + 1 + 1)))
-      refl
-      h)

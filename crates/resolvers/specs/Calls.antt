@@ -1,36 +1,22 @@
--- The three calls, over a book that fills the first `len` bytes of a buffer: refusals 1 to 5 first, then 7, 8 and 15. Assumes nothing.
-use mathlib.Core.Path.{_≡_}
-use mathlib.Core.Bool.{Bool, true, false, cond}
-use mathlib.Core.List.{List, [], _∷_, _++_}
-use Prim.Native.Nat.{ℕ, zero, suc, _+_, _/_, min}
-use lib.ListN.{length, take, drop}
-use lib.Dec.{leb}
-use Rattle.typebook.specs.Book.{fieldsOf}
+-- The two calls, over a book that fills the first `len` bytes of a buffer: refusals 1 to 5 first, then 7 and 8. Assumes nothing.
+use mathlib.Core.Bool.{Bool, true, false}
+use mathlib.Core.List.{List}
+use Prim.Native.Nat.{ℕ}
+use lib.ListN.{take}
 use Rattle.book_check.specs.declared.RootCheck.{RootCheck}
 use Rattle.book_check.specs.declared.RootCheck.the-variants as checked
 use Rattle.book_check.specs.Check.{checkRoot}
 use Rattle.resolvers.specs.declared.Resolved.{Resolved}
 use Rattle.resolvers.specs.declared.Resolved.the-variants as resolved
-use Rattle.resolvers.specs.declared.FieldAnswer.{FieldAnswer}
-use Rattle.resolvers.specs.declared.FieldAnswer.the-variants as answer
-use Rattle.resolvers.specs.declared.FieldsCheck.{FieldsCheck}
-use Rattle.resolvers.specs.declared.FieldsCheck.the-variants as check
 use Rattle.resolvers.specs.declared.Resolution.{Resolution}
 use Rattle.resolvers.specs.declared.Resolution.the-variants.{Block, NotFound, Refused}
-use Rattle.resolvers.specs.declared.FieldsAnswer.{FieldsAnswer}
-use Rattle.resolvers.specs.declared.FieldsAnswer.the-variants as fields
-use Rattle.resolvers.specs.Resolve.{resolveType, resolveField, fieldsFrom}
+use Rattle.resolvers.specs.Resolve.{resolveType}
 
 -- document 01's number of an answer, 0 where nothing is refused; 7 comes with the block that `NotFound` carries
 abbrev pub resolutionRefusal : Resolution → ℕ
 resolutionRefusal (Block b) = 0
 resolutionRefusal (NotFound b) = 7
 resolutionRefusal (Refused n) = n
-
-abbrev pub fieldsRefusal : FieldsAnswer → ℕ
-fieldsRefusal (fields.Done n) = 0
-fieldsRefusal (fields.NotFound b) = 7
-fieldsRefusal (fields.Refused n) = n
 
 -- 1 to 5 come first; then what is said of the root block
 unfoldable pub atRoot : {A : Type 0} → (ℕ → A) → (ℕ → A) → RootCheck → A
@@ -55,55 +41,3 @@ rootAlias = rootResolution false
 -- the root, with aliases and references resolved
 abbrev pub rootIndirection : List ℕ → ℕ → ℕ → ℕ → Resolution
 rootIndirection = rootResolution true
-
--- ---- resolve_fields
-
--- how many of n records of four numbers fit into the room
-abbrev pub fits : ℕ → ℕ → ℕ
-fits n room = min n (room / 4)
-
--- after the fields whose records fit: 15 if another record is due
-unfoldable pub fieldsEnd : ℕ → ℕ → FieldsCheck → FieldsAnswer
-fieldsEnd n room check.Fine = cond (leb n (room / 4)) (fields.Done n) (fields.Refused 15)
-fieldsEnd n room (check.Lacks c) = fields.NotFound c
-fieldsEnd n room check.Endless = fields.Refused 8
-
--- the fields of type block t in order, each record's 15 before its field's 7 or 8: the fields whose records fit are resolved, and at the
--- first whose record does not fit it is 15
-unfoldable pub fieldsAnswer : List ℕ → ℕ → ℕ → ℕ → FieldsAnswer
-fieldsAnswer book width t room =
-    fieldsEnd (fieldsOf book t) room (fieldsFrom book width (t + 1) (fits (fieldsOf book t) room))
-
--- a field's record: offset, size, resolved type's block, field's block
-abbrev pub recordOf : FieldAnswer → List ℕ
-recordOf (answer.Field x) = x .offset ∷ x .size ∷ x .resolved ∷ x .field ∷ []
-recordOf (answer.Lacks c) = []
-recordOf answer.Endless = []
-
--- the records of the k field blocks from block f on
-unfoldable pub recordsFrom : List ℕ → ℕ → ℕ → ℕ → List ℕ
-recordsFrom book width f zero = []
-recordsFrom book width f (suc k) = recordOf (resolveField book width f) ++ recordsFrom book width (f + 1) k
-
--- the records of the fields of type block t
-unfoldable pub fieldRecords : List ℕ → ℕ → ℕ → List ℕ
-fieldRecords book width t = recordsFrom book width (t + 1) (fieldsOf book t)
-
--- a success stores the new records and leaves the rest; a refusal leaves all
-unfoldable pub storedIn : FieldsAnswer → List ℕ → List ℕ → List ℕ
-storedIn (fields.Done n) new before = new ++ drop (length new) before
-storedIn (fields.NotFound b) new before = before
-storedIn (fields.Refused n) new before = before
-
--- what is answered, and what the lent slice of records holds then
-pub record Filled (answer : FieldsAnswer) (new before : List ℕ) (r : FieldsAnswer) (after : List ℕ) : Type 0 where
-  pub is : r ≡ answer
-  pub records : after ≡ storedIn answer new before
-
--- the fields of the root block itself, which may be of any category
-unfoldable pub rootFields : List ℕ → ℕ → ℕ → ℕ → ℕ → FieldsAnswer
-rootFields buffer len width root room =
-    atRoot fields.Refused (λ t. fieldsAnswer (take len buffer) width t room) (checkRoot buffer len root)
-
-unfoldable pub rootRecords : List ℕ → ℕ → ℕ → ℕ → List ℕ
-rootRecords buffer len width root = atRoot (λ n. []) (fieldRecords (take len buffer) width) (checkRoot buffer len root)

@@ -1,23 +1,17 @@
--- Chains of aliases and references, and the types of fields, by look-ups in a type book (document 01, "resolvers.rs"; refusals 7 and 8).
--- Assumes nothing.
+-- Chains of aliases and references, by look-ups in a type book (document 01, "resolvers.rs"; refusals 7 and 8). Assumes nothing.
 use mathlib.Core.Path.{_≡_}
 use mathlib.Core.Bool.{Bool, true, false, cond}
 use mathlib.Core.List.{List}
-use Prim.Native.Nat.{ℕ, zero, suc, _+_}
+use Prim.Native.Nat.{ℕ, zero, suc}
 use Rattle.typebook.specs.declared.type_provider.Found.{Found}
 use Rattle.typebook.specs.declared.type_provider.Found.the-variants.{At, Nothing}
-use Rattle.typebook.specs.Book.{isType, offsetOf, sizeOf, fieldsOf, typeNameOf}
+use Rattle.typebook.specs.Book.{isType, typeNameOf}
 use Rattle.typebook.specs.Find.{find}
 use Rattle.type_category.specs.declared.type_category.AdsTypeCategory.{AdsTypeCategory}
 use Rattle.type_category.specs.declared.type_category.AdsTypeCategory.the-variants as category
 use Rattle.type_category.specs.Category.{categoryOf}
 use Rattle.resolvers.specs.declared.Resolved.{Resolved}
 use Rattle.resolvers.specs.declared.Resolved.the-variants.{Base, Lacks, Endless}
-use Rattle.resolvers.specs.declared.ResolvedField.{ResolvedField}
-use Rattle.resolvers.specs.declared.FieldAnswer.{FieldAnswer}
-use Rattle.resolvers.specs.declared.FieldAnswer.the-variants as answer
-use Rattle.resolvers.specs.declared.FieldsCheck.{FieldsCheck}
-use Rattle.resolvers.specs.declared.FieldsCheck.the-variants as check
 
 -- document 01's number of what a chain comes to: 0 where nothing is refused, 7 with the block that `Lacks` carries, 8
 abbrev pub resolvedRefusal : Resolved → ℕ
@@ -84,39 +78,3 @@ pub record ResolvedIs (book : List ℕ) (answer r : Resolved) : Type 0 where
 pub record LookedUp (book : List ℕ) (width b : ℕ) (r : Resolved) : Type 0 where
   pub is : r ≡ lookUp book width b
   pub typed : (u : ℕ) → r ≡ Base u → isType book u ≡ true
-
--- ---- fields
-
--- field block f, whose type name was found at block n, by what that block comes to
-unfoldable pub fieldOf : List ℕ → ℕ → ℕ → Resolved → FieldAnswer
-fieldOf book f n (Base u) =
-    answer.Field (record { offset = offsetOf book f; size = sizeOf book f; named = n; resolved = u; field = f })
-fieldOf book f n (Lacks c) = answer.Lacks c
-fieldOf book f n Endless = answer.Endless
-
-unfoldable pub fieldFound : List ℕ → ℕ → ℕ → Found → FieldAnswer
-fieldFound book width f (At n) = fieldOf book f n (resolveAlias book width n)
-fieldFound book width f Nothing = answer.Lacks f
-
--- field block f: its offset and size as they stand, and its type, with aliases resolved
-unfoldable pub resolveField : List ℕ → ℕ → ℕ → FieldAnswer
-resolveField book width f = fieldFound book width f (find book (typeNameOf book f))
-
-pub record FieldResolved (book : List ℕ) (width f : ℕ) (r : FieldAnswer) : Type 0 where
-  pub is : r ≡ resolveField book width f
-  pub typed : (x : ResolvedField) → r ≡ answer.Field x → isType book (x .resolved) ≡ true
-
--- a field's refusal comes before what the fields after it give
-unfoldable pub fieldThen : FieldsCheck → FieldAnswer → FieldsCheck
-fieldThen rest (answer.Field x) = rest
-fieldThen rest (answer.Lacks c) = check.Lacks c
-fieldThen rest answer.Endless = check.Endless
-
--- the first refusal of the k field blocks from block f on
-unfoldable pub fieldsFrom : List ℕ → ℕ → ℕ → ℕ → FieldsCheck
-fieldsFrom book width f zero = check.Fine
-fieldsFrom book width f (suc k) = fieldThen (fieldsFrom book width (f + 1) k) (resolveField book width f)
-
--- the first refusal of the fields of type block t
-unfoldable pub fieldsCheck : List ℕ → ℕ → ℕ → FieldsCheck
-fieldsCheck book width t = fieldsFrom book width (t + 1) (fieldsOf book t)

@@ -11,7 +11,8 @@ use Rattle.typebook.specs.Book.{blocks, blockOf, kindOf, isType, fieldsOf, entr
 use Rattle.typebook.specs.Find.{find}
 use Rattle.typebook.specs.declared.type_provider.Found.the-variants.{At, Nothing}
 use Rattle.typebook.proofs.Blocks.{same-byte}
-use Rattle.book_check.specs.Check.{allFrom, sumAt, placedFrom, isFirst, checkBook, ValidBook}
+use Rattle.doubles.specs.Doubles.{allFrom, isFirst}
+use Rattle.book_check.specs.Check.{sumAt, placedFrom, checkBook, ValidBook}
 use Rattle.book_check.specs.declared.BookCheck.the-variants.{Valid}
 use Rattle.book_check.proofs.Valid.{Placed, Definition, field-is, entry-is, valid-size, valid-type, valid-names, valid-place, valid-passes, valid-book, valid-in}
 use Rattle.book_check.proofs.Append.{append-blocks}

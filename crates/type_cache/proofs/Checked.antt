@@ -8,7 +8,8 @@ use borrow.Author.Tests.{eq-eqb, le-leb, lt-ltb, leb-true}
 use lib.ListN.{length}
 use lib.Seq.{take-length}
 use lib.Dec.{leb}
-use Rattle.book_check.specs.Check.{sizeRight, sums, placed, distinct, checkBlocks, checkBook, bookRefusal, ValidBook}
+use Rattle.doubles.specs.Doubles.{distinct}
+use Rattle.book_check.specs.Check.{sizeRight, sums, placed, checkBlocks, checkBook, bookRefusal, ValidBook}
 use Rattle.book_check.specs.declared.BookCheck.{BookCheck}
 use Rattle.book_check.specs.declared.BookCheck.the-variants.{Valid, Size, Sum, Form, Doubled}
 

@@ -8,8 +8,9 @@ use borrow.Author.Tests.{eqb-true}
 use lib.Dec.{eqb}
 use Rattle.typebook.specs.Book.{blockOf, fieldsOf, entriesOf}
 use Rattle.typebook.proofs.Blocks.{same-u32}
-use Rattle.book_check.specs.Form.{typeForm, fieldForm, entryForm}
-use Rattle.book_check.specs.Check.{allFrom, placeOf, onward, placedFrom}
+use Rattle.block_form.specs.Form.{typeForm, fieldForm, entryForm}
+use Rattle.doubles.specs.Doubles.{allFrom}
+use Rattle.book_check.specs.Check.{placeOf, onward, placedFrom}
 use Rattle.book_check.proofs.Valid.{chosen, went}
 use Rattle.type_cache.proofs.Checked.{and-left, and-right}
 

@@ -9,7 +9,7 @@ use crate::lent;
 use crate::lent::FILL_NUMBER;
 use crate::lent::put_numbers;
 use crate::lent::put_numbers_are;
-use resolvers::FieldsAnswer;
+use field_types::FieldsAnswer;
 use resolvers::Resolution;
 use walks::Missing;
 use walks::Rmw;
@@ -195,7 +195,7 @@ fn fields_with(
     answer: &mut [u8],
 ) -> usize {
     let root = u32_at(input, 1) as u64;
-    let fields = resolvers::resolve_fields(book, len, byte_at(input, 0), root, records);
+    let fields = field_types::resolve_fields(book, len, byte_at(input, 0), root, records);
     put_fields(answer, fields, records)
 }
 

@@ -2,8 +2,10 @@ use borrow.Author.Needs.{needs}
 use mathlib.Core.Path.{_≡_}
 use Prim.Native.Nat.{_≤_, _-_}
 use Rattle.typebook.specs.Book.{blocks}
-use Rattle.book_check.specs.Check.{allFrom, sums, sumAt}
-use Rattle.book_check.proofs.Blocks.{all-start, all-stop, all-again, all-end, sum-fails, sum-holds}
+use Rattle.doubles.specs.Doubles.{allFrom}
+use Rattle.book_check.specs.Check.{sums, sumAt}
+use Rattle.doubles.proofs.All.{all-start, all-stop, all-again, all-end}
+use Rattle.book_check.proofs.Blocks.{sum-fails, sum-holds}
 use Rattle.book_check.proofs.sums_right.Statement.{statement}
 use Rattle.book_check.proofs.sums_right.Tie as tie
 

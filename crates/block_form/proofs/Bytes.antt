@@ -1,0 +1,61 @@
+-- A list of bytes from the front: its sum, and a test of every byte. Each loop keeps: the whole is what is left. Assumes nothing.
+use mathlib.Core.Path.{_≡_, refl, sym, _∙_}
+use mathlib.Core.Bool.{Bool, true, false, _&&_}
+use mathlib.Core.List.{List}
+use Prim.Native.Nat.{ℕ, _+_, _≤_, _<_}
+use native.Mathlib.Omega.{arith}
+use native.Mathlib.Numerals.{add-one}
+use lib.ListN.{length, getD, drop, drop-of-length-le}
+use lib.Seq.{drop-cons}
+use borrow.Author.Tests.{not-true, not-false, lt-ltb, le-ltb, le-leb, lt-leb, eq-eqb, ne-eqb}
+use Rattle.block_form.specs.Form.{sumOf, every}
+
+-- what a call said of a test, and how the test went
+pub said : {t b x : Bool} → t ≡ x → t ≡ b → x ≡ b
+said p q = sym p ∙ q
+
+-- two tests in a row
+pub and-stop : (a b : Bool) → a ≡ false → false ≡ a && b
+and-stop a b e = rw e
+
+pub and-go : (a b r : Bool) → a ≡ true → r ≡ b → r ≡ a && b
+and-go a b r e q = rw e q
+
+pub and-left : (a b : Bool) → a && b ≡ true → a ≡ true
+and-left true b e = refl
+and-left false b e = e
+
+pub and-right : (a b : Bool) → a && b ≡ true → b ≡ true
+and-right true b e = e
+and-right false b e = cc
+
+pub ruleset tests = (and-stop, and-go, said, not-true, not-false, lt-ltb, le-ltb, le-leb, lt-leb, eq-eqb, ne-eqb)
+
+module _ (p : ℕ → Bool) (xs : List ℕ) (i : ℕ) (inv : every p xs ≡ every p (drop i xs)) where
+  module _ (l : i < length xs) where
+    turn : every p xs ≡ p (getD xs i 0) && every p (drop (i + 1) xs)
+    unfolding every
+    turn = inv ∙ rw (add-one, drop-cons xs i 0 l)
+
+    pub every-stop : p (getD xs i 0) ≡ false → false ≡ every p xs
+    every-stop e = sym (turn ∙ rw e)
+
+    pub every-again : p (getD xs i 0) ≡ true → every p xs ≡ every p (drop (i + 1) xs)
+    every-again e = turn ∙ rw e
+
+  pub every-end : length xs ≤ i → true ≡ every p xs
+  unfolding every
+  every-end l = sym (inv ∙ rw (drop-of-length-le xs l))
+
+module _ (xs : List ℕ) (i total : ℕ) (inv : sumOf xs ≡ total + sumOf (drop i xs)) where
+  pub sum-again : i < length xs → sumOf xs ≡ total + getD xs i 0 + sumOf (drop (i + 1) xs)
+  unfolding sumOf
+  sum-again l =
+      let e : sumOf (drop i xs) ≡ getD xs i 0 + sumOf (drop (i + 1) xs) = rw (add-one, drop-cons xs i 0 l) in
+      omega arith
+
+  pub sum-end : length xs ≤ i → total ≡ sumOf xs
+  unfolding sumOf
+  sum-end l =
+      let e : sumOf (drop i xs) ≡ 0 = rw (drop-of-length-le xs l) in
+      omega arith

@@ -1,0 +1,55 @@
+-- The types of fields, by look-ups in a type book (document 01, "resolvers.rs"; refusals 7 and 8). Assumes nothing.
+use mathlib.Core.Path.{_≡_}
+use mathlib.Core.Bool.{true}
+use mathlib.Core.List.{List}
+use Prim.Native.Nat.{ℕ, zero, suc, _+_}
+use Rattle.typebook.specs.declared.type_provider.Found.{Found}
+use Rattle.typebook.specs.declared.type_provider.Found.the-variants.{At, Nothing}
+use Rattle.typebook.specs.Book.{isType, offsetOf, sizeOf, fieldsOf, typeNameOf}
+use Rattle.typebook.specs.Find.{find}
+use Rattle.resolvers.specs.declared.Resolved.{Resolved}
+use Rattle.resolvers.specs.declared.Resolved.the-variants.{Base, Lacks, Endless}
+use Rattle.resolvers.specs.Resolve.{resolveAlias}
+use Rattle.field_types.specs.declared.ResolvedField.{ResolvedField}
+use Rattle.field_types.specs.declared.FieldAnswer.{FieldAnswer}
+use Rattle.field_types.specs.declared.FieldAnswer.the-variants as answer
+use Rattle.field_types.specs.declared.FieldsCheck.{FieldsCheck}
+use Rattle.field_types.specs.declared.FieldsCheck.the-variants as check
+
+-- ---- one field
+
+-- field block f, whose type name was found at block n, by what that block comes to
+unfoldable pub fieldOf : List ℕ → ℕ → ℕ → Resolved → FieldAnswer
+fieldOf book f n (Base u) =
+    answer.Field (record { offset = offsetOf book f; size = sizeOf book f; named = n; resolved = u; field = f })
+fieldOf book f n (Lacks c) = answer.Lacks c
+fieldOf book f n Endless = answer.Endless
+
+unfoldable pub fieldFound : List ℕ → ℕ → ℕ → Found → FieldAnswer
+fieldFound book width f (At n) = fieldOf book f n (resolveAlias book width n)
+fieldFound book width f Nothing = answer.Lacks f
+
+-- field block f: its offset and size as they stand, and its type, with aliases resolved
+unfoldable pub resolveField : List ℕ → ℕ → ℕ → FieldAnswer
+resolveField book width f = fieldFound book width f (find book (typeNameOf book f))
+
+pub record FieldResolved (book : List ℕ) (width f : ℕ) (r : FieldAnswer) : Type 0 where
+  pub is : r ≡ resolveField book width f
+  pub typed : (x : ResolvedField) → r ≡ answer.Field x → isType book (x .resolved) ≡ true
+
+-- ---- several fields
+
+-- a field's refusal comes before what the fields after it give
+unfoldable pub fieldThen : FieldsCheck → FieldAnswer → FieldsCheck
+fieldThen rest (answer.Field x) = rest
+fieldThen rest (answer.Lacks c) = check.Lacks c
+fieldThen rest answer.Endless = check.Endless
+
+-- the first refusal of the k field blocks from block f on
+unfoldable pub fieldsFrom : List ℕ → ℕ → ℕ → ℕ → FieldsCheck
+fieldsFrom book width f zero = check.Fine
+fieldsFrom book width f (suc k) = fieldThen (fieldsFrom book width (f + 1) k) (resolveField book width f)
+
+-- the first refusal of the fields of type block t
+unfoldable pub fieldsCheck : List ℕ → ℕ → ℕ → FieldsCheck
+fieldsCheck book width t = fieldsFrom book width (t + 1) (fieldsOf book t)
