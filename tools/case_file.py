@@ -11,31 +11,31 @@ Numbers are little-endian. A case:
 The program runs the operation on the input and compares what it answers with the recorded bytes. The operations of the
 first layer, with their inputs and answers (u16, u32, u64: numbers; `lent`: all of the lent buffer after the call):
 
-     1  windows_1252::code_point    byte                        u32
-     2  windows_1252::byte_of       u32                         1 and the byte, or 0
-     3  windows_1252::string_end    bytes                       1 if a zero was found, else 0; u32 place
-     4  windows_1252::decoded_len   u16 room, bytes             0, u64 length; or 15
-     5  windows_1252::decode        u16 place, bytes            0, u64 next place, lent; or 15, lent
-     6  windows_1252::encoded_len   u16 room, text              0, u64 length; or 15
-     7  windows_1252::encode        text                        0, u64 length, lent; or 15, lent
-     8  utf_16::wstring_end         as 3
-     9  utf_16::decoded_len         as 4
-    10  utf_16::decode              as 5
-    11  utf_16::encoded_len         as 6
-    12  utf_16::encode              as 7
-    13  utf_8::decoder::well_formed text                        1 or 0
-    14  utf_8::decoder::next        text                        from place 0 to the end: u32 code point, or FFFFFFFFh for
-                                                                an ill-formed part, and u32 place after it
-    15  utf_8::encoder::put         u16 place, u32 code point   0, u64 next place, lent; or 15, lent
-    16  utf_8::encoder::utf8_len    u32 code point              byte
-    32  AdsTypeId                   u32                         its place in the list of ids (Unknown: 17), u32 back
-    33  le::le_value                bytes                       u64
-    34  le::le_u32                  bytes                       u32
-    35  le::le_store                u64                         lent
-    36  integer, read               u32 id, bytes               0, kind 7 or 8, width, u64 bits; or 10, 11
-    37  integer, written            u32 id, kind, width, u64    0, 10, 17 or 19, then lent
-    38  real, read                  u32 id, bytes               0, kind 9 or 10, 0, u64 bits; or 10, 11
-    39  real, written               kind, u64 bits              0 or 10, then lent
+     1  windows_1252::code_point           byte                        u32
+     2  windows_1252::byte_of              u32                         1 and the byte, or 0
+     3  windows_1252::string_end           bytes                       1 if a zero was found, else 0; u32 place
+     4  windows_1252_decoder::decoded_len  u16 room, bytes             0, u64 length; or 15
+     5  windows_1252_decoder::decode       u16 place, bytes            0, u64 next place, lent; or 15, lent
+     6  windows_1252_encoder::encoded_len  u16 room, text              0, u64 length; or 15
+     7  windows_1252_encoder::encode       text                        0, u64 length, lent; or 15, lent
+     8  utf_16::wstring_end                as 3
+     9  utf_16_decoder::decoded_len        as 4
+    10  utf_16_decoder::decode             as 5
+    11  utf_16_encoder::encoded_len        as 6
+    12  utf_16_encoder::encode             as 7
+    13  utf_8_decoder::well_formed         text                        1 or 0
+    14  utf_8_decoder::next                text                        from place 0 to the end: u32 code point, or FFFFFFFFh for
+                                                                       an ill-formed part, and u32 place after it
+    15  utf_8_encoder::put                 u16 place, u32 code point   0, u64 next place, lent; or 15, lent
+    16  utf_8_encoder::utf8_len            u32 code point              byte
+    32  AdsTypeId                          u32                         its place in the list of ids (Unknown: 17), u32 back
+    33  le::le_value                       bytes                       u64
+    34  le::le_u32                         bytes                       u32
+    35  le::le_store                       u64                         lent
+    36  integer, read                      u32 id, bytes               0, kind 7 or 8, width, u64 bits; or 10, 11
+    37  integer, written                   u32 id, kind, width, u64    0, 10, 17 or 19, then lent
+    38  real, read                         u32 id, bytes               0, kind 9 or 10, 0, u64 bits; or 10, 11
+    39  real, written                      kind, u64 bits              0 or 10, then lent
 
 The numbers 10, 11, 15, 17 and 19 are document 01's refusals, the kinds 7 to 10 those of its tape.
 
@@ -45,24 +45,24 @@ for the rest of a block: zeros, and then the block's sum, which the program make
 block. Lent tapes, texts and numbers hold A5h in every byte before the call; `kept` is 1 if what the call had no business with
 is as before, and if all that it has to leave zero is zero (the walks' scratch; tape and text after a refusal), else 0:
 
-    64  book                        u32 place, packed           the bytes go to the place, the book ends after them. u32 length
-    65  check_root                  u64 root                    0 to 5
-    66  check_book, a byte changed  u32 place, value, 0 or 1    0 to 4. The byte is changed, with 1 the block's sum is made
+    64  book                               u32 place, packed           the bytes go to the place, the book ends after them. u32 length
+    65  check_root                         u64 root                    0 to 5
+    66  check_book, a byte changed         u32 place, value, 0 or 1    0 to 4. The byte is changed, with 1 the block's sum is made
                                                                 right, and after the check both are put back
-    67  determine                   width, u32 block            the category's place in the Rust's list (None: 0)
-    68  resolve_alias               width, u32 root             0, u32 block; or a refusal
-    69  resolve_indirection         width, u32 root             0, u32 block; or a refusal
-    70  requires_read_modify_write  width, u32 root, u16        0, 1 or 0; or a refusal. Then kept (scratch)
+    67  determine                          width, u32 block            the category's place in the Rust's list (None: 0)
+    68  resolve_alias                      width, u32 root             0, u32 block; or a refusal
+    69  resolve_indirection                width, u32 root             0, u32 block; or a refusal
+    70  requires_read_modify_write         width, u32 root, u16        0, 1 or 0; or a refusal. Then kept (scratch)
                                     numbers of scratch
-    71  missing_types               width, u32 root, u16        0, whole (1 or 0), u32 count, the u32 blocks; or a refusal.
+    71  missing_types                      width, u32 root, u16        0, whole (1 or 0), u32 count, the u32 blocks; or a refusal.
                                     numbers of scratch, u16 of  Then kept (list), kept (scratch)
                                     list
-    72  resolve_fields              width, u32 root, u16        0, for each field u32 offset, size, type block, field block;
+    72  resolve_fields                     width, u32 root, u16        0, for each field u32 offset, size, type block, field block;
                                     numbers of records          or a refusal. Then kept (records)
-    73  read                        width, u32 root, u16 bytes  0, u32 records, u32 text bytes, the records packed, kept
+    73  read                               width, u32 root, u16 bytes  0, u32 records, u32 text bytes, the records packed, kept
                                     of tape, u16 of text room,  (tape), the text packed, kept (text); or a refusal, kept
                                     memory                      (tape), kept (text)
-    74  write                       width, u32 root, u16 image, 0, the output packed; or a refusal, and 1 if the output
+    74  write                              width, u32 root, u16 image, 0, the output packed; or a refusal, and 1 if the output
                                     u16 tape, image, tape,      then is the image
                                     text, tape and text packed
 """

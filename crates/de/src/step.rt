@@ -57,9 +57,9 @@ fn decode(wide: bool, bytes: &[u8], text: &mut [u8], at: usize) -> Put
     ensures { λ r. ⌜ Wrote (decodedBy wide (now (bytes .entry))) (now (text .entry)) at r (now (text .exit)) ⌝ }
 {
     if wide {
-        return utf_16::decode(bytes, text, at);
+        return utf_16_decoder::decode(bytes, text, at);
     }
-    windows_1252::decode(bytes, text, at)
+    windows_1252_decoder::decode(bytes, text, at)
 }
 
 // Writes a text and its record, after a step: a refusal is handed on.

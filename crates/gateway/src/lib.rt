@@ -20,28 +20,28 @@ pub mod walk;
 pub extern "C" fn gateway_windows_1252_decode(bytes: &[u8], out: &mut [u8], at: usize) -> u64
     ensures { λ r. ⌜ WroteAs (windows1252.decodeText (now (bytes .entry))) (now (out .entry)) at r (now (out .exit)) ⌝ }
 {
-    numbers::place(windows_1252::decode(bytes, out, at))
+    numbers::place(windows_1252_decoder::decode(bytes, out, at))
 }
 
 #[no_mangle]
 pub extern "C" fn gateway_windows_1252_encode(text: &[u8], out: &mut [u8]) -> u64
     ensures { λ r. ⌜ WroteAs (windows1252.encodeText (now (text .entry))) (now (out .entry)) 0 r (now (out .exit)) ⌝ }
 {
-    numbers::place(windows_1252::encode(text, out))
+    numbers::place(windows_1252_encoder::encode(text, out))
 }
 
 #[no_mangle]
 pub extern "C" fn gateway_utf_16_decode(bytes: &[u8], out: &mut [u8], at: usize) -> u64
     ensures { λ r. ⌜ WroteAs (utf16Decode.decodeText (now (bytes .entry))) (now (out .entry)) at r (now (out .exit)) ⌝ }
 {
-    numbers::place(utf_16::decode(bytes, out, at))
+    numbers::place(utf_16_decoder::decode(bytes, out, at))
 }
 
 #[no_mangle]
 pub extern "C" fn gateway_utf_16_encode(text: &[u8], out: &mut [u8]) -> u64
     ensures { λ r. ⌜ WroteAs (utf16Encode.encodeText (now (text .entry))) (now (out .entry)) 0 r (now (out .exit)) ⌝ }
 {
-    numbers::place(utf_16::encode(text, out))
+    numbers::place(utf_16_encoder::encode(text, out))
 }
 
 #[no_mangle]
@@ -70,7 +70,7 @@ pub extern "C" fn gateway_fill_index(book: &[u8], index: &mut [u32])
 pub extern "C" fn gateway_utf_8_well_formed(text: &[u8]) -> u8
     ensures { λ r. ⌜ r ≡ truthNumber (wellFormed (now (text .entry))) ⌝ }
 {
-    numbers::truth(utf_8::decoder::well_formed(text))
+    numbers::truth(utf_8_decoder::well_formed(text))
 }
 
 // Document 01's number: 0 where the book is valid, else 1 to 4.

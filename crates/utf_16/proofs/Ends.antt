@@ -5,40 +5,43 @@ use mathlib.Core.List.{List, [], _∷_}
 use Prim.Native.Nat.{ℕ, suc, _+_, _-_, _≤_, _<_}
 use native.Mathlib.Omega.{arith}
 use lib.ListN.{length, getD, drop, length-drop}
+use lib.Seq.{drop-cons}
 use lib.Dec.{eqb}
-use borrow.Author.Tests.{eq-eqb, eqb-true}
+use borrow.Author.Tests.{eq-eqb, ne-eqb}
 use Rattle.utf_8.specs.declared.TextEnd.{TextEnd}
 use Rattle.utf_8.specs.declared.TextEnd.the-variants.{Terminated, Unterminated}
-use Rattle.utf_16.specs.Unit16.{unitOf}
-use Rattle.utf_16.specs.Step.{UnitAt}
 use Rattle.utf_16.specs.WString.{endFrom, wstringEnd}
-use Rattle.utf_16.proofs.Decodes.{drop-two}
 
-zero-pair : (x y : ℕ) → unitOf x y ≡ 0 → (eqb x 0 && eqb y 0) ≡ true
-zero-pair x y e =
-    let a : x ≡ 0 = omega arith in
-    let b : y ≡ 0 = omega arith in
-    rw (eq-eqb x 0 a, eq-eqb y 0 b)
+pub drop-two : (bytes : List ℕ) (at : ℕ) → at + 2 ≤ length bytes → drop at bytes ≡ getD bytes at 0 ∷ getD bytes (at + 1) 0 ∷ drop (at + 2) bytes
+drop-two bytes at h =
+    let a : at < length bytes = omega arith in
+    let b : suc at < length bytes = omega arith in
+    let e : at + 1 ≡ suc at = omega arith in
+    let k : at + 2 ≡ suc (suc at) = omega arith in
+    rw (e, k, drop-cons bytes at 0 a, drop-cons bytes (suc at) 0 b)
 
-other-pair : (x y : ℕ) → (unitOf x y ≡ 0 → ⊥) → (eqb x 0 && eqb y 0) ≡ false
-other-pair x y n = by (eqb x 0) (eqb y 0) refl refl
-  where
-    by : (p q : Bool) → eqb x 0 ≡ p → eqb y 0 ≡ q → (p && q) ≡ false
-    by true true a b = absurd (n (let k : x ≡ 0 = eqb-true x 0 a in let l : y ≡ 0 = eqb-true y 0 b in omega arith))
-    by true false a b = refl
-    by false q a b = refl
+-- ---- the exits of `is_zero`
+
+module _ (x y : ℕ) where
+  pub zero-not : (x ≡ 0 → ⊥) → false ≡ (eqb x 0 && eqb y 0)
+  zero-not n = rw (ne-eqb x 0 n)
+
+  pub zero-second : x ≡ 0 → eqb y 0 ≡ (eqb x 0 && eqb y 0)
+  zero-second e = rw (eq-eqb x 0 e)
+
+-- ---- the loop of `wstring_end`
 
 module _ (bytes : List ℕ) (at : ℕ) (inv : wstringEnd bytes ≡ endFrom at (drop at bytes)) where
-  module _ (left : 2 ≤ length bytes - at) (u : ℕ) (e : UnitAt bytes at u) where
-    turn : (b : Bool) → (eqb (getD bytes at 0) 0 && eqb (getD bytes (at + 1) 0) 0) ≡ b → wstringEnd bytes ≡ cond b (Terminated at) (endFrom (at + 2) (drop (at + 2) bytes))
+  module _ (left : 2 ≤ length bytes - at) (t : Bool) (e : t ≡ (eqb (getD bytes at 0) 0 && eqb (getD bytes (at + 1) 0) 0)) where
+    turn : wstringEnd bytes ≡ cond t (Terminated at) (endFrom (at + 2) (drop (at + 2) bytes))
     unfolding endFrom
-    turn b q = inv ∙ rw (drop-two bytes at (omega arith), q)
+    turn = inv ∙ rw (drop-two bytes at (omega arith), ← e)
 
-    pub end-here : u ≡ 0 → Terminated at ≡ wstringEnd bytes
-    end-here z = sym (turn true (zero-pair _ _ (sym (e .is) ∙ z)))
+    pub end-here : t ≡ true → Terminated at ≡ wstringEnd bytes
+    end-here q = sym (turn ∙ rw q)
 
-    pub end-again : (u ≡ 0 → ⊥) → wstringEnd bytes ≡ endFrom (at + 2) (drop (at + 2) bytes)
-    end-again n = turn false (other-pair _ _ (λ z. n (e .is ∙ z)))
+    pub end-again : t ≡ false → wstringEnd bytes ≡ endFrom (at + 2) (drop (at + 2) bytes)
+    end-again q = turn ∙ rw q
 
   pub end-none : at ≤ length bytes → length bytes - at < 2 → Unterminated (length bytes) ≡ wstringEnd bytes
   unfolding endFrom

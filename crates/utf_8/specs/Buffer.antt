@@ -24,6 +24,11 @@ pub record Wrote (xs out : List ℕ) (at : ℕ) (r : Put) (out′ : List ℕ) : 
   pub answer : r ≡ cond (fitsIn xs at (length out)) (Next (at + length xs)) Full
   pub buffer : out′ ≡ cond (fitsIn xs at (length out)) (splice out at xs) out
 
+-- `xs` laid over `out` from `at` on, where it is known to fit, and the place after it
+pub record Laid (xs out : List ℕ) (at r : ℕ) (out′ : List ℕ) : Type 0 where
+  pub next : r ≡ at + length xs
+  pub buffer : out′ ≡ splice out at xs
+
 -- a length `n` that is asked for with some room: itself where it is at most the room
 abbrev pub roomFor : ℕ → ℕ → Room
 roomFor n room = cond (leb n room) (Fits n) Over

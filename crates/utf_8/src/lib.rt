@@ -1,8 +1,5 @@
-// UTF-8 as the WHATWG Encoding Standard has it: the decoder and the encoder, and the answers that the other encodings
-// share with it.
-mod ascii;
-pub mod decoder;
-pub mod encoder;
+// UTF-8 as the WHATWG Encoding Standard has it: its definitions and laws, and the answers that all encodings share. The decoder
+// and the encoder stand in crates of their own.
 
 // Where the byte after the written ones goes, or that they do not fit.
 pub enum Put {

@@ -71,24 +71,24 @@ pub(crate) fn string_end(input: &[u8], answer: &mut [u8]) -> usize {
 pub(crate) fn windows_1252_decoded_len(input: &[u8], answer: &mut [u8]) -> usize {
     put_room(
         answer,
-        windows_1252::decoded_len(from(input, 2), u16_at(input, 0)),
+        windows_1252_decoder::decoded_len(from(input, 2), u16_at(input, 0)),
     )
 }
 
 pub(crate) fn windows_1252_decode(input: &[u8], out: &mut [u8], answer: &mut [u8]) -> usize {
-    let put = windows_1252::decode(from(input, 2), out, u16_at(input, 0));
+    let put = windows_1252_decoder::decode(from(input, 2), out, u16_at(input, 0));
     put_written(answer, put, out)
 }
 
 pub(crate) fn windows_1252_encoded_len(input: &[u8], answer: &mut [u8]) -> usize {
     put_room(
         answer,
-        windows_1252::encoded_len(from(input, 2), u16_at(input, 0)),
+        windows_1252_encoder::encoded_len(from(input, 2), u16_at(input, 0)),
     )
 }
 
 pub(crate) fn windows_1252_encode(input: &[u8], out: &mut [u8], answer: &mut [u8]) -> usize {
-    let put = windows_1252::encode(input, out);
+    let put = windows_1252_encoder::encode(input, out);
     put_written(answer, put, out)
 }
 
@@ -99,29 +99,29 @@ pub(crate) fn wstring_end(input: &[u8], answer: &mut [u8]) -> usize {
 pub(crate) fn utf_16_decoded_len(input: &[u8], answer: &mut [u8]) -> usize {
     put_room(
         answer,
-        utf_16::decoded_len(from(input, 2), u16_at(input, 0)),
+        utf_16_decoder::decoded_len(from(input, 2), u16_at(input, 0)),
     )
 }
 
 pub(crate) fn utf_16_decode(input: &[u8], out: &mut [u8], answer: &mut [u8]) -> usize {
-    let put = utf_16::decode(from(input, 2), out, u16_at(input, 0));
+    let put = utf_16_decoder::decode(from(input, 2), out, u16_at(input, 0));
     put_written(answer, put, out)
 }
 
 pub(crate) fn utf_16_encoded_len(input: &[u8], answer: &mut [u8]) -> usize {
     put_room(
         answer,
-        utf_16::encoded_len(from(input, 2), u16_at(input, 0)),
+        utf_16_encoder::encoded_len(from(input, 2), u16_at(input, 0)),
     )
 }
 
 pub(crate) fn utf_16_encode(input: &[u8], out: &mut [u8], answer: &mut [u8]) -> usize {
-    let put = utf_16::encode(input, out);
+    let put = utf_16_encoder::encode(input, out);
     put_written(answer, put, out)
 }
 
 pub(crate) fn well_formed(input: &[u8], answer: &mut [u8]) -> usize {
-    put_byte(answer, 0, utf_8::decoder::well_formed(input) as u8)
+    put_byte(answer, 0, utf_8_decoder::well_formed(input) as u8)
 }
 
 // Where the next code point of a text begins, and where its answer goes.
@@ -132,7 +132,7 @@ struct Place {
 
 // The code point at a place or FFFFFFFFh for an ill-formed part, with the place after it.
 fn item(text: &[u8], at: usize, answer: &mut [u8], to: usize) -> Place {
-    match utf_8::decoder::next(text, at) {
+    match utf_8_decoder::next(text, at) {
         Char::Code(code, next) => {
             let after = put_u32(answer, to, code);
             Place {
@@ -167,7 +167,7 @@ pub(crate) fn items(text: &[u8], answer: &mut [u8]) -> usize {
 }
 
 pub(crate) fn put(input: &[u8], out: &mut [u8], answer: &mut [u8]) -> usize {
-    let put = utf_8::encoder::put(out, u16_at(input, 0), u32_at(input, 2));
+    let put = utf_8_encoder::put(out, u16_at(input, 0), u32_at(input, 2));
     put_written(answer, put, out)
 }
 
@@ -175,6 +175,6 @@ pub(crate) fn utf8_len(input: &[u8], answer: &mut [u8]) -> usize {
     put_byte(
         answer,
         0,
-        (utf_8::encoder::utf8_len(u32_at(input, 0)) % 256) as u8,
+        (utf_8_encoder::utf8_len(u32_at(input, 0)) % 256) as u8,
     )
 }

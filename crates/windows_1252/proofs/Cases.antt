@@ -1,7 +1,6 @@
 -- Worked cases, by computation. Assumes nothing.
 use mathlib.Core.Path.{_≡_, refl}
-use mathlib.Core.List.{List, [], _∷_, flatMap}
-use Prim.Native.Nat.{ℕ}
+use mathlib.Core.List.{[], _∷_, flatMap}
 use Rattle.utf_8.specs.declared.TextEnd.the-variants.{Terminated, Unterminated}
 use Rattle.utf_8.specs.Utf8.{leading, following, after, decodeFrom, encoded, utf8Of}
 use Rattle.windows_1252.specs.declared.Byte.the-variants.{Is, None}

@@ -1,13 +1,13 @@
 -- Laws of the index: the only place that opens `codePoint`, `firstFrom` and `byteOf`. Assumes nothing.
 use mathlib.Core.Path.{_≡_, refl, sym, ap, _∙_}
-use mathlib.Core.Bool.{Bool, true, false, cond, _&&_}
-use mathlib.Core.List.{List, [], _∷_}
+use mathlib.Core.Bool.{Bool, true, false, cond}
+use mathlib.Core.List.{List}
 use Prim.Native.Nat.{ℕ, zero, suc, _+_, _-_, _≤_, _<_}
 use native.Mathlib.Nat.{add-zero, zero-add, suc-add}
 use native.Mathlib.Omega.{arith}
 use lib.ListN.{getD}
-use lib.Dec.{leb, ltb, eqb}
-use borrow.Author.Tests.{lt-ltb, le-ltb, le-leb, lt-leb, eq-eqb, ne-eqb, eqb-true, ltb-true}
+use lib.Dec.{ltb, eqb}
+use borrow.Author.Tests.{le-ltb, le-leb, lt-leb, eq-eqb, ne-eqb, eqb-true, ltb-true}
 use Rattle.windows_1252.specs.declared.Byte.{Byte}
 use Rattle.windows_1252.specs.declared.Byte.the-variants.{Is, None}
 use Rattle.windows_1252.specs.Index.{listed, codePoint, codePoints, firstFrom, byteOf}

@@ -1,11 +1,7 @@
--- Laws of the definitions of specs/, and of the functions' exits and loops. Callers cite `Indexes` and `Trips`.
+-- Laws of the definitions of specs/, and of the functions' exits and loops. Table, Indexes: the index. Ends: the end of a text.
+-- Decimals: numbers in decimal. Cases: worked examples.
 pub mod Table
 pub mod Indexes
-pub mod Texts
+pub mod Ends
 pub mod Decimals
-pub mod Lays
-pub mod Copies
-pub mod Decoders
-pub mod Encoders
-pub mod Trips
 mod Cases

@@ -1,5 +1,5 @@
 -- The index of Windows-1252: the code point of a byte, and the byte of a code point (WHATWG Encoding Standard, "index pointer"). Assumes nothing.
-use mathlib.Core.Bool.{Bool, true, false, cond, _&&_}
+use mathlib.Core.Bool.{cond, _&&_}
 use mathlib.Core.List.{List, [], _∷_}
 use Prim.Native.Nat.{ℕ, zero, suc, _+_, _-_}
 use lib.ListN.{getD}

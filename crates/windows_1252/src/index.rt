@@ -1,21 +1,18 @@
 // The index: the code point of a byte, and back.
 ghost use mathlib.Core.Path.{_≡_};
-ghost use Prim.Native.Nat.{_≤_};
-ghost use lib.ListN.{length};
 ghost use Rattle.windows_1252.specs.Index.{codePoint, codePoints, firstFrom, byteOf};
-ghost use Rattle.windows_1252.specs.Text.{decodeByte, utf8Lengths};
 use crate::Byte;
 use crate::data;
 
 // The table of code points. Whoever reads more than one of them takes it once.
-pub(crate) fn code_points() -> [u32; 256]
+pub fn code_points() -> [u32; 256]
     ensures { λ r. ⌜ r ≡ codePoints ⌝ }
 {
     data::CODE_POINTS
 }
 
 // A byte's entry of that table.
-pub(crate) fn entry(points: &[u32; 256], byte: u8) -> u32
+fn entry(points: &[u32; 256], byte: u8) -> u32
     requires { ⌜ now points ≡ codePoints ⌝ }
     ensures { λ r. ⌜ r ≡ codePoint byte ⌝ }
 {
@@ -59,19 +56,4 @@ pub fn byte_of(code: u32) -> Byte
         return Byte::Is(code as u8);
     }
     listed_byte(code)
-}
-
-// The table of their lengths in UTF-8.
-pub(crate) fn utf8_lengths() -> [u8; 256]
-    ensures { λ r. ⌜ r ≡ utf8Lengths ⌝ }
-{
-    data::UTF_8_LENGTHS
-}
-
-// How many bytes a byte's code point takes in UTF-8: 1 to 3.
-pub(crate) fn utf8_length_of(lengths: &[u8; 256], byte: u8) -> usize
-    requires { ⌜ now lengths ≡ utf8Lengths ⌝ }
-    ensures { λ r. ⌜ (r ≡ length (decodeByte byte)) × (r ≤ 3) ⌝ }
-{
-    lengths[byte as usize] as usize
 }

@@ -1,17 +1,13 @@
-// Windows-1252 as the WHATWG Encoding Standard has it: a byte is one code point, by a table.
-mod ascii;
+// Windows-1252 as the WHATWG Encoding Standard has it: a byte is one code point, by a table. The decoder and the encoder stand in
+// crates of their own.
 mod data;
-mod decoder;
-mod encoder;
+mod end;
 mod index;
 
-pub use decoder::decode;
-pub use decoder::decoded_len;
-pub use decoder::string_end;
-pub use encoder::encode;
-pub use encoder::encoded_len;
+pub use end::string_end;
 pub use index::byte_of;
 pub use index::code_point;
+pub use index::code_points;
 
 // The byte of a code point, where it has one.
 pub enum Byte {

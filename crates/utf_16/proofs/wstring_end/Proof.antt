@@ -22,8 +22,17 @@ loop-holds c = (search needs, refl)
 sub-loop : tie.Need-sub-loop Inv-loop μ-loop
 sub-loop c = search needs
 
-unit-requires : tie.Need-unit-requires Inv-loop μ-loop
-unit-requires c κs = search needs
+shared-slice-read-is-zero : tie.Need-shared-slice-read-is-zero Inv-loop μ-loop
+shared-slice-read-is-zero c = search needs
+
+add-is-zero : tie.Need-add-is-zero Inv-loop μ-loop
+add-is-zero c = search needs
+
+shared-slice-read-is-zero-2 : tie.Need-shared-slice-read-is-zero-2 Inv-loop μ-loop
+shared-slice-read-is-zero-2 c = search needs
+
+is-zero-requires : tie.Need-is-zero-requires Inv-loop μ-loop
+is-zero-requires c κs = search needs
 
 returns : tie.Need-returns Inv-loop μ-loop
 returns c = search end-here
@@ -48,7 +57,10 @@ wstring-end-spec =
     μ-loop
     loop-holds
     sub-loop
-    unit-requires
+    shared-slice-read-is-zero
+    add-is-zero
+    shared-slice-read-is-zero-2
+    is-zero-requires
     returns
     add-at
     loop-less

@@ -4,8 +4,8 @@ use Rattle.de.proofs.step.decode.Statement.{statement}
 use Rattle.de.proofs.step.decode.Tie as tie
 use Rattle.de.proofs.step.decode.Reads as reads
 use Rattle.de.proofs.step.decode.Lts as lts
-use Rattle.utf_16.proofs.decode.Reads as decode-reads
-use Rattle.windows_1252.proofs.decode.Reads as decoder-decode-reads
+use Rattle.utf_16_decoder.proofs.decode.Reads as decode-reads
+use Rattle.windows_1252_decoder.proofs.decode.Reads as decoder-decode-reads
 
 decode-requires : tie.Need-decode-requires
 decode-requires c κs = search needs

@@ -1,0 +1,32 @@
+-- The encoder, scalar value by scalar value. This module alone opens `utf16Of`. Assumes nothing.
+use mathlib.Core.Path.{_≡_}
+use mathlib.Core.List.{List, _++_}
+use Prim.Native.Nat.{ℕ, _≤_, _<_}
+use lib.ListN.{length}
+use borrow.Author.Tests.{lt-ltb, le-ltb}
+use Rattle.utf_8.specs.declared.Put.{Put}
+use Rattle.utf_8.specs.Buffer.{Wrote}
+use Rattle.utf_8.proofs.Splices.{wrote-as}
+use Rattle.utf_16.specs.Encode.{unitBytes, leadingOf, trailingOf, utf16Of}
+
+module _ (c : ℕ) where
+  pub one-unit : c < 0x10000 → utf16Of c ≡ unitBytes c
+  unfolding utf16Of
+  one-unit h = rw (lt-ltb c 0x10000 h)
+
+  pub two-units : 0x10000 ≤ c → utf16Of c ≡ unitBytes (leadingOf c) ++ unitBytes (trailingOf c)
+  unfolding utf16Of
+  two-units h = rw (le-ltb c 0x10000 h)
+
+  pub one-length : c < 0x10000 → 2 ≡ length (utf16Of c)
+  one-length h = rw (one-unit h)
+
+  pub two-length : 0x10000 ≤ c → 4 ≡ length (utf16Of c)
+  two-length h = rw (two-units h)
+
+  module _ {out out′ : List ℕ} {at : ℕ} {r : Put} where
+    pub put-one : c < 0x10000 → Wrote (unitBytes c) out at r out′ → Wrote (utf16Of c) out at r out′
+    put-one h w = wrote-as (one-unit h) w
+
+    pub put-two : 0x10000 ≤ c → Wrote (unitBytes (leadingOf c) ++ unitBytes (trailingOf c)) out at r out′ → Wrote (utf16Of c) out at r out′
+    put-two h w = wrote-as (two-units h) w
