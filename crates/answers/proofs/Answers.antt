@@ -17,7 +17,7 @@ use Rattle.walks.specs.declared.Missing.{Missing}
 use Rattle.walks.specs.declared.Missing.the-variants as missing
 use Rattle.de.specs.declared.deserializer.ReadAnswer.{ReadAnswer}
 use Rattle.de.specs.declared.deserializer.ReadAnswer.the-variants as reading
-use Rattle.answers.specs.Numbers.{truthNumber}
+use Rattle.codes.specs.Numbers.{truthNumber}
 use Rattle.answers.specs.Values.{laid, Gives, AppendedAs, ResolvedAs, ResolutionAs, FieldsAs, RmwAs, MissingAs, ReadAs}
 
 -- a refusal without a value

@@ -21,7 +21,7 @@ use Rattle.walks.specs.declared.Missing.the-variants as missing
 use Rattle.walks.specs.Calls.{rmwRefusal, missingRefusal}
 use Rattle.de.specs.declared.deserializer.ReadAnswer.{ReadAnswer}
 use Rattle.de.specs.declared.deserializer.ReadAnswer.the-variants as reading
-use Rattle.answers.specs.Numbers.{truthNumber}
+use Rattle.codes.specs.Numbers.{truthNumber}
 
 -- the new numbers over the first numbers of the array, as many as fit; the rest as before
 unfoldable pub laid : List ℕ → List ℕ → List ℕ

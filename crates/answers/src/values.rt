@@ -3,7 +3,7 @@ ghost use mathlib.Core.Path.{_≡_};
 ghost use mathlib.Core.List.{[], _∷_};
 ghost use lib.ListN.{set};
 ghost use Rattle.answers.specs.Values.{Gives, AppendedAs, ResolvedAs, ResolutionAs, FieldsAs, RmwAs, MissingAs, ReadAs};
-use crate::numbers::truth;
+use codes::truth;
 use de::deserializer::ReadAnswer;
 use field_types::FieldsAnswer;
 use resolvers::Resolution;

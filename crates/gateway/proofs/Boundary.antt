@@ -15,7 +15,7 @@ use Rattle.book_check.proofs.Valid.{valid-book}
 use Rattle.type_cache.specs.declared.Appended.the-variants.{Done, Refused}
 use Rattle.type_cache.specs.Append.{appendRefusal, appendCall}
 use Rattle.type_cache.proofs.Adds.{grown}
-use Rattle.answers.specs.Numbers.{truthNumber}
+use Rattle.codes.specs.Numbers.{truthNumber}
 use Rattle.answers.specs.Values.{appendedRefusal}
 use Rattle.gateway.specs.Calls.{AppendGiven}
 

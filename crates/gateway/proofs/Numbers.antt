@@ -9,7 +9,7 @@ use Rattle.utf_8.specs.declared.Put.{Put}
 use Rattle.utf_8.specs.declared.Put.the-variants.{Next, Full}
 use Rattle.typebook.specs.Find.{FoundBy}
 use Rattle.typebook.specs.declared.type_provider.Found.{Found}
-use Rattle.answers.specs.Numbers.{placeNumber, foundNumber}
+use Rattle.codes.specs.Numbers.{placeNumber, foundNumber}
 use Rattle.gateway.specs.Numbers.{WroteAs, FoundAs}
 
 by : (b : Bool) (n : ℕ) → placeNumber (cond b (Next n) Full) ≡ cond b n 0xffff_ffff_ffff_ffff

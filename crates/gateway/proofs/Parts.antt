@@ -8,7 +8,7 @@ use Rattle.type_category.specs.declared.type_category.AdsTypeCategory.{AdsTypeC
 use Rattle.resolvers.specs.Resolve.{ResolvedIs}
 use Rattle.resolvers.specs.declared.Resolved.{Resolved}
 use Rattle.resolvers.specs.declared.Resolution.{Resolution}
-use Rattle.answers.specs.Numbers.{categoryNumber}
+use Rattle.codes.specs.Numbers.{categoryNumber}
 use Rattle.answers.specs.Values.{Gives, ResolvedAs, ResolutionAs}
 use Rattle.gateway.specs.Calls.{placeOf, PartGiven, ChainGiven}
 

@@ -7,7 +7,7 @@ use lib.ListN.{length}
 use Rattle.utf_8.specs.Buffer.{splice, fitsIn}
 use Rattle.typebook.specs.Find.{FoundBy}
 use Rattle.typebook.specs.declared.type_provider.Found.{Found}
-use Rattle.answers.specs.Numbers.{foundNumber}
+use Rattle.codes.specs.Numbers.{foundNumber}
 
 -- `xs` written into `out` from `at` on, or the buffer as it was where it does not fit
 pub record WroteAs (xs out : List ℕ) (at r : ℕ) (out′ : List ℕ) : Type 0 where

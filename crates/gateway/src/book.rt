@@ -4,10 +4,9 @@ ghost use mathlib.Core.List.{[], _∷_};
 ghost use Prim.Native.Nat.{_+_, _*_, _≤_};
 ghost use Rattle.typebook.specs.Book.{isType, nameOf, typeNameOf};
 ghost use Rattle.type_category.specs.Category.{categoryOf};
-ghost use Rattle.answers.specs.Numbers.{truthNumber, categoryNumber};
+ghost use Rattle.codes.specs.Numbers.{truthNumber, categoryNumber};
 ghost use Rattle.answers.specs.Values.{Gives};
 ghost use Rattle.gateway.specs.Calls.{placeOf, PartGiven, AppendGiven};
-use answers::numbers;
 use answers::values::done_1;
 use answers::values::done_2;
 use answers::values::give_appended;
@@ -18,7 +17,7 @@ use type_category::type_category::AdsTypeCategory;
 pub extern "C" fn gateway_is_type(book: &[u8], block: u32) -> u8
     ensures { λ r. ⌜ r ≡ truthNumber (isType (now (book .entry)) block) ⌝ }
 {
-    numbers::truth(typebook::block::is_type(book, block))
+    codes::truth(typebook::block::is_type(book, block))
 }
 
 // Where byte k of block n stands, at most the book's end: an offset that no slice of the book refuses.
@@ -58,7 +57,7 @@ pub extern "C" fn gateway_determine(book: &[u8], width: u8, block: u32, values: 
 {
     done_1(
         values,
-        numbers::category(AdsTypeCategory::determine(book, width, block)),
+        codes::category(AdsTypeCategory::determine(book, width, block)),
     )
 }
 

@@ -7,9 +7,8 @@ ghost use Rattle.utf_16.specs.Encode as utf16Encode;
 ghost use Rattle.typebook.specs.Find.{find as findIn, IndexOf};
 ghost use Rattle.utf_8.specs.Utf8.{wellFormed};
 ghost use Rattle.book_check.specs.Check.{checkBook, bookRefusal};
-ghost use Rattle.answers.specs.Numbers.{foundNumber, truthNumber};
+ghost use Rattle.codes.specs.Numbers.{foundNumber, truthNumber};
 ghost use Rattle.gateway.specs.Numbers.{WroteAs, FoundAs};
-use answers::numbers;
 
 pub mod book;
 pub mod read;
@@ -20,42 +19,42 @@ pub mod walk;
 pub extern "C" fn gateway_windows_1252_decode(bytes: &[u8], out: &mut [u8], at: usize) -> u64
     ensures { λ r. ⌜ WroteAs (windows1252.decodeText (now (bytes .entry))) (now (out .entry)) at r (now (out .exit)) ⌝ }
 {
-    numbers::place(windows_1252_decoder::decode(bytes, out, at))
+    codes::place(windows_1252_decoder::decode(bytes, out, at))
 }
 
 #[no_mangle]
 pub extern "C" fn gateway_windows_1252_encode(text: &[u8], out: &mut [u8]) -> u64
     ensures { λ r. ⌜ WroteAs (windows1252.encodeText (now (text .entry))) (now (out .entry)) 0 r (now (out .exit)) ⌝ }
 {
-    numbers::place(windows_1252_encoder::encode(text, out))
+    codes::place(windows_1252_encoder::encode(text, out))
 }
 
 #[no_mangle]
 pub extern "C" fn gateway_utf_16_decode(bytes: &[u8], out: &mut [u8], at: usize) -> u64
     ensures { λ r. ⌜ WroteAs (utf16Decode.decodeText (now (bytes .entry))) (now (out .entry)) at r (now (out .exit)) ⌝ }
 {
-    numbers::place(utf_16_decoder::decode(bytes, out, at))
+    codes::place(utf_16_decoder::decode(bytes, out, at))
 }
 
 #[no_mangle]
 pub extern "C" fn gateway_utf_16_encode(text: &[u8], out: &mut [u8]) -> u64
     ensures { λ r. ⌜ WroteAs (utf16Encode.encodeText (now (text .entry))) (now (out .entry)) 0 r (now (out .exit)) ⌝ }
 {
-    numbers::place(utf_16_encoder::encode(text, out))
+    codes::place(utf_16_encoder::encode(text, out))
 }
 
 #[no_mangle]
 pub extern "C" fn gateway_find(book: &[u8], name: &[u8]) -> u32
     ensures { λ r. ⌜ r ≡ foundNumber (findIn (now (book .entry)) (now (name .entry))) ⌝ }
 {
-    numbers::found(typebook::type_provider::find(book, name))
+    codes::found(typebook::type_provider::find(book, name))
 }
 
 #[no_mangle]
 pub extern "C" fn gateway_find_by(book: &[u8], index: &[u32], name: &[u8]) -> u32
     ensures { λ r. ⌜ FoundAs (now (book .entry)) (now (name .entry)) r ⌝ }
 {
-    numbers::found(typebook::type_provider::find_by(book, index, name))
+    codes::found(typebook::type_provider::find_by(book, index, name))
 }
 
 #[no_mangle]
@@ -70,7 +69,7 @@ pub extern "C" fn gateway_fill_index(book: &[u8], index: &mut [u32])
 pub extern "C" fn gateway_utf_8_well_formed(text: &[u8]) -> u8
     ensures { λ r. ⌜ r ≡ truthNumber (wellFormed (now (text .entry))) ⌝ }
 {
-    numbers::truth(utf_8_decoder::well_formed(text))
+    codes::truth(utf_8_decoder::well_formed(text))
 }
 
 // Document 01's number: 0 where the book is valid, else 1 to 4.
@@ -78,5 +77,5 @@ pub extern "C" fn gateway_utf_8_well_formed(text: &[u8]) -> u8
 pub extern "C" fn gateway_check_book(buffer: &[u8], len: usize) -> u8
     ensures { λ r. ⌜ r ≡ bookRefusal (checkBook (now (buffer .entry)) len) ⌝ }
 {
-    numbers::refusal(book_check::check_book(buffer, len))
+    codes::refusal(book_check::check_book(buffer, len))
 }

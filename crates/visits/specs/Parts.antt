@@ -4,6 +4,7 @@ use Prim.Native.Nat.{ℕ, zero, suc, _+_}
 use Rattle.typebook.specs.Book.{fieldsOf}
 use Rattle.type_category.specs.declared.type_category.AdsTypeCategory.{AdsTypeCategory}
 use Rattle.type_category.specs.declared.type_category.AdsTypeCategory.the-variants as category
+use Rattle.type_category.specs.Category.{categoryOf}
 use Rattle.visits.specs.declared.Parts.{Parts}
 use Rattle.visits.specs.declared.Parts.the-variants.{Element, Fields, Nothing}
 
@@ -36,3 +37,7 @@ unfoldable pub partsIn : List ℕ → ℕ → Parts → List ℕ
 partsIn book t Element = t ∷ []
 partsIn book t Fields = after t (fieldsOf book t)
 partsIn book t Nothing = []
+
+-- the blocks whose type names are those that type block t is made of, in the order they are taken: an array's own block, or field blocks
+unfoldable pub partsOf : List ℕ → ℕ → ℕ → List ℕ
+partsOf book width t = partsIn book t (partsKind (categoryOf book width t))

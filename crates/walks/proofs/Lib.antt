@@ -1,6 +1,5 @@
 -- Laws that the functions' proofs cite, and those on the walk that the crates above cite.
 mod Places
-mod Settles
 mod Turns
 mod Lists
 mod Rmws

@@ -11,8 +11,8 @@ use Rattle.resolvers.specs.declared.Resolved.{Resolved}
 use Rattle.resolvers.specs.declared.Resolved.the-variants.{Base, Lacks, Endless}
 use Rattle.type_category.specs.declared.type_category.AdsTypeCategory.{AdsTypeCategory}
 use Rattle.visits.specs.Scratch.{stackOf}
-use Rattle.walks.specs.declared.Event.{Event}
-use Rattle.walks.specs.declared.Event.the-variants.{Old, Lacking, New, Long, Full}
+use Rattle.events.specs.declared.Event.{Event}
+use Rattle.events.specs.declared.Event.the-variants.{Old, Lacking, New, Long, Full}
 use Rattle.walks.specs.declared.Turn.{Turn}
 use Rattle.walks.specs.declared.Turn.the-variants as turn
 use Rattle.walks.specs.declared.Missing.the-variants as missing

@@ -14,27 +14,17 @@ use Rattle.typebook.proofs.Finds.{find-named, named-name}
 use Rattle.type_category.specs.declared.type_category.AdsTypeCategory.{AdsTypeCategory}
 use Rattle.type_category.specs.declared.type_category.AdsTypeCategory.the-variants as category
 use Rattle.type_category.specs.Category.{categoryOf}
-use Rattle.type_category.proofs.Categories.{alias-type, array-type}
+use Rattle.type_category.proofs.Categories.{array-type}
 use Rattle.book_check.specs.Check.{ValidBook}
 use Rattle.book_check.proofs.Valid.{valid-type}
-use Rattle.resolvers.specs.declared.Resolved.the-variants.{Lacks}
-use Rattle.resolvers.specs.Resolve.{isFollowed, resolveAlias}
-use Rattle.resolvers.proofs.Chains.{alias-breaks, follow-breaks, found-type}
+use Rattle.resolvers.proofs.Chains.{found-type}
 use Rattle.visits.specs.declared.Parts.{Parts}
 use Rattle.visits.specs.declared.Parts.the-variants.{Element, Fields, Nothing}
-use Rattle.visits.specs.Parts.{partsKind, after, partsIn}
+use Rattle.visits.specs.Parts.{partsKind, after, partsIn, partsOf}
 use Rattle.visits.specs.Scratch.{isPart}
 use Rattle.visits.proofs.Places.{type-below, part-field, part-dimensions}
-use Rattle.walks.specs.Walk.{partsOf}
 
 -- ---- parts
-
--- the alias at which a chain breaks is no part
-pub alias-not-part : (book : List ℕ) (width t c : ℕ) → isType book t ≡ true → resolveAlias book width t ≡ Lacks c → isPart book c ≡ false
-alias-not-part book width t c y e =
-    let k : isType book c ≡ true = follow-breaks (isFollowed false book width) book 32 t c e .typed y in
-    let d : dimensionsOf book c ≡ 0 = alias-type book c width (alias-breaks book width t c e) .dimensions in
-    sym (part-dimensions book c true (sym k) refl (dimensionsOf book c) refl) ∙ rw d
 
 in-after : (t k b : ℕ) → List·Memᴰ b (after t k) → (j : ℕ) × (j < k) × (b ≡ t + 1 + j)
 unfolding after

@@ -15,7 +15,8 @@ use Rattle.typebook.proofs.Names.{same-eq, same-refl}
 use Rattle.resolvers.specs.declared.Resolved.{Resolved}
 use Rattle.resolvers.specs.declared.Resolved.the-variants.{Base, Lacks, Endless}
 use Rattle.resolvers.specs.Resolve.{onward, resolveAlias}
-use Rattle.walks.specs.Walk.{Walk, met, comesTo, has, push, partsOf, meet, walk, walkOf}
+use Rattle.visits.specs.Parts.{partsOf}
+use Rattle.walks.specs.Walk.{Walk, met, comesTo, has, push, meet, walk, walkOf}
 use Rattle.walks.specs.Reads.{names, count, listed, whole}
 use Rattle.walks.specs.Reached.{Reached, start, part, Distinct, none as nothing, more, Resolves}
 use Rattle.walks.proofs.Goes.{Goes, none, old, fresh, stop, goes}

@@ -7,8 +7,8 @@ use native.Mathlib.Omega.{arith}
 use Rattle.type_category.specs.declared.type_category.AdsTypeCategory.{AdsTypeCategory}
 use Rattle.type_category.specs.Category.{categoryOf}
 use Rattle.resolvers.specs.declared.Resolved.the-variants.{Base, Lacks, Endless}
-use Rattle.walks.specs.declared.Event.{Event}
-use Rattle.walks.specs.declared.Event.the-variants.{Old, Lacking, New, Long, Full}
+use Rattle.events.specs.declared.Event.{Event}
+use Rattle.events.specs.declared.Event.the-variants.{Old, Lacking, New, Long, Full}
 use Rattle.walks.specs.declared.TurnRmw.{TurnRmw}
 use Rattle.walks.specs.declared.TurnRmw.the-variants as turn
 use Rattle.walks.specs.declared.Rmw.{Rmw}

@@ -21,10 +21,12 @@ use Rattle.resolvers.specs.declared.Resolved.the-variants.{Base, Lacks, Endless
 use Rattle.resolvers.specs.Resolve.{onward, resolveAlias}
 use Rattle.visits.specs.declared.Taken.{Taken}
 use Rattle.visits.specs.Scratch.{stackOf, markedIn, isPart, namesIt, hasRef, Took}
-use Rattle.walks.specs.declared.Event.{Event}
-use Rattle.walks.specs.declared.Event.the-variants.{Old, Lacking, New, Long, Full}
-use Rattle.walks.specs.Walk.{Walk, met, comesTo, has, push, partsOf, walk, meet, walkOf}
-use Rattle.walks.specs.State.{seenBy, Left, Dead, Settled, Settles, After, work, Falls, Due, Stepped, Started}
+use Rattle.visits.specs.Parts.{partsOf}
+use Rattle.events.specs.Events.{Dead, Settled, Settles}
+use Rattle.events.specs.declared.Event.{Event}
+use Rattle.events.specs.declared.Event.the-variants.{Old, Lacking, New, Long, Full}
+use Rattle.walks.specs.Walk.{Walk, met, comesTo, has, push, walk, meet, walkOf}
+use Rattle.walks.specs.State.{seenBy, Left, After, work, Falls, Due, Stepped, Started}
 use Rattle.walks.proofs.Goes.{walk-old, walk-fresh, walk-stop}
 use Rattle.walks.proofs.Places.{find-name, part-is}
 

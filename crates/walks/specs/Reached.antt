@@ -8,7 +8,7 @@ use Rattle.typebook.specs.Book.{typeNameOf}
 use Rattle.typebook.specs.Find.{find}
 use Rattle.resolvers.specs.declared.Resolved.the-variants.{Base}
 use Rattle.resolvers.specs.Resolve.{isFollowed, resolveAlias}
-use Rattle.walks.specs.Walk.{partsOf}
+use Rattle.visits.specs.Parts.{partsOf}
 
 -- the root's name, and from a reached name those that its resolved type is made of
 pub data Reached (book : List ℕ) (width : ℕ) (root : List ℕ) : List ℕ → Type 0 where

@@ -1,28 +1,25 @@
 -- How a walk's state stands in the scratch of crate `visits`, and what the parts of a walk promise each other. No contract of a
 -- public function cites this. Assumes nothing.
 use mathlib.Core.Path.{_≡_}
-use mathlib.Core.Bool.{Bool, true, false, _||_, _&&_}
+use mathlib.Core.Bool.{Bool, true, false, _&&_}
 use mathlib.Core.List.{List, [], _∷_, _++_, List·Memᴰ}
 use Prim.Native.Nat.{ℕ, _+_, _*_, _-_, _≤_, _<_}
 use lib.ListN.{length, take, drop}
-use lib.Dec.{eqb}
 use Rattle.typebook.specs.declared.type_provider.Found.{Found}
 use Rattle.typebook.specs.declared.type_provider.Found.the-variants.{At, Nothing}
-use Rattle.typebook.specs.Book.{isType}
 use Rattle.typebook.specs.Find.{find}
 use Rattle.type_category.specs.declared.type_category.AdsTypeCategory.{AdsTypeCategory}
 use Rattle.type_category.specs.Category.{categoryOf}
 use Rattle.book_check.specs.Check.{ValidBook}
 use Rattle.resolvers.specs.declared.Resolved.the-variants.{Base, Lacks, Endless}
-use Rattle.resolvers.specs.Resolve.{resolveAlias}
 use Rattle.visits.specs.Scratch.{stackOf, markedIn, isPart, hasRef}
-use Rattle.walks.specs.declared.Event.{Event}
-use Rattle.walks.specs.declared.Event.the-variants.{Old, Lacking, New, Long, Full}
+use Rattle.events.specs.declared.Event.{Event}
+use Rattle.events.specs.declared.Event.the-variants.{Old, Lacking, New, Long, Full}
 use Rattle.walks.specs.declared.Turn.{Turn}
 use Rattle.walks.specs.declared.Turn.the-variants as turn
 use Rattle.walks.specs.declared.TurnRmw.{TurnRmw}
 use Rattle.walks.specs.declared.TurnRmw.the-variants as turnRmw
-use Rattle.walks.specs.Walk.{Walk, full, met, has, partsOf, walk, walkOf}
+use Rattle.walks.specs.Walk.{Walk, full, met, has, walk, walkOf}
 use Rattle.walks.specs.Reads.{count, listed, whole, rmwOf}
 
 -- a name was visited: where the book defines it, by its bit; else a listed block names it as a part
@@ -38,45 +35,6 @@ pub record Left (book : List ℕ) (width : ℕ) (sc ls : List ℕ) (left depth :
   pub room : depth + left ≤ 4096
   pub valid : ValidBook book
   pub parts : (b : ℕ) → List·Memᴰ b (stackOf sc depth) → isPart book b ≡ true
-
--- type block t is marked, and the parts of type u are laid on, where u is what t comes to, and c its category
-pub record Expanded (book : List ℕ) (width : ℕ) (sc : List ℕ) (depth t u : ℕ) (c : AdsTypeCategory) (r : ℕ) (sc′ : List ℕ) : Type 0 where
-  pub kind : c ≡ categoryOf book width u
-  pub to : resolveAlias book width t ≡ Base u
-  pub typed : isType book u ≡ true
-  pub top : stackOf sc′ r ≡ partsOf book width u ++ stackOf sc depth
-  pub marks : (u : ℕ) → markedIn sc′ u ≡ eqb t u || markedIn sc u
-  pub more : r ≤ depth + 1
-  pub few : length (stackOf sc′ r) < 65536 + length (stackOf sc depth)
-
--- type block t is marked, and comes to nothing
-pub record Dead (sc : List ℕ) (depth t r : ℕ) (sc′ : List ℕ) : Type 0 where
-  pub top : stackOf sc′ r ≡ stackOf sc depth
-  pub marks : (u : ℕ) → markedIn sc′ u ≡ eqb t u || markedIn sc u
-  pub more : r ≤ depth + 1
-
--- it comes to nothing at alias c, whose type name is not in the book
-pub record Broken (book : List ℕ) (width : ℕ) (sc : List ℕ) (depth t c r : ℕ) (sc′ : List ℕ) : Type 0 where
-  pub to : resolveAlias book width t ≡ Lacks c
-  pub alias : isPart book c ≡ false
-  pub dead : Dead sc depth t r sc′
-
--- it comes to nothing, since its chain is too long
-pub record Unending (book : List ℕ) (width : ℕ) (sc : List ℕ) (depth t r : ℕ) (sc′ : List ℕ) : Type 0 where
-  pub to : resolveAlias book width t ≡ Endless
-  pub dead : Dead sc depth t r sc′
-
--- type block t is marked, by the event that it gives
-abbrev pub Settled : List ℕ → ℕ → List ℕ → ℕ → ℕ → Event → List ℕ → Type 0
-Settled book width sc depth t (Old d) sc′ = ⊥
-Settled book width sc depth t (Lacking c d) sc′ = Broken book width sc depth t c d sc′
-Settled book width sc depth t (New u d c) sc′ = Expanded book width sc depth t u c d sc′
-Settled book width sc depth t (Long d) sc′ = Unending book width sc depth t d sc′
-Settled book width sc depth t Full sc′ = ⊥
-
--- a record, so that `search` takes it as it stands
-pub record Settles (book : List ℕ) (width : ℕ) (sc : List ℕ) (depth t : ℕ) (r : Event) (sc′ : List ℕ) : Type 0 where
-  pub so : Settled book width sc depth t r sc′
 
 -- an event of a walk, and what is left to walk after it
 pub record AfterNew (book : List ℕ) (width : ℕ) (sc ls : List ℕ) (left t depth : ℕ) (c : AdsTypeCategory) (w : Walk) : Type 0 where

@@ -6,17 +6,10 @@ use Prim.Native.Nat.{ℕ, zero, suc}
 use Rattle.typebook.specs.declared.type_provider.Found.{Found}
 use Rattle.typebook.specs.Book.{nameOf, typeNameOf, sameName}
 use Rattle.typebook.specs.Find.{find}
-use Rattle.type_category.specs.Category.{categoryOf}
 use Rattle.resolvers.specs.declared.Resolved.{Resolved}
 use Rattle.resolvers.specs.declared.Resolved.the-variants.{Base, Lacks, Endless}
 use Rattle.resolvers.specs.Resolve.{onward, resolveAlias}
-use Rattle.visits.specs.Parts.{partsKind, partsIn}
-
--- ---- what a type is made of
-
--- the blocks whose type names are those that type block t is made of, in the order they are taken: an array's own block, or field blocks
-unfoldable pub partsOf : List ℕ → ℕ → ℕ → List ℕ
-partsOf book width t = partsIn book t (partsKind (categoryOf book width t))
+use Rattle.visits.specs.Parts.{partsOf}
 
 -- what a name that block b names comes to, by what the look-up of that name found: a type with its aliases resolved, or 7 or 8
 abbrev pub comesTo : List ℕ → ℕ → ℕ → Found → Resolved

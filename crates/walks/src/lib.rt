@@ -9,18 +9,17 @@ ghost use Rattle.typebook.specs.Book.{isType};
 ghost use Rattle.book_check.specs.Check.{ValidBook};
 ghost use Rattle.links.specs.Links.{LinksOf};
 ghost use Rattle.walks.specs.Reads.{keepsState};
-ghost use Rattle.walks.specs.State.{Settles, Stepped, IsDue, Applied, Decided, Started};
+ghost use Rattle.walks.specs.State.{Stepped, IsDue, Applied, Decided, Started};
 ghost use Rattle.walks.specs.Calls.{scratchFits, listFits, rmwAnswer, Walked, RmwIn, RmwIs, MissingIn, MissingIs};
 use book_check::RootCheck;
-use resolvers::Resolved;
+use events::Event;
+use events::settle;
 use type_category::type_category::AdsTypeCategory;
 use typebook::block;
 use typebook::type_provider;
 use typebook::type_provider::Found;
 use visits::clear;
-use visits::expand;
 use visits::in_list;
-use visits::mark;
 use visits::marked;
 use visits::take;
 
@@ -51,20 +50,6 @@ pub enum Missing {
     Refused(u8),
 }
 
-// What one turn of a walk finds; the last number is the entries on the stack after it.
-enum Event {
-    // The name was visited before.
-    Old(usize),
-    // The type name of this block is not in the book.
-    Lacking(u32, usize),
-    // The name is new, and comes to this type, of this category.
-    New(u32, usize, AdsTypeCategory),
-    // Its alias chain is too long.
-    Long(usize),
-    // It would be one name too many.
-    Full,
-}
-
 // The state of `missing_walk` after an event: names left, entries on the stack, blocks listed, whether still whole.
 enum Turn {
     More(usize, usize, usize, bool),
@@ -78,47 +63,6 @@ enum TurnRmw {
 }
 
 // ---- one turn of the walk
-
-// The event of the new name of alias t.
-fn settle_alias(
-    book: &[u8],
-    index: &[u32],
-    width: u8,
-    scratch: &mut [u32],
-    depth: usize,
-    t: u32,
-) -> Event
-    requires { ⌜ ValidBook (now book) × (isType (now book) t ≡ true) × (depth < 4096) × (16384 ≤ length (now scratch)) ⌝ }
-    ensures { λ r. ⌜ Settles (now (book .entry)) width (now (scratch .entry)) depth t r (now (scratch .exit)) ⌝ }
-{
-    let resolved = resolvers::resolve_alias_in(book, index, width, t);
-    match resolved {
-        Resolved::Base(u) => {
-            let category = AdsTypeCategory::determine(book, width, u);
-            Event::New(u, expand(book, scratch, depth, t, u, category), category)
-        }
-        Resolved::Lacks(c) => {
-            mark(scratch, t);
-            Event::Lacking(c, depth)
-        }
-        Resolved::Endless => {
-            mark(scratch, t);
-            Event::Long(depth)
-        }
-    }
-}
-
-// The event of the new name of type block t: it is visited now. Most types are no aliases: their category is determined once.
-fn settle(book: &[u8], index: &[u32], width: u8, scratch: &mut [u32], depth: usize, t: u32) -> Event
-    requires { ⌜ ValidBook (now book) × (isType (now book) t ≡ true) × (depth < 4096) × (16384 ≤ length (now scratch)) ⌝ }
-    ensures { λ r. ⌜ Settles (now (book .entry)) width (now (scratch .entry)) depth t r (now (scratch .exit)) ⌝ }
-{
-    let category = AdsTypeCategory::determine(book, width, t);
-    if resolvers::goes_on(category, false) {
-        return settle_alias(book, index, width, scratch, depth, t);
-    }
-    Event::New(t, expand(book, scratch, depth, t, t, category), category)
-}
 
 // One turn: the top block's name is new, or was visited.
 fn step(

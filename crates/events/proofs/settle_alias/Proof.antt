@@ -1,9 +1,9 @@
 -- `settle_alias` meets its contract. Assumes nothing.
 use Rattle.visits.proofs.Places.{type-below}
-use Rattle.walks.proofs.Settles.{settle-base, settle-lacks, settle-long, base-type}
+use Rattle.events.proofs.Settles.{settle-base, settle-lacks, settle-long, base-type}
 use borrow.Author.Needs.{needs}
-use Rattle.walks.proofs.settle_alias.Statement.{statement}
-use Rattle.walks.proofs.settle_alias.Tie as tie
+use Rattle.events.proofs.settle_alias.Statement.{statement}
+use Rattle.events.proofs.settle_alias.Tie as tie
 
 ruleset typed = (needs, base-type)
 

@@ -1,7 +1,7 @@
-// An answer as one number.
+// An answer as one number, for callers that know no enum.
 ghost use mathlib.Core.Path.{_≡_};
 ghost use Rattle.book_check.specs.Check.{bookRefusal};
-ghost use Rattle.answers.specs.Numbers.{placeNumber, foundNumber, truthNumber, categoryNumber};
+ghost use Rattle.codes.specs.Numbers.{placeNumber, foundNumber, truthNumber, categoryNumber};
 use book_check::BookCheck;
 use type_category::type_category::AdsTypeCategory;
 use typebook::type_provider::Found;

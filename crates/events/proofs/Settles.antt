@@ -1,21 +1,29 @@
 -- A new name's event: what its type comes to, and what is laid on the stack. Assumes nothing.
-use mathlib.Core.Path.{_≡_, sym, _∙_}
+use mathlib.Core.Path.{_≡_, refl, sym, _∙_}
 use mathlib.Core.Bool.{Bool, true, false}
 use mathlib.Core.List.{List}
 use Prim.Native.Nat.{ℕ, _<_}
 use native.Mathlib.Omega.{arith}
-use Rattle.typebook.specs.Book.{isType}
+use Rattle.typebook.specs.Book.{isType, dimensionsOf}
 use Rattle.type_category.specs.declared.type_category.AdsTypeCategory.{AdsTypeCategory}
 use Rattle.type_category.specs.Category.{categoryOf}
+use Rattle.type_category.proofs.Categories.{alias-type}
 use Rattle.resolvers.specs.declared.Resolved.{Resolved}
 use Rattle.resolvers.specs.declared.Resolved.the-variants.{Base, Lacks, Endless}
 use Rattle.resolvers.specs.Resolve.{goesOn, isFollowed, resolveAlias, ResolvedIs}
-use Rattle.resolvers.proofs.Chains.{follow-base}
-use Rattle.visits.specs.Scratch.{Marked, Grown}
-use Rattle.walks.specs.declared.Event.the-variants.{New, Lacking, Long}
-use Rattle.walks.specs.Walk.{partsOf}
-use Rattle.walks.specs.State.{Dead, Settles}
-use Rattle.walks.proofs.Places.{alias-not-part}
+use Rattle.resolvers.proofs.Chains.{follow-base, alias-breaks, follow-breaks}
+use Rattle.visits.specs.Parts.{partsOf}
+use Rattle.visits.specs.Scratch.{isPart, Marked, Grown}
+use Rattle.visits.proofs.Places.{part-dimensions}
+use Rattle.events.specs.declared.Event.the-variants.{New, Lacking, Long}
+use Rattle.events.specs.Events.{Dead, Settles}
+
+-- the alias at which a chain breaks is no part
+pub alias-not-part : (book : List ℕ) (width t c : ℕ) → isType book t ≡ true → resolveAlias book width t ≡ Lacks c → isPart book c ≡ false
+alias-not-part book width t c y e =
+    let k : isType book c ≡ true = follow-breaks (isFollowed false book width) book 32 t c e .typed y in
+    let d : dimensionsOf book c ≡ 0 = alias-type book c width (alias-breaks book width t c e) .dimensions in
+    sym (part-dimensions book c true (sym k) refl (dimensionsOf book c) refl) ∙ rw d
 
 -- what a type of category c comes to, and its parts
 expanded : (book : List ℕ) (width : ℕ) (sc : List ℕ) (depth t u : ℕ) (c : AdsTypeCategory) → c ≡ categoryOf book width u → resolveAlias book width t ≡ Base u

@@ -1,8 +1,8 @@
 -- `settle` meets its contract. Assumes nothing.
-use Rattle.walks.proofs.Settles.{settle-own}
+use Rattle.events.proofs.Settles.{settle-own}
 use borrow.Author.Needs.{needs}
-use Rattle.walks.proofs.settle.Statement.{statement}
-use Rattle.walks.proofs.settle.Tie as tie
+use Rattle.events.proofs.settle.Statement.{statement}
+use Rattle.events.proofs.settle.Tie as tie
 
 determine-requires : tie.Need-determine-requires
 determine-requires c κs = search needs
