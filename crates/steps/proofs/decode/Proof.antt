@@ -1,9 +1,9 @@
-use Rattle.de.proofs.Puts.{decoded-wide, decoded-narrow}
+use Rattle.steps.proofs.Puts.{decoded-wide, decoded-narrow}
 use borrow.Author.Needs.{needs}
-use Rattle.de.proofs.step.decode.Statement.{statement}
-use Rattle.de.proofs.step.decode.Tie as tie
-use Rattle.de.proofs.step.decode.Reads as reads
-use Rattle.de.proofs.step.decode.Lts as lts
+use Rattle.steps.proofs.decode.Statement.{statement}
+use Rattle.steps.proofs.decode.Tie as tie
+use Rattle.steps.proofs.decode.Reads as reads
+use Rattle.steps.proofs.decode.Lts as lts
 use Rattle.utf_16.proofs.decode.Reads as decode-reads
 use Rattle.windows_1252.proofs.decode.Reads as decoder-decode-reads
 
