@@ -23,8 +23,8 @@ use Rattle.leaves.specs.declared.leaf.LeafValue.the-variants as leaf
 use Rattle.leaves.specs.Leaf.{leafAt}
 use Rattle.de.specs.declared.deserializer.Shape.{Shape}
 use Rattle.de.specs.declared.deserializer.Shape.the-variants as shape
-use Rattle.de.specs.Leaves.{traceOf}
-use Rattle.de.specs.Trace.{Event, rec, text, Trace, done, stop, eventsOf, one, refuse, _then_}
+use Rattle.steps.specs.Leaves.{traceOf}
+use Rattle.steps.specs.Trace.{Event, rec, text, Trace, done, stop, eventsOf, one, refuse, _then_}
 use Rattle.de.specs.Walk.{Ctx, ctx, Item, whole, further, Child, shapeAt, leafOf, checked, fieldValue, memberOf, membersFrom, membersOf, mapOf, strideOf, elementItem, elementCheck, elementsFrom, elementsOf, dimensionOf, bytesOf, arrayBy, arrayOf, shapeWalk, itemWalk, walk}
 use Rattle.de.specs.Read.{rootBy, rootTrace, checkedTrace, readTrace}
 use Rattle.adswalk.proofs.Limits.{short, small, small-leaf, briefly, check-brief}

@@ -16,8 +16,8 @@ use Rattle.book_check.specs.declared.RootCheck.the-variants as root
 use Rattle.book_check.proofs.Valid.{valid-size, valid-names, root-valid}
 use Rattle.lines.specs.Lines.{textLine, headLine, refusedLine}
 use Rattle.lines.proofs.Lengths.{text-short, refused-short, head-short, line-short}
-use Rattle.de.specs.declared.step.Step.the-variants.{Stop}
-use Rattle.de.specs.Trace.{Event, rec, text, textBytes, tapeBytes, Trace, done, stop, eventsOf, endOf, fits, stepOf}
+use Rattle.steps.specs.declared.Step.the-variants.{Stop}
+use Rattle.steps.specs.Trace.{Event, rec, text, textBytes, tapeBytes, Trace, done, stop, eventsOf, endOf, fits, stepOf}
 use Rattle.de.specs.Read.{readTrace}
 use Rattle.adswalk.specs.Answer.{eventLine, eventLines, stepLines, readLines, walked, checkedLines, printed}
 use Rattle.adswalk.proofs.Limits.{briefly, check-brief}

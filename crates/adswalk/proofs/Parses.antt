@@ -20,9 +20,9 @@ use Rattle.tape.proofs.Records.{length-record}
 use Rattle.lines.specs.Lines.{textLine, lineOf, before, recordsAt, linesOf, headLine, walkLines, refusedLine}
 use Rattle.de.specs.declared.deserializer.ReadAnswer.{ReadAnswer}
 use Rattle.de.specs.declared.deserializer.ReadAnswer.the-variants.{NotFound, Refused}
-use Rattle.de.specs.declared.step.Step.{Step}
-use Rattle.de.specs.declared.step.Step.the-variants.{Stop}
-use Rattle.de.specs.Trace.{Event, rec, text, bytesOf, textBytes, tapeBytes, Trace, done, stop, eventsOf, endOf, fits, stepOf}
+use Rattle.steps.specs.declared.Step.{Step}
+use Rattle.steps.specs.declared.Step.the-variants.{Stop}
+use Rattle.steps.specs.Trace.{Event, rec, text, bytesOf, textBytes, tapeBytes, Trace, done, stop, eventsOf, endOf, fits, stepOf}
 use Rattle.de.specs.Read.{refusalOf, answerOf, bufferAfter, ReadIs}
 use Rattle.adswalk.specs.Answer.{eventLine, eventLines, stepLines, readLines, linesBy}
 use Rattle.adswalk.proofs.Emits.{Plain, record-more, text-more, Emits}

@@ -10,9 +10,9 @@ use Rattle.book_check.specs.declared.RootCheck.{RootCheck}
 use Rattle.book_check.specs.declared.RootCheck.the-variants as root
 use Rattle.de.specs.declared.deserializer.ReadAnswer.{ReadAnswer}
 use Rattle.de.specs.declared.deserializer.ReadAnswer.the-variants.{Done, NotFound, Refused}
-use Rattle.de.specs.declared.step.Step.{Step}
-use Rattle.de.specs.declared.step.Step.the-variants.{Next, Stop}
-use Rattle.de.specs.Trace.{Event, rec, text, Trace, eventsOf, stepOf}
+use Rattle.steps.specs.declared.Step.{Step}
+use Rattle.steps.specs.declared.Step.the-variants.{Next, Stop}
+use Rattle.steps.specs.Trace.{Event, rec, text, Trace, eventsOf, stepOf}
 use Rattle.de.specs.Read.{readTrace}
 use Rattle.lines.specs.Lines.{textLine, lineOf, headLine, walkLines, refusedLine}
 

@@ -25,14 +25,14 @@ use Rattle.field_plan.specs.declared.Planned.{Planned}
 use Rattle.field_plan.specs.declared.Planned.the-variants as planned
 use Rattle.field_plan.specs.Plan.{PlannedIs, Entries, Ready, PlanIs}
 use Rattle.field_plan.proofs.Plans.{ready-none}
-use Rattle.de.specs.declared.step.Step.{Step}
-use Rattle.de.specs.declared.step.Step.the-variants.{Next, Stop}
+use Rattle.steps.specs.declared.Step.{Step}
+use Rattle.steps.specs.declared.Step.the-variants.{Next, Stop}
 use Rattle.de.specs.declared.deserializer.Shape.{Shape}
 use Rattle.de.specs.declared.deserializer.Shape.the-variants as shape
-use Rattle.de.specs.Trace.{Trace, rec, one, refuse, From, Halts}
+use Rattle.steps.specs.Trace.{Trace, rec, one, refuse, From, Halts}
 use Rattle.de.specs.Plans.{Given, GivenElement, ElementChecked}
 use Rattle.de.specs.Walk.{Ctx, ctx, whole, Child, cut, shapeOf, shapeAt, shapeCheck, leafOf, checked, memberOf, membersFrom, membersOf, mapOf, productFrom, strideOf, isLast, elementItem, elementCheck, elementsFrom, elementsOf, dimensionOf, bytesOf, arrayBy, arrayOf, shapeWalk, walk, Fills, FillsNext, StrideIs}
-use Rattle.de.proofs.Runs.{Rest, from-as, from-held, halted, chain, rest-all, rest-next}
+use Rattle.steps.proofs.Runs.{Rest, from-as, from-held, halted, chain, rest-all, rest-next}
 use Rattle.de.proofs.Walks as walks
 
 -- ---- value

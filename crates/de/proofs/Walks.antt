@@ -23,7 +23,7 @@ use Rattle.field_plan.specs.Plan.{FieldIs, PlanIs}
 use Rattle.de.specs.Plans.{ElementChecked}
 use Rattle.de.specs.declared.deserializer.Shape.{Shape}
 use Rattle.de.specs.declared.deserializer.Shape.the-variants as shape
-use Rattle.de.specs.Trace.{Trace, rec, one, refuse, _then_}
+use Rattle.steps.specs.Trace.{Trace, rec, one, refuse, _then_}
 use Rattle.de.specs.Walk.{Ctx, Item, whole, further, Child, cut, shapeOf, shapeAt, leafOf, checked, fieldValue, memberOf, membersFrom, membersOf, mapOf, productFrom, strideOf, isLast, elementItem, shapeCheck, elementCheck, elementsFrom, elementsOf, dimensionOf, bytesOf, arrayBy, arrayOf, shapeWalk, itemWalk, walk, Fills, FillsNext}
 
 -- ---- a value

@@ -15,14 +15,14 @@ use Rattle.resolvers.proofs.Calls.{root-fits}
 use Rattle.resolvers.specs.Resolve.{resolveAlias, ResolvedIs}
 use Rattle.resolvers.specs.declared.Resolved.{Resolved}
 use Rattle.resolvers.specs.declared.Resolved.the-variants as resolved
-use Rattle.de.specs.declared.step.Step.{Step}
-use Rattle.de.specs.declared.step.Step.the-variants.{Next, Stop}
+use Rattle.steps.specs.declared.Step.{Step}
+use Rattle.steps.specs.declared.Step.the-variants.{Next, Stop}
 use Rattle.de.specs.declared.deserializer.ReadAnswer.{ReadAnswer}
 use Rattle.de.specs.declared.deserializer.ReadAnswer.the-variants.{Done, NotFound, Refused}
-use Rattle.de.specs.Trace.{Trace, tapeBytes, textBytes, eventsOf, refuse, stepOf, Ran, From}
+use Rattle.steps.specs.Trace.{Trace, tapeBytes, textBytes, eventsOf, refuse, stepOf, Ran, From}
 use Rattle.de.specs.Walk.{Ctx, ctx, whole, walk}
 use Rattle.de.specs.Read.{rootBy, rootTrace, checkedTrace, readTrace, refusalOf, answerOf, bufferAfter, ReadIs, Finished}
-use Rattle.de.proofs.Runs.{refused, next-stop}
+use Rattle.steps.proofs.Runs.{refused, next-stop}
 
 module _ (t : Trace) (tape txt tape₁ txt₁ : List ℕ) (s : Step) (h : Ran t tape txt 0 0 s tape₁ txt₁) (same : length tape₁ ≡ length tape) (same-text : length txt₁ ≡ length txt)
     {r : ReadAnswer} {tape₂ txt₂ : List ℕ} (f : Finished s tape₁ txt₁ r tape₂ txt₂) where

@@ -1,5 +1,3 @@
-pub mod Trace
-pub mod Leaves
 pub mod Walk
 pub mod Read
 pub mod Plans

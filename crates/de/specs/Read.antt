@@ -12,11 +12,11 @@ use Rattle.book_check.specs.declared.RootCheck.the-variants as root
 use Rattle.resolvers.specs.Resolve.{resolveAlias}
 use Rattle.resolvers.specs.declared.Resolved.{Resolved}
 use Rattle.resolvers.specs.declared.Resolved.the-variants as resolved
-use Rattle.de.specs.declared.step.Step.{Step}
-use Rattle.de.specs.declared.step.Step.the-variants.{Next, Stop}
+use Rattle.steps.specs.declared.Step.{Step}
+use Rattle.steps.specs.declared.Step.the-variants.{Next, Stop}
 use Rattle.de.specs.declared.deserializer.ReadAnswer.{ReadAnswer}
 use Rattle.de.specs.declared.deserializer.ReadAnswer.the-variants.{Done, NotFound, Refused}
-use Rattle.de.specs.Trace.{Trace, tapeBytes, textBytes, eventsOf, refuse, stepOf}
+use Rattle.steps.specs.Trace.{Trace, tapeBytes, textBytes, eventsOf, refuse, stepOf}
 use Rattle.de.specs.Walk.{Ctx, ctx, whole, walk}
 
 -- the root's aliases are resolved first: 7 with its block, or 8; then its value, with 64 levels

@@ -20,8 +20,8 @@ use Rattle.field_types.specs.declared.FieldsCheck.the-variants as check
 use Rattle.de.specs.declared.deserializer.Shape.{Shape}
 use Rattle.de.specs.declared.deserializer.Shape.the-variants as shape
 use Rattle.leaves.specs.Leaf.{leafAt}
-use Rattle.de.specs.Leaves.{traceOf}
-use Rattle.de.specs.Trace.{Trace, Event, rec, text, one, refuse, _then_}
+use Rattle.steps.specs.Leaves.{traceOf}
+use Rattle.steps.specs.Trace.{Trace, Event, rec, text, one, refuse, _then_}
 
 -- what is read and never written
 pub record Ctx : Type 0 where

@@ -8,16 +8,16 @@ ghost use Rattle.book_check.specs.Check.{ValidBook};
 ghost use Rattle.typebook.specs.Book.{isType};
 ghost use Rattle.type_category.specs.Category.{categoryOf};
 ghost use Rattle.de.specs.Plans.{GivenElement, ElementChecked};
-ghost use Rattle.de.specs.Trace.{From};
+ghost use Rattle.steps.specs.Trace.{From};
 ghost use Rattle.de.specs.Walk.{ctx, walk, arrayOf, dimensionOf, elementsOf, elementItem, isLast, bytesOf, Fills, FillsNext, StrideIs};
 use crate::deserializer::Shape;
 use crate::deserializer::shape_of;
 use crate::deserializer::value;
-use crate::step::Step;
-use crate::step::put;
-use crate::step::stop;
 use field_types::FieldsCheck;
 use resolvers::Resolved;
+use steps::Step;
+use steps::put;
+use steps::stop;
 use type_category::type_category::AdsTypeCategory;
 
 // No length reaches this, so a product that does needs not be known.

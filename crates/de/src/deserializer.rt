@@ -6,15 +6,15 @@ ghost use Rattle.typebook.specs.Book.{isType, fieldsOf, entriesOf};
 ghost use mathlib.Core.Bool.{true};
 ghost use Rattle.type_category.specs.Category.{categoryOf};
 ghost use Rattle.de.specs.Plans.{Given};
-ghost use Rattle.de.specs.Trace.{From};
+ghost use Rattle.steps.specs.Trace.{From};
 ghost use Rattle.de.specs.Walk.{ctx, walk, whole, shapeOf, leafOf};
 ghost use lib.ListN.{length, replicate};
 ghost use Rattle.de.specs.Read.{refusalOf, Finished, ReadIs, rootTrace, readTrace};
 use crate::array_access::array;
 use crate::map_access::map;
-use crate::step::Step;
 use book_check::RootCheck;
 use resolvers::Resolved;
+use steps::Step;
 use type_category::type_category::AdsTypeCategory;
 
 // How a value is read: by its fields, by its elements, or as a whole.
@@ -61,7 +61,7 @@ pub(crate) fn leaf(
     requires { ⌜ (t + fieldsOf (now book) t + entriesOf (now book) t < 65536) × (category ≡ categoryOf (now book) width t) ⌝ }
     ensures { λ r. ⌜ From (leafOf (ctx (now (book .entry)) width) t (now (bytes .entry))) (now (tape .entry)) (now (text .entry)) s r (now (tape .exit)) (now (text .exit)) ⌝ }
 {
-    crate::step::put_leaf(
+    steps::put_leaf(
         s,
         leaves::leaf::leaf_by(book, width, t, category, bytes),
         bytes,
@@ -88,7 +88,7 @@ pub(crate) fn value(
     ensures { λ r. ⌜ From (walk (ctx (now (book .entry)) width) left (whole t) (now (bytes .entry))) (now (tape .entry)) (now (text .entry)) s r (now (tape .exit)) (now (text .exit)) ⌝ }
 {
     if left == 0 {
-        return crate::step::stop(s, 14, 0);
+        return steps::stop(s, 14, 0);
     }
     let form = shape_of(category);
     match form {

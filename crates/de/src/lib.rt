@@ -2,4 +2,3 @@
 mod array_access;
 pub mod deserializer;
 mod map_access;
-pub mod step;

@@ -5,14 +5,14 @@ ghost use Prim.Native.Nat.{_+_, _<_};
 ghost use Rattle.book_check.specs.Check.{ValidBook};
 ghost use Rattle.typebook.specs.Book.{isType};
 ghost use Rattle.field_plan.specs.Plan.{PlanEntry, Entries, Ready};
-ghost use Rattle.de.specs.Trace.{From};
+ghost use Rattle.steps.specs.Trace.{From};
 ghost use Rattle.de.specs.Walk.{ctx, walk, mapOf, membersOf, memberOf};
 use crate::deserializer::value;
-use crate::step::Step;
-use crate::step::put;
-use crate::step::stop;
 use field_plan::Planned;
 use field_types::FieldsCheck;
+use steps::Step;
+use steps::put;
+use steps::stop;
 
 // The fields of type block t, after all of them were resolved once: by whoever gave a plan, or here.
 pub(crate) fn map(

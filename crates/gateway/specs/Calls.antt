@@ -15,7 +15,7 @@ use Rattle.walks.specs.declared.Rmw.{Rmw}
 use Rattle.walks.specs.declared.Missing.{Missing}
 use Rattle.walks.specs.Calls.{RmwIn, RmwIs, MissingIn, MissingIs}
 use Rattle.de.specs.declared.deserializer.ReadAnswer.{ReadAnswer}
-use Rattle.de.specs.Trace.{Trace}
+use Rattle.steps.specs.Trace.{Trace}
 use Rattle.de.specs.Read.{ReadIs}
 use Rattle.answers.specs.Values.{Gives, AppendedAs, ResolvedAs, FieldsAs, RmwAs, MissingAs, ReadAs}
 

@@ -1,10 +1,10 @@
-use Rattle.de.proofs.Puts.{leaf-at}
+use Rattle.de.proofs.Leaf.{leaf-at}
 use borrow.Author.Needs.{needs}
 use Rattle.de.proofs.deserializer.leaf.Statement.{statement}
 use Rattle.de.proofs.deserializer.leaf.Tie as tie
 use Rattle.de.proofs.deserializer.leaf.Reads as reads
 use Rattle.de.proofs.deserializer.leaf.Lts as lts
-use Rattle.de.proofs.step.put_leaf.Reads as put-leaf-reads
+use Rattle.steps.proofs.put_leaf.Reads as put-leaf-reads
 use Rattle.leaves.proofs.leaf.leaf_by.Reads as leaf-by-reads
 
 leaf-by-requires : tie.Need-leaf-by-requires

@@ -1,12 +1,12 @@
-use Rattle.de.proofs.Runs.{from-next, from-stop}
-use Rattle.de.proofs.Puts.{text-order, text-full, text-short, text-done}
+use Rattle.steps.proofs.Runs.{from-next, from-stop}
+use Rattle.steps.proofs.Puts.{text-order, text-full, text-short, text-done}
 use borrow.Author.Needs.{needs}
-use Rattle.de.proofs.step.put_text.Statement.{statement}
-use Rattle.de.proofs.step.put_text.Tie as tie
-use Rattle.de.proofs.step.put_text.Reads as reads
-use Rattle.de.proofs.step.put_text.Lts as lts
-use Rattle.de.proofs.step.decode.Reads as decode-reads
-use Rattle.de.proofs.step.text_record.Reads as text-record-reads
+use Rattle.steps.proofs.put_text.Statement.{statement}
+use Rattle.steps.proofs.put_text.Tie as tie
+use Rattle.steps.proofs.put_text.Reads as reads
+use Rattle.steps.proofs.put_text.Lts as lts
+use Rattle.steps.proofs.decode.Reads as decode-reads
+use Rattle.steps.proofs.text_record.Reads as text-record-reads
 
 ruleset done = (from-next, text-done)
 

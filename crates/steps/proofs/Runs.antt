@@ -10,9 +10,9 @@ use borrow.Author.Tests.{leb-true, leb-false, le-leb, lt-leb}
 use Rattle.utf_8.specs.Buffer.{splice, fitsIn, Wrote}
 use Rattle.utf_8.specs.declared.Put.the-variants as put
 use Rattle.utf_8.proofs.Splices.{splice-none, splice-long, splice-splice, went as put-went, stayed as put-stayed}
-use Rattle.de.specs.declared.step.Step.{Step}
-use Rattle.de.specs.declared.step.Step.the-variants.{Next, Stop}
-use Rattle.de.specs.Trace.{Event, rec, text, bytesOf, textBytes, tapeBytes, Trace, done, stop, eventsOf, endOf, refuse, one, _then_, fits, stepOf, Ran, From, Halts}
+use Rattle.steps.specs.declared.Step.{Step}
+use Rattle.steps.specs.declared.Step.the-variants.{Next, Stop}
+use Rattle.steps.specs.Trace.{Event, rec, text, bytesOf, textBytes, tapeBytes, Trace, done, stop, eventsOf, endOf, refuse, one, _then_, fits, stepOf, Ran, From, Halts}
 
 pub next-stop : {X : Type 0} {n m k b : ℕ} → Next n m ≡ Stop k b → X
 next-stop e = absurd (let z : _≡_ {A = ℕ} 0 1 = cc in omega arith)

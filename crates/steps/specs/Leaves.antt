@@ -10,7 +10,7 @@ use Rattle.utf_16.specs.Decode as utf16
 use Rattle.windows_1252.specs.Text as windows1252
 use Rattle.leaves.specs.declared.leaf.LeafValue.{LeafValue}
 use Rattle.leaves.specs.declared.leaf.LeafValue.the-variants as leaf
-use Rattle.de.specs.Trace.{Trace, rec, text, one, refuse}
+use Rattle.steps.specs.Trace.{Trace, rec, text, one, refuse}
 
 -- a text's bytes in UTF-8: a WSTRING's or a STRING's
 unfoldable pub decodedBy : Bool → List ℕ → List ℕ

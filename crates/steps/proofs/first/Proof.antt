@@ -1,9 +1,9 @@
-use Rattle.de.proofs.Puts.{first-part, first-all}
+use Rattle.steps.proofs.Puts.{first-part, first-all}
 use borrow.Author.Needs.{needs}
-use Rattle.de.proofs.step.first.Statement.{statement}
-use Rattle.de.proofs.step.first.Tie as tie
-use Rattle.de.proofs.step.first.Reads as reads
-use Rattle.de.proofs.step.first.Lts as lts
+use Rattle.steps.proofs.first.Statement.{statement}
+use Rattle.steps.proofs.first.Tie as tie
+use Rattle.steps.proofs.first.Reads as reads
+use Rattle.steps.proofs.first.Lts as lts
 
 sub-result : tie.Need-sub-result
 sub-result c = search needs

@@ -7,8 +7,8 @@ use Prim.Native.Nat.{ℕ, _+_}
 use lib.ListN.{length}
 use Rattle.utf_8.specs.Buffer.{splice, fitsIn}
 use Rattle.tape.specs.Record.{recordBytes}
-use Rattle.de.specs.declared.step.Step.{Step}
-use Rattle.de.specs.declared.step.Step.the-variants.{Next, Stop}
+use Rattle.steps.specs.declared.Step.{Step}
+use Rattle.steps.specs.declared.Step.the-variants.{Next, Stop}
 
 -- the 24 bytes of a record
 abbrev pub bytesOf : ℕ → ℕ → ℕ → ℕ → List ℕ

@@ -17,16 +17,11 @@ use Rattle.leaves.specs.declared.leaf.LeafValue.{LeafValue}
 use Rattle.leaves.specs.declared.leaf.LeafValue.the-variants as leaf
 use Rattle.number.specs.Float.{realBits}
 use Rattle.number.specs.declared.float.Real.the-variants as real
-use Rattle.de.specs.declared.step.Step.{Step}
-use Rattle.de.specs.declared.step.Step.the-variants.{Next, Stop}
-use Rattle.de.specs.Trace.{Event, rec, text, bytesOf, textBytes, tapeBytes, Trace, eventsOf, endOf, one, fits, stepOf, Ran, From, Halts}
-use Rattle.de.specs.Leaves.{decodedBy, traceOf}
-use Rattle.type_category.specs.Category.{categoryOf}
-use Rattle.type_category.specs.declared.type_category.AdsTypeCategory.{AdsTypeCategory}
-use Rattle.leaves.specs.Leaf.{leafBy, kindOfLeaf}
-use Rattle.leaves.proofs.Leaves.{leaf-own}
-use Rattle.de.specs.Walk.{Ctx, leafOf}
-use Rattle.de.proofs.Runs.{next-stop, from-next, halted}
+use Rattle.steps.specs.declared.Step.{Step}
+use Rattle.steps.specs.declared.Step.the-variants.{Next, Stop}
+use Rattle.steps.specs.Trace.{Event, rec, text, bytesOf, textBytes, tapeBytes, Trace, eventsOf, endOf, one, fits, stepOf, Ran, From, Halts}
+use Rattle.steps.specs.Leaves.{decodedBy, traceOf}
+use Rattle.steps.proofs.Runs.{next-stop, from-next, halted}
 
 not-fits : (b : Bool) (xs out : List ℕ) (at : ℕ) → fitsIn xs at (length out) ≡ b → put.Full ≡ cond b (put.Next (at + length xs)) put.Full → b ≡ false
 not-fits true xs out at e a = next-full (sym a)
@@ -124,11 +119,6 @@ leaf-double mem x n e q h = rw (e, ← q) h
 
 pub leaf-refused : (mem : List ℕ) {tape tape′ txt txt′ : List ℕ} {s r : Step} {v : LeafValue} (k : ℕ) → v ≡ leaf.Refused k → Halts s k 0 r → From (traceOf v mem) tape txt s r tape′ txt′
 leaf-refused mem k e h = rw e (halted h)
-
--- the leaf of a type
-pub leaf-at : (c : Ctx) (t : ℕ) (mem : List ℕ) {tape tape′ txt txt′ : List ℕ} {s r : Step} (v : LeafValue) (y : AdsTypeCategory) → y ≡ categoryOf (c .book) (c .width) t → v ≡ leafBy (c .book) (c .width) t mem (kindOfLeaf y) → From (traceOf v mem) tape txt s r tape′ txt′ → From (leafOf c t mem) tape txt s r tape′ txt′
-unfolding leafOf
-leaf-at c t mem v y k e h = rw (← leaf-own (c .book) (c .width) t mem y v k e) h
 
 -- ---- after a step
 

@@ -4,8 +4,8 @@ ghost use mathlib.Core.Bool.{cond};
 ghost use Prim.Native.Nat.{_-_, _≤_};
 ghost use lib.ListN.{take};
 ghost use Rattle.utf_8.specs.Buffer.{Wrote};
-ghost use Rattle.de.specs.Leaves.{decodedBy, traceOf};
-ghost use Rattle.de.specs.Trace.{From, Halts, one, rec, text as textEvent, bytesOf};
+ghost use Rattle.steps.specs.Leaves.{decodedBy, traceOf};
+ghost use Rattle.steps.specs.Trace.{From, Halts, one, rec, text as textEvent, bytesOf};
 use leaves::leaf::LeafValue;
 use number::float::Real;
 use tape::record::Record;
@@ -19,7 +19,7 @@ pub enum Step {
 }
 
 // A refusal, after a step: an earlier one is handed on.
-pub(crate) fn stop(s: Step, n: u8, b: u32) -> Step
+pub fn stop(s: Step, n: u8, b: u32) -> Step
     ensures { λ r. ⌜ Halts s n b r ⌝ }
 {
     match s {
@@ -29,15 +29,7 @@ pub(crate) fn stop(s: Step, n: u8, b: u32) -> Step
 }
 
 // Writes a record, after a step: a refusal is handed on.
-pub(crate) fn put(
-    s: Step,
-    tape: &mut [u8],
-    text: &mut [u8],
-    kind: u8,
-    width: u8,
-    a: u64,
-    b: u64,
-) -> Step
+pub fn put(s: Step, tape: &mut [u8], text: &mut [u8], kind: u8, width: u8, a: u64, b: u64) -> Step
     ensures { λ r. ⌜ From (one (rec kind width a b)) (now (tape .entry)) (now (text .entry)) s r (now (tape .exit)) (now (text .exit)) ⌝ }
 {
     match s {
@@ -63,7 +55,7 @@ fn decode(wide: bool, bytes: &[u8], text: &mut [u8], at: usize) -> Put
 }
 
 // Writes a text and its record, after a step: a refusal is handed on.
-pub(crate) fn put_text(s: Step, wide: bool, bytes: &[u8], tape: &mut [u8], text: &mut [u8]) -> Step
+pub fn put_text(s: Step, wide: bool, bytes: &[u8], tape: &mut [u8], text: &mut [u8]) -> Step
     ensures { λ r. ⌜ From (one (textEvent (decodedBy wide (now (bytes .entry))))) (now (tape .entry)) (now (text .entry)) s r (now (tape .exit)) (now (text .exit)) ⌝ }
 {
     match s {
@@ -121,13 +113,7 @@ fn bit(b: bool) -> u64
 }
 
 // Writes what a leaf's bytes stand for, after a step.
-pub(crate) fn put_leaf(
-    s: Step,
-    value: LeafValue,
-    bytes: &[u8],
-    tape: &mut [u8],
-    text: &mut [u8],
-) -> Step
+pub fn put_leaf(s: Step, value: LeafValue, bytes: &[u8], tape: &mut [u8], text: &mut [u8]) -> Step
     ensures { λ r. ⌜ From (traceOf value (now (bytes .entry))) (now (tape .entry)) (now (text .entry)) s r (now (tape .exit)) (now (text .exit)) ⌝ }
 {
     match value {

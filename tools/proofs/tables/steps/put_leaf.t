@@ -1,4 +1,4 @@
-use Rattle.de.proofs.Puts.{leaf-known, leaf-bool, leaf-text, leaf-wide, leaf-single, leaf-double, leaf-refused}
+use Rattle.steps.proofs.Puts.{leaf-known, leaf-bool, leaf-text, leaf-wide, leaf-single, leaf-double, leaf-refused}
 ruleset leaves = (leaf-bool, leaf-text, leaf-wide, leaf-single, leaf-double, leaf-refused)
 returns-(3) => search leaf-bool
 returns-(4) => search leaf-single

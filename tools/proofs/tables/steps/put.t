@@ -1,5 +1,5 @@
-use Rattle.de.proofs.Runs.{from-next, from-stop}
-use Rattle.de.proofs.Puts.{record-full, record-done}
+use Rattle.steps.proofs.Runs.{from-next, from-stop}
+use Rattle.steps.proofs.Puts.{record-full, record-done}
 ruleset done = (from-next, record-done)
 ruleset full = (from-next, record-full)
 returns => search done

@@ -1,14 +1,14 @@
-use Rattle.de.proofs.Puts.{leaf-known, leaf-bool, leaf-text, leaf-wide, leaf-single, leaf-double, leaf-refused}
+use Rattle.steps.proofs.Puts.{leaf-known, leaf-bool, leaf-text, leaf-wide, leaf-single, leaf-double, leaf-refused}
 use borrow.Author.Needs.{needs}
-use Rattle.de.proofs.step.put_leaf.Statement.{statement}
-use Rattle.de.proofs.step.put_leaf.Tie as tie
-use Rattle.de.proofs.step.put_leaf.Reads as reads
-use Rattle.de.proofs.step.put_leaf.Lts as lts
-use Rattle.de.proofs.step.bit.Reads as bit-reads
-use Rattle.de.proofs.step.first.Reads as first-reads
-use Rattle.de.proofs.step.put.Reads as put-reads
-use Rattle.de.proofs.step.put_text.Reads as put-text-reads
-use Rattle.de.proofs.step.stop.Reads as stop-reads
+use Rattle.steps.proofs.put_leaf.Statement.{statement}
+use Rattle.steps.proofs.put_leaf.Tie as tie
+use Rattle.steps.proofs.put_leaf.Reads as reads
+use Rattle.steps.proofs.put_leaf.Lts as lts
+use Rattle.steps.proofs.bit.Reads as bit-reads
+use Rattle.steps.proofs.first.Reads as first-reads
+use Rattle.steps.proofs.put.Reads as put-reads
+use Rattle.steps.proofs.put_text.Reads as put-text-reads
+use Rattle.steps.proofs.stop.Reads as stop-reads
 use Rattle.number.proofs.float.Real.bits.Reads as bits-reads
 
 ruleset leaves = (leaf-bool, leaf-text, leaf-wide, leaf-single, leaf-double, leaf-refused)

@@ -1,5 +1,5 @@
-use Rattle.de.proofs.Runs.{from-next, from-stop}
-use Rattle.de.proofs.Puts.{text-order, text-full, text-short, text-done}
+use Rattle.steps.proofs.Runs.{from-next, from-stop}
+use Rattle.steps.proofs.Puts.{text-order, text-full, text-short, text-done}
 ruleset done = (from-next, text-done)
 ruleset short = (from-next, text-short)
 ruleset full = (from-next, text-full)

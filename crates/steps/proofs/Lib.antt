@@ -1,0 +1,3 @@
+-- Laws that the functions' proofs cite; those on runs of traces are for the reader too.
+pub mod Runs
+mod Puts
