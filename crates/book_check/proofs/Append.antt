@@ -10,10 +10,10 @@ use lib.ListN.{length, take, length-append}
 use lib.Seq.{drop-append-add, take-length}
 use lib.Dec.{eqb, ltb}
 use Rattle.typebook.specs.Book.{blocks, blockOf, isType, fieldsOf, entriesOf, nameOf, isNamed}
-use Rattle.typebook.specs.Find.{find}
-use Rattle.typebook.specs.declared.type_provider.Found.the-variants.{Nothing}
+use Rattle.type_provider.specs.Find.{find}
+use Rattle.type_provider.specs.declared.Found.the-variants.{Nothing}
 use Rattle.typebook.proofs.Blocks.{block-append, same-byte, same-u32, same-counted}
-use Rattle.typebook.proofs.Finds.{same-named, find-nothing, searched-all}
+use Rattle.type_provider.proofs.Finds.{same-named, find-nothing, searched-all}
 use Rattle.block_form.specs.Form.{sumRight, typeForm, fieldForm, entryForm}
 use Rattle.doubles.specs.Doubles.{allFrom, isOther, isFirst}
 use Rattle.book_check.specs.Check.{sumAt, placeOf, onward, placedFrom, placed, ValidBook}

@@ -10,10 +10,10 @@ use lib.ListN.{length, getD, take, drop, length-take, List·getD-eq-default}
 use lib.Seq.{length-take-le, take-length, take-take, getD-take, getD-drop}
 use lib.Dec.{eqb, leb, ltb}
 use Rattle.typebook.specs.Book.{blocks, blockOf, byteAt, kindOf, isType, dimensionsOf, fieldsOf, entriesOf, nameOf, isNamed}
-use Rattle.typebook.specs.Find.{find, TypeBlock, UniqueNames}
-use Rattle.typebook.specs.declared.type_provider.Found.the-variants.{At}
+use Rattle.type_provider.specs.Find.{find, TypeBlock, UniqueNames}
+use Rattle.type_provider.specs.declared.Found.the-variants.{At}
 use Rattle.typebook.proofs.Blocks.{byte-of-block, part-of-block}
-use Rattle.typebook.proofs.Finds.{named-own, find-is, searched-all}
+use Rattle.type_provider.proofs.Finds.{named-own, find-is, searched-all}
 use Rattle.block_form.specs.Form.{every, isZero, isPrintable, part, unusedZero, nameForm, namesForm, typeForm, fieldForm, entryForm}
 use Rattle.doubles.specs.Doubles.{allFrom, isOther, isFirst}
 use Rattle.book_check.specs.Check.{sizeRight, placeOf, onward, placedFrom, checkBook, ValidBook, rootOf, checkRoot, bookRefusal}

@@ -3,7 +3,7 @@ use mathlib.Core.Path.{_≡_, refl, ap, _∙_}
 use mathlib.Core.List.{List, map, map-append, _++_, flatMap}
 use Prim.Native.Nat.{ℕ}
 use Rattle.number.specs.Le as number-le
-use Rattle.number.specs.Integer as number-integer
+use Rattle.integer.specs.Integer as number-integer
 use Rattle.utf_8.specs.Utf8 as utf-8-utf8
 use Rattle.utf_16.specs.Decode as utf-16-decode
 use Rattle.utf_16.specs.WString as utf-16-wstring
@@ -12,9 +12,9 @@ use Rattle.windows_1252.specs.Index as windows-1252-index
 use Rattle.typebook.specs.Book as typebook-book
 use Rattle.type_category.specs.Category as type-category-category
 use Rattle.type_category.specs.Text as type-category-text
-use Rattle.number.specs.TypeId as number-typeid
+use Rattle.type_id.specs.TypeId as number-typeid
 use Rattle.cases.specs.Blocks.{block, sumOf}
-use Rattle.typebook.specs.Find as typebook-find
+use Rattle.type_provider.specs.Find as typebook-find
 use Rattle.resolvers.specs.Resolve as resolvers-resolve
 use Rattle.visits.specs.Parts as visits-parts
 use Rattle.walks.specs.Walk as walks-walk

@@ -3,8 +3,8 @@ use mathlib.Core.List.{List, [], _∷_, _++_}
 use Prim.Native.Nat.{ℕ, zero, suc, _+_}
 use lib.ListN.{length, take}
 use lib.IntN.{ℤ, pos, negsuc}
-use Rattle.number.specs.Integer.{bytesValue}
-use Rattle.number.specs.declared.type_id.AdsTypeId.the-variants.{Int8, Int16}
+use Rattle.integer.specs.Integer.{bytesValue}
+use Rattle.type_id.specs.declared.AdsTypeId.the-variants.{Int8, Int16}
 use Rattle.utf_8.specs.Buffer.{roomFor}
 use Rattle.utf_8.specs.declared.Room.{Room}
 use Rattle.utf_8.specs.declared.Room.the-variants.{Fits, Over}
@@ -14,7 +14,7 @@ use Rattle.utf_16.specs.Decode as utf16
 use Rattle.utf_16.specs.WString.{wstringEnd}
 use Rattle.windows_1252.specs.Text as windows1252
 use Rattle.type_category.specs.Category.{categoryOf}
-use Rattle.type_category.specs.Validate.{placeOf}
+use Rattle.validators.specs.Validate.{placeOf}
 use Rattle.type_category.specs.declared.type_category.AdsTypeCategory.the-variants as category
 use Rattle.resolvers.specs.Resolve.{resolveAlias}
 use Rattle.resolvers.specs.declared.Resolved.{Resolved}

@@ -4,7 +4,7 @@ ghost use Rattle.book_check.specs.Check.{bookRefusal};
 ghost use Rattle.codes.specs.Numbers.{placeNumber, foundNumber, truthNumber, categoryNumber};
 use book_check::BookCheck;
 use type_category::type_category::AdsTypeCategory;
-use typebook::type_provider::Found;
+use type_provider::Found;
 use utf_8::Put;
 
 // The place after the written bytes, or 2^64 - 1 where they do not fit.

@@ -193,7 +193,7 @@ pub fn read(
         RootCheck::Root(n) => {
             let book = &buffer[0..len];
             let mut index = [0u32; 16384];
-            typebook::type_provider::fill_index(book, &mut index);
+            type_provider::fill_index(book, &mut index);
             read_in(book, &index, width, n, memory, tape, text)
         }
         RootCheck::Refused(k) => finish(Step::Stop(k, 0), tape, text),

@@ -14,7 +14,7 @@ use lib.Bits.{bitOr, or-shr, or-mod}
 use lib.Pow.{pow-pos, pow-lt}
 use lib.Dec.{eqb}
 use Rattle.typebook.specs.Book.{isType, nameOf, isNamed}
-use Rattle.typebook.proofs.Finds.{named-kind, named-name}
+use Rattle.type_provider.proofs.Finds.{named-kind, named-name}
 use Rattle.doubles.specs.Doubles.{allFrom, isOther, isFirst}
 use Rattle.doubles.specs.Marks.{mixed, hashOf, bitOf, BitSet, isMarked, Marked, MarkedTo, FirstIs}
 use Rattle.block_form.proofs.Bytes.{and-left, and-right}

@@ -64,7 +64,7 @@ fn is_new(book: &[u8], name: &[u8], n: u32) -> bool
 {
     let mut i: u32 = 0;
     while i < n {
-        if typebook::type_provider::is_named(book, name, i) {
+        if type_provider::is_named(book, name, i) {
             return false;
         }
         i += 1;

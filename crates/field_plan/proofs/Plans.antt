@@ -11,13 +11,13 @@ use borrow.Author.Tests.{eqb-true, eqb-false, ne-eqb, leb-true, leb-false}
 use mir.Syntax.{w32}
 use mir.Val.{Fits}
 use Rattle.typebook.specs.Book.{isType, offsetOf, sizeOf, fieldsOf, typeNameOf}
-use Rattle.typebook.specs.Find.{find, FoundBy}
-use Rattle.typebook.specs.declared.type_provider.Found.{Found}
-use Rattle.typebook.specs.declared.type_provider.Found.the-variants.{At, Nothing}
+use Rattle.type_provider.specs.Find.{find, FoundBy}
+use Rattle.type_provider.specs.declared.Found.{Found}
+use Rattle.type_provider.specs.declared.Found.the-variants.{At, Nothing}
 use Rattle.type_category.specs.declared.type_category.AdsTypeCategory.{AdsTypeCategory}
 use Rattle.type_category.specs.declared.type_category.AdsTypeCategory.the-variants.{None, Primitive, Alias, Enum, Array, Struct, FunctionBlock, Program, Function, SubRange, String, Bitset, Pointer, Union, Reference, Interface}
 use Rattle.type_category.specs.Category.{categoryOf}
-use Rattle.type_category.specs.Validate.{placeOf}
+use Rattle.validators.specs.Validate.{placeOf}
 use Rattle.book_check.specs.Check.{ValidBook}
 use Rattle.book_check.proofs.Valid.{valid-size, valid-type}
 use Rattle.resolvers.specs.Resolve.{goesOn, isFollowed, resolveAlias, ResolvedIs}

@@ -9,7 +9,7 @@ use Rattle.typebook.specs.Book.{isType, fieldsOf}
 use Rattle.type_category.specs.declared.type_category.AdsTypeCategory.{AdsTypeCategory}
 use Rattle.type_category.specs.declared.type_category.AdsTypeCategory.the-variants.{None, Primitive, Alias, Enum, Array, Struct, FunctionBlock, Program, Function, SubRange, String, Bitset, Pointer, Union, Reference, Interface}
 use Rattle.type_category.specs.Category.{categoryOf}
-use Rattle.type_category.specs.Validate.{placeOf}
+use Rattle.validators.specs.Validate.{placeOf}
 use Rattle.field_types.specs.Fields.{resolveField, fieldsCheck}
 use Rattle.field_types.specs.declared.ResolvedField.{ResolvedField}
 use Rattle.field_types.specs.declared.FieldAnswer.the-variants as answer

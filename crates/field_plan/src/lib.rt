@@ -5,16 +5,15 @@ ghost use mathlib.Core.Bool.{true};
 ghost use Prim.Native.Nat.{_<_};
 ghost use lib.ListN.{getD, set};
 ghost use Rattle.typebook.specs.Book.{isType, typeNameOf};
-ghost use Rattle.typebook.specs.Find.{find};
-ghost use Rattle.type_category.specs.Validate.{placeOf};
+ghost use Rattle.type_provider.specs.Find.{find};
+ghost use Rattle.validators.specs.Validate.{placeOf};
 ghost use Rattle.book_check.specs.Check.{ValidBook};
 ghost use Rattle.field_plan.specs.Plan.{categoryAt, entryOf, PlanEntry, PlannedIs, PlanIs};
 use field_types::FieldsCheck;
 use resolvers::Resolved;
 use type_category::type_category::AdsTypeCategory;
+use type_provider::Found;
 use typebook::block;
-use typebook::type_provider;
-use typebook::type_provider::Found;
 
 // A field whose type is resolved: offset and size as its block says, its type's block with aliases resolved, that type's category.
 pub struct PlannedField {

@@ -3,10 +3,10 @@ use mathlib.Core.Path.{_≡_}
 use mathlib.Core.Bool.{true}
 use mathlib.Core.List.{List}
 use Prim.Native.Nat.{ℕ, zero, suc, _+_}
-use Rattle.typebook.specs.declared.type_provider.Found.{Found}
-use Rattle.typebook.specs.declared.type_provider.Found.the-variants.{At, Nothing}
+use Rattle.type_provider.specs.declared.Found.{Found}
+use Rattle.type_provider.specs.declared.Found.the-variants.{At, Nothing}
 use Rattle.typebook.specs.Book.{isType, offsetOf, sizeOf, fieldsOf, typeNameOf}
-use Rattle.typebook.specs.Find.{find}
+use Rattle.type_provider.specs.Find.{find}
 use Rattle.resolvers.specs.declared.Resolved.{Resolved}
 use Rattle.resolvers.specs.declared.Resolved.the-variants.{Base, Lacks, Endless}
 use Rattle.resolvers.specs.Resolve.{resolveAlias}

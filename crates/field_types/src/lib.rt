@@ -11,9 +11,8 @@ ghost use Rattle.field_types.specs.Fields.{fieldsFrom, fieldsCheck, Fiel
 ghost use Rattle.field_types.specs.Calls.{fits, recordOf, fieldRecords, fieldsAnswer, Filled, rootFields, rootRecords};
 use book_check::RootCheck;
 use resolvers::Resolved;
+use type_provider::Found;
 use typebook::block;
-use typebook::type_provider;
-use typebook::type_provider::Found;
 
 // The numbers of a field's record.
 const RECORD: usize = 4;

@@ -5,8 +5,8 @@ use mathlib.Core.List.{List}
 use Prim.Native.Nat.{ℕ, _+_}
 use lib.ListN.{length}
 use Rattle.utf_8.specs.Buffer.{splice, fitsIn}
-use Rattle.typebook.specs.Find.{FoundBy}
-use Rattle.typebook.specs.declared.type_provider.Found.{Found}
+use Rattle.type_provider.specs.Find.{FoundBy}
+use Rattle.type_provider.specs.declared.Found.{Found}
 use Rattle.codes.specs.Numbers.{foundNumber}
 
 -- `xs` written into `out` from `at` on, or the buffer as it was where it does not fit

@@ -2,7 +2,7 @@
 ghost use mathlib.Core.Path.{_≡_};
 ghost use Prim.Native.Nat.{_+_, _<_};
 ghost use Rattle.leaves.specs.Leaf.{entryFrom};
-use typebook::type_provider::Found;
+use type_provider::Found;
 
 // The first of the k entry blocks from block n on whose value is these bytes, length and all.
 pub(crate) fn find_entry(book: &[u8], bytes: &[u8], n: u32, k: u32) -> Found

@@ -4,15 +4,15 @@ ghost use Prim.Native.Nat.{_+_, _<_};
 ghost use Rattle.typebook.specs.Book.{fieldsOf, entriesOf};
 ghost use Rattle.leaves.specs.Leaf.{kindOfLeaf, boolLeaf, realLeaf, integerLeaf, numberLeaf, pointerLeaf, textLeaf, unlisted, enumLeaf, leafBy, leafAt};
 use crate::enum_access::find_entry;
-use number::float::Real;
-use number::float::RealRead;
-use number::float::real_from_le_slice;
-use number::integer::Integer;
-use number::integer::IntegerRead;
-use number::integer::try_from_le_slice;
-use number::type_id::AdsTypeId;
+use float::Real;
+use float::RealRead;
+use float::real_from_le_slice;
+use integer::Integer;
+use integer::IntegerRead;
+use integer::try_from_le_slice;
 use type_category::type_category::AdsTypeCategory;
-use typebook::type_provider::Found;
+use type_id::AdsTypeId;
+use type_provider::Found;
 use utf_8::TextEnd;
 
 // A real has cases of its own; a NaN's keeps its bits.

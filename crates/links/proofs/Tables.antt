@@ -8,12 +8,12 @@ use lib.ListN.{length, getD, set, List·getD-eq-default}
 use lib.Seq.{getD-set-same, getD-set-other}
 use lib.Dec.{eqb, ltb}
 use borrow.Author.Tests.{eqb-true, eqb-false, ltb-true, ltb-false}
-use Rattle.typebook.specs.declared.type_provider.Found.{Found}
-use Rattle.typebook.specs.declared.type_provider.Found.the-variants.{At}
+use Rattle.type_provider.specs.declared.Found.{Found}
+use Rattle.type_provider.specs.declared.Found.the-variants.{At}
 use Rattle.typebook.specs.Book.{blocks, typeNameOf}
-use Rattle.typebook.specs.Find.{find, FoundBy}
-use Rattle.typebook.specs.Probe.{LookedUp}
-use Rattle.typebook.proofs.Finds.{unique-find}
+use Rattle.type_provider.specs.Find.{find, FoundBy}
+use Rattle.type_provider.specs.Probe.{LookedUp}
+use Rattle.type_provider.proofs.Finds.{unique-find}
 use Rattle.book_check.specs.Check.{ValidBook}
 use Rattle.book_check.proofs.Valid.{valid-unique}
 use Rattle.links.specs.Links.{LinkOf, LinksOf, LinksMade}

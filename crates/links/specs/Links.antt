@@ -4,8 +4,8 @@ use mathlib.Core.List.{List}
 use Prim.Native.Nat.{ℕ, _+_}
 use lib.ListN.{length, getD}
 use Rattle.typebook.specs.Book.{typeNameOf}
-use Rattle.typebook.specs.Find.{find}
-use Rattle.typebook.specs.declared.type_provider.Found.the-variants.{At}
+use Rattle.type_provider.specs.Find.{find}
+use Rattle.type_provider.specs.declared.Found.the-variants.{At}
 
 -- a link of block b is 0, which says nothing, or one more than the number of the type block that its type name finds
 pub record LinkOf (book : List ℕ) (b link : ℕ) : Type 0 where

@@ -3,12 +3,11 @@
 ghost use mathlib.Core.Path.{_≡_};
 ghost use lib.ListN.{getD};
 ghost use Rattle.typebook.specs.Book.{typeNameOf};
-ghost use Rattle.typebook.specs.Find.{find};
+ghost use Rattle.type_provider.specs.Find.{find};
 ghost use Rattle.book_check.specs.Check.{ValidBook};
 ghost use Rattle.links.specs.Links.{LinkOf, LinksOf, LinksMade};
+use type_provider::Found;
 use typebook::block;
-use typebook::type_provider;
-use typebook::type_provider::Found;
 
 // A valid book has no more blocks.
 const MAX_BLOCKS: usize = 65536;

@@ -1,4 +1,1 @@
 pub mod Le
-pub mod TypeId
-pub mod Integer
-pub mod Float

@@ -1,5 +1,2 @@
-// Numbers in memory: byte order, type ids, integers and reals.
-pub mod float;
-pub mod integer;
+// Numbers in memory: their byte order.
 pub mod le;
-pub mod type_id;

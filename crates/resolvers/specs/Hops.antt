@@ -3,9 +3,9 @@ use mathlib.Core.Path.{_≡_}
 use mathlib.Core.Bool.{Bool, true}
 use mathlib.Core.List.{List}
 use Prim.Native.Nat.{ℕ, suc}
-use Rattle.typebook.specs.declared.type_provider.Found.the-variants.{At}
+use Rattle.type_provider.specs.declared.Found.the-variants.{At}
 use Rattle.typebook.specs.Book.{typeNameOf}
-use Rattle.typebook.specs.Find.{find}
+use Rattle.type_provider.specs.Find.{find}
 
 -- k hops lead from block t to block u: each goes on from a block, by its type name, to the block that it finds
 pub data Hops (goes : ℕ → Bool) (book : List ℕ) : ℕ → ℕ → ℕ → Type 0 where

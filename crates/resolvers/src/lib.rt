@@ -8,9 +8,8 @@ ghost use Rattle.resolvers.specs.Resolve.{goesOn, isFollowed, resolveTyp
 ghost use Rattle.resolvers.specs.Calls.{resolution, rootAlias, rootIndirection};
 use book_check::RootCheck;
 use type_category::type_category::AdsTypeCategory;
+use type_provider::Found;
 use typebook::block;
-use typebook::type_provider;
-use typebook::type_provider::Found;
 
 // The maximum number of look-ups on a chain of aliases, or of aliases and references (the Rust's MAX_INDIRECTION_DEPTH is the same
 // number). A cycle in the book ends there.

@@ -15,8 +15,8 @@ use Rattle.utf_8.specs.declared.Put.the-variants as put
 use Rattle.utf_8.proofs.Splices.{splice-none, next-full, Went, went}
 use Rattle.leaves.specs.declared.leaf.LeafValue.{LeafValue}
 use Rattle.leaves.specs.declared.leaf.LeafValue.the-variants as leaf
-use Rattle.number.specs.Float.{realBits}
-use Rattle.number.specs.declared.float.Real.the-variants as real
+use Rattle.float.specs.Float.{realBits}
+use Rattle.float.specs.declared.Real.the-variants as real
 use Rattle.steps.specs.declared.Step.{Step}
 use Rattle.steps.specs.declared.Step.the-variants.{Next, Stop}
 use Rattle.steps.specs.Trace.{Event, rec, text, bytesOf, textBytes, tapeBytes, Trace, eventsOf, endOf, one, fits, stepOf, Ran, From, Halts}

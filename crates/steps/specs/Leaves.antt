@@ -4,8 +4,8 @@ use mathlib.Core.List.{List}
 use Prim.Native.Nat.{ℕ}
 use lib.ListN.{take}
 use lib.Ieee.{Float}
-use Rattle.number.specs.Float.{realBits}
-use Rattle.number.specs.declared.float.Real.the-variants as real
+use Rattle.float.specs.Float.{realBits}
+use Rattle.float.specs.declared.Real.the-variants as real
 use Rattle.utf_16.specs.Decode as utf16
 use Rattle.windows_1252.specs.Text as windows1252
 use Rattle.leaves.specs.declared.leaf.LeafValue.{LeafValue}

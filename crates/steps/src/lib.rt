@@ -6,8 +6,8 @@ ghost use lib.ListN.{take};
 ghost use Rattle.utf_8.specs.Buffer.{Wrote};
 ghost use Rattle.steps.specs.Leaves.{decodedBy, traceOf};
 ghost use Rattle.steps.specs.Trace.{From, Halts, one, rec, text as textEvent, bytesOf};
+use float::Real;
 use leaves::leaf::LeafValue;
-use number::float::Real;
 use tape::record::Record;
 use utf_8::Put;
 

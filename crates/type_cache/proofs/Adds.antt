@@ -8,8 +8,8 @@ use borrow.Author.Tests.{eq-eqb, eqb-true}
 use lib.ListN.{length, take}
 use lib.Seq.{length-take-le, take-length, take-paste, length-paste}
 use Rattle.typebook.specs.Book.{blocks, blockOf, kindOf, isType, fieldsOf, entriesOf, nameOf}
-use Rattle.typebook.specs.Find.{find}
-use Rattle.typebook.specs.declared.type_provider.Found.the-variants.{At, Nothing}
+use Rattle.type_provider.specs.Find.{find}
+use Rattle.type_provider.specs.declared.Found.the-variants.{At, Nothing}
 use Rattle.typebook.proofs.Blocks.{same-byte}
 use Rattle.doubles.specs.Doubles.{allFrom, isFirst}
 use Rattle.book_check.specs.Check.{sumAt, placedFrom, checkBook, ValidBook}

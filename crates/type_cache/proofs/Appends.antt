@@ -10,9 +10,9 @@ use lib.ListN.{length, getD, take, set}
 use lib.Seq.{length-take-le, take-length, paste, paste-zero, paste-suc}
 use lib.Dec.{eqb, leb}
 use Rattle.typebook.specs.Book.{blocks, fieldsOf, entriesOf, nameOf}
-use Rattle.typebook.specs.Find.{find}
-use Rattle.typebook.specs.declared.type_provider.Found.{Found}
-use Rattle.typebook.specs.declared.type_provider.Found.the-variants.{At, Nothing}
+use Rattle.type_provider.specs.Find.{find}
+use Rattle.type_provider.specs.declared.Found.{Found}
+use Rattle.type_provider.specs.declared.Found.the-variants.{At, Nothing}
 use Rattle.book_check.specs.Check.{checkBook, bookRefusal}
 use Rattle.book_check.specs.declared.BookCheck.{BookCheck}
 use Rattle.book_check.specs.declared.BookCheck.the-variants.{Valid, Size, Sum, Form, Doubled}

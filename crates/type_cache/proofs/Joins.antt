@@ -9,10 +9,10 @@ use lib.ListN.{length}
 use lib.Seq.{drop-append-add}
 use lib.Dec.{ltb}
 use Rattle.typebook.specs.Book.{blocks, blockOf, kindOf, isType, fieldsOf, entriesOf, nameOf, isNamed}
-use Rattle.typebook.specs.Find.{searched, find}
-use Rattle.typebook.specs.declared.type_provider.Found.the-variants.{At, Nothing}
+use Rattle.type_provider.specs.Find.{searched, find}
+use Rattle.type_provider.specs.declared.Found.the-variants.{At, Nothing}
 use Rattle.typebook.proofs.Blocks.{same-byte, block-append}
-use Rattle.typebook.proofs.Finds.{same-named, named-own, named-name, named-kind, find-nothing, find-is, find-lacks, find-append}
+use Rattle.type_provider.proofs.Finds.{same-named, named-own, named-name, named-kind, find-nothing, find-is, find-lacks, find-append}
 use Rattle.book_check.specs.Check.{ValidBook}
 use Rattle.book_check.proofs.Valid.{Definition, valid-size, valid-type, valid-names, valid-below, valid-passes, type-is}
 use Rattle.book_check.proofs.Append.{append-blocks, valid-append}

@@ -7,10 +7,10 @@ ghost use Rattle.book_check.specs.Check.{bookRefusal};
 ghost use Rattle.type_cache.specs.Append.{isOneType, additionRefusal, isKnown, hasRoom, appendRefusal, CopyIs, AppendIs};
 use book_check::BookCheck;
 use book_check::check_book;
+use type_provider::Found;
+use type_provider::find;
 use typebook::block;
 use typebook::block::BLOCK;
-use typebook::type_provider::Found;
-use typebook::type_provider::find;
 
 // The book's new length, or document 01's number of the refusal.
 pub enum Appended {

@@ -7,9 +7,9 @@ use native.Mathlib.Omega.{arith}
 use lib.ListN.{length}
 use lib.Dec.{eqb, ltb}
 use borrow.Author.Tests.{ltb-true, ltb-false, not-true}
-use Rattle.number.specs.declared.type_id.AdsTypeId.{AdsTypeId}
-use Rattle.number.specs.declared.type_id.AdsTypeId.the-variants as id
-use Rattle.number.specs.TypeId.{idOf}
+use Rattle.type_id.specs.declared.AdsTypeId.{AdsTypeId}
+use Rattle.type_id.specs.declared.AdsTypeId.the-variants as id
+use Rattle.type_id.specs.TypeId.{idOf}
 use Rattle.typebook.specs.Book.{blockOf, byteAt, flagOf, dimensionsOf, typeIdOf, offsetOf, sizeOf, fieldsOf, nameOf, typeNameOf, sameName}
 use Rattle.typebook.proofs.Blocks.{same-byte, same-u32, same-counted}
 use Rattle.type_category.specs.declared.type_category.AdsTypeCategory.{AdsTypeCategory}

@@ -7,8 +7,8 @@ use native.Mathlib.Omega.{arith}
 use lib.ListN.{length}
 use lib.Dec.{eqb, ltb}
 use borrow.Author.Tests.{eq-eqb, ne-eqb, lt-ltb, le-ltb}
-use Rattle.number.specs.declared.type_id.AdsTypeId.{AdsTypeId}
-use Rattle.number.specs.TypeId.{idOf}
+use Rattle.type_id.specs.declared.AdsTypeId.{AdsTypeId}
+use Rattle.type_id.specs.TypeId.{idOf}
 use Rattle.typebook.specs.Book.{u32At, flagOf, dimensionsOf, typeIdOf, offsetOf, sizeOf, fieldsOf, nameOf, typeNameOf, sameName}
 use Rattle.type_category.specs.declared.type_category.AdsTypeCategory.{AdsTypeCategory}
 use Rattle.type_category.specs.declared.type_category.AdsTypeCategory.the-variants.{None, Primitive, Alias, Enum, Array, Struct, FunctionBlock, SubRange, Pointer, Union, Reference, Interface}

@@ -5,9 +5,9 @@ use mathlib.Core.List.{List, [], _∷_}
 use Prim.Native.Nat.{ℕ, _+_, _%_}
 use lib.ListN.{length}
 use lib.Dec.{eqb, ltb}
-use Rattle.number.specs.declared.type_id.AdsTypeId.{AdsTypeId}
-use Rattle.number.specs.declared.type_id.AdsTypeId.the-variants as id
-use Rattle.number.specs.TypeId.{idOf}
+use Rattle.type_id.specs.declared.AdsTypeId.{AdsTypeId}
+use Rattle.type_id.specs.declared.AdsTypeId.the-variants as id
+use Rattle.type_id.specs.TypeId.{idOf}
 use Rattle.typebook.specs.Book.{flagOf, dimensionsOf, typeIdOf, offsetOf, sizeOf, fieldsOf, nameOf, typeNameOf, sameName}
 use Rattle.type_category.specs.declared.type_category.AdsTypeCategory.{AdsTypeCategory}
 use Rattle.type_category.specs.declared.type_category.AdsTypeCategory.the-variants.{None, Primitive, Alias, Enum, Array, Struct, FunctionBlock, SubRange, String, Bitset, Pointer, Union, Reference, Interface}

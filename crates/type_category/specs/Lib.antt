@@ -1,3 +1,2 @@
 pub mod Text
 pub mod Category
-pub mod Validate

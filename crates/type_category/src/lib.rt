@@ -1,4 +1,3 @@
 // The category of a type in the book, and the tests that validators.rs makes on a type.
 mod text;
 pub mod type_category;
-pub mod validators;

@@ -7,7 +7,7 @@ ghost use Rattle.type_category.specs.Category.{isPointerName, isSubRange
 use crate::text::contains;
 use crate::text::contains_byte;
 use crate::text::starts_with;
-use number::type_id::AdsTypeId;
+use type_id::AdsTypeId;
 use typebook::block;
 use typebook::block::same_name;
 

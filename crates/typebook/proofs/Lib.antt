@@ -1,6 +1,4 @@
 -- Laws that the functions' proofs cite, and those on blocks, names and look-up that the crates above cite.
 mod Parts
-mod Slots
 pub mod Blocks
 pub mod Names
-pub mod Finds

@@ -4,10 +4,10 @@ ghost use mathlib.Core.Path.{_≡_};
 ghost use Prim.Native.Nat.{_+_, _*_, _/_, _%_, _<_};
 ghost use lib.ListN.{take, drop};
 ghost use lib.Dec.{eqb};
-ghost use Rattle.number.specs.TypeId.{idOf};
+ghost use Rattle.type_id.specs.TypeId.{idOf};
 ghost use Rattle.typebook.specs.Book.{blocks as blocksOf, byteAt, u32At, kindOf, isType, flagOf, dimensionsOf, typeIdOf, offsetOf, sizeOf, fieldsOf, entriesOf, countOf, valueOf, nameOf, typeNameOf, sameName};
 use number::le::le_u32;
-use number::type_id::AdsTypeId;
+use type_id::AdsTypeId;
 
 pub const BLOCK: usize = 512;
 

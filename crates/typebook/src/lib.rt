@@ -1,3 +1,2 @@
 // The type book: what its blocks say, and the look-up of a type by its name.
 pub mod block;
-pub mod type_provider;

@@ -7,13 +7,13 @@ use crate::input::byte_at;
 use crate::input::from;
 use crate::input::u32_at;
 use crate::input::u64_at;
-use number::float::Real;
-use number::float::RealRead;
-use number::float::RealWrite;
-use number::integer::Integer;
-use number::integer::IntegerRead;
-use number::integer::IntegerWrite;
-use number::type_id::AdsTypeId;
+use float::Real;
+use float::RealRead;
+use float::RealWrite;
+use integer::Integer;
+use integer::IntegerRead;
+use integer::IntegerWrite;
+use type_id::AdsTypeId;
 
 // Document 01's refusals.
 const SIZE: u8 = 10;
@@ -93,7 +93,7 @@ fn put_integer(answer: &mut [u8], value: Integer) -> usize {
 
 pub(crate) fn integer_read(input: &[u8], answer: &mut [u8]) -> usize {
     let id = AdsTypeId::from_u32(u32_at(input, 0));
-    match number::integer::try_from_le_slice(from(input, 4), id) {
+    match integer::try_from_le_slice(from(input, 4), id) {
         IntegerRead::Value(value) => put_integer(answer, value),
         IntegerRead::Size => put_byte(answer, 0, SIZE),
         IntegerRead::Unsupported => put_byte(answer, 0, UNREADABLE),
@@ -119,7 +119,7 @@ fn refusal_of(write: IntegerWrite) -> u8 {
 pub(crate) fn integer_write(input: &[u8], out: &mut [u8], answer: &mut [u8]) -> usize {
     let id = AdsTypeId::from_u32(u32_at(input, 0));
     let value = integer_of(byte_at(input, 4), byte_at(input, 5), u64_at(input, 6));
-    let write = number::integer::to_le_slice(value, id, out);
+    let write = integer::to_le_slice(value, id, out);
     let at = put_byte(answer, 0, refusal_of(write));
     put_bytes(answer, at, out)
 }
@@ -135,7 +135,7 @@ fn kind_of(value: Real) -> u8 {
 
 pub(crate) fn real_read(input: &[u8], answer: &mut [u8]) -> usize {
     let id = AdsTypeId::from_u32(u32_at(input, 0));
-    match number::float::real_from_le_slice(from(input, 4), id) {
+    match float::real_from_le_slice(from(input, 4), id) {
         RealRead::Value(value) => put_value(answer, kind_of(value), 0, value.bits()),
         RealRead::Size => put_byte(answer, 0, SIZE),
         RealRead::Unsupported => put_byte(answer, 0, UNREADABLE),
@@ -150,8 +150,8 @@ fn refusal_of_real(write: RealWrite) -> u8 {
 }
 
 pub(crate) fn real_write(input: &[u8], out: &mut [u8], answer: &mut [u8]) -> usize {
-    let value = number::float::real_from_bits(byte_at(input, 0) == DOUBLE, u64_at(input, 1));
-    let write = number::float::real_to_le_slice(value, out);
+    let value = float::real_from_bits(byte_at(input, 0) == DOUBLE, u64_at(input, 1));
+    let write = float::real_to_le_slice(value, out);
     let at = put_byte(answer, 0, refusal_of_real(write));
     put_bytes(answer, at, out)
 }

@@ -4,7 +4,7 @@ use mathlib.Core.Bool.{Bool, true, false}
 use mathlib.Core.List.{List, [], _∷_}
 use Prim.Native.Nat.{ℕ, zero, suc}
 use Rattle.typebook.specs.Book.{typeNameOf}
-use Rattle.typebook.specs.Find.{find}
+use Rattle.type_provider.specs.Find.{find}
 use Rattle.walks.specs.Walk.{Walk, over, full, met, comesTo, has, skip, push, meet, turn, last, walk}
 
 pub data Goes (book : List ℕ) (width : ℕ) : ℕ → List (List ℕ) → List ℕ → Walk → Type 0 where

@@ -6,11 +6,11 @@ use mathlib.Core.Logic.{⊎-elim}
 use Prim.Native.Nat.{ℕ, zero, suc, _+_, _<_}
 use native.Mathlib.Omega.{arith}
 use borrow.Author.Tests.{ne-eqb, lt-ltb}
-use Rattle.typebook.specs.declared.type_provider.Found.{Found}
-use Rattle.typebook.specs.declared.type_provider.Found.the-variants as found
+use Rattle.type_provider.specs.declared.Found.{Found}
+use Rattle.type_provider.specs.declared.Found.the-variants as found
 use Rattle.typebook.specs.Book.{kindOf, isType, dimensionsOf, fieldsOf, nameOf, typeNameOf}
-use Rattle.typebook.specs.Find.{find}
-use Rattle.typebook.proofs.Finds.{find-named, named-name}
+use Rattle.type_provider.specs.Find.{find}
+use Rattle.type_provider.proofs.Finds.{find-named, named-name}
 use Rattle.type_category.specs.declared.type_category.AdsTypeCategory.{AdsTypeCategory}
 use Rattle.type_category.specs.declared.type_category.AdsTypeCategory.the-variants as category
 use Rattle.type_category.specs.Category.{categoryOf}

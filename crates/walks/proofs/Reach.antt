@@ -7,10 +7,10 @@ use mathlib.Core.List.{List, [], _∷_, List·Memᴰ, List·Memᴰ·head, List·
 use Prim.Native.Nat.{ℕ, _≤_}
 use native.Mathlib.Omega.{arith}
 use lib.ListN.{length}
-use Rattle.typebook.specs.declared.type_provider.Found.{Found}
-use Rattle.typebook.specs.declared.type_provider.Found.the-variants.{At, Nothing}
+use Rattle.type_provider.specs.declared.Found.{Found}
+use Rattle.type_provider.specs.declared.Found.the-variants.{At, Nothing}
 use Rattle.typebook.specs.Book.{nameOf, typeNameOf, sameName}
-use Rattle.typebook.specs.Find.{find}
+use Rattle.type_provider.specs.Find.{find}
 use Rattle.typebook.proofs.Names.{same-eq, same-refl}
 use Rattle.resolvers.specs.declared.Resolved.{Resolved}
 use Rattle.resolvers.specs.declared.Resolved.the-variants.{Base, Lacks, Endless}

@@ -9,10 +9,10 @@ use native.Mathlib.Nat.{zero-div}
 use lib.ListN.{length, getD, replicate}
 use lib.Dec.{eqb}
 use borrow.Author.Tests.{eq-eqb, ne-eqb}
-use Rattle.typebook.specs.declared.type_provider.Found.{Found}
-use Rattle.typebook.specs.declared.type_provider.Found.the-variants.{At, Nothing}
+use Rattle.type_provider.specs.declared.Found.{Found}
+use Rattle.type_provider.specs.declared.Found.the-variants.{At, Nothing}
 use Rattle.typebook.specs.Book.{isType, nameOf, typeNameOf, sameName}
-use Rattle.typebook.specs.Find.{find}
+use Rattle.type_provider.specs.Find.{find}
 use Rattle.typebook.proofs.Names.{same-eq, eq-same}
 use Rattle.book_check.specs.Check.{ValidBook}
 use Rattle.book_check.proofs.Valid.{valid-own}

@@ -3,9 +3,9 @@ use mathlib.Core.Path.{_≡_}
 use mathlib.Core.Bool.{true, false}
 use mathlib.Core.List.{List, [], _∷_, List·Memᴰ}
 use Prim.Native.Nat.{ℕ}
-use Rattle.typebook.specs.declared.type_provider.Found.the-variants.{At}
+use Rattle.type_provider.specs.declared.Found.the-variants.{At}
 use Rattle.typebook.specs.Book.{typeNameOf}
-use Rattle.typebook.specs.Find.{find}
+use Rattle.type_provider.specs.Find.{find}
 use Rattle.resolvers.specs.declared.Resolved.the-variants.{Base}
 use Rattle.resolvers.specs.Resolve.{isFollowed, resolveAlias}
 use Rattle.visits.specs.Parts.{partsOf}

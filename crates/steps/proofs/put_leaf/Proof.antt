@@ -9,7 +9,7 @@ use Rattle.steps.proofs.first.Reads as first-reads
 use Rattle.steps.proofs.put.Reads as put-reads
 use Rattle.steps.proofs.put_text.Reads as put-text-reads
 use Rattle.steps.proofs.stop.Reads as stop-reads
-use Rattle.number.proofs.float.Real.bits.Reads as bits-reads
+use Rattle.float.proofs.Real.bits.Reads as bits-reads
 
 ruleset leaves = (leaf-bool, leaf-text, leaf-wide, leaf-single, leaf-double, leaf-refused)
 

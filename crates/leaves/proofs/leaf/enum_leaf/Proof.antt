@@ -7,7 +7,7 @@ use Rattle.leaves.proofs.leaf.enum_leaf.Reads as reads
 use Rattle.leaves.proofs.leaf.enum_leaf.Lts as lts
 use Rattle.leaves.proofs.enum_access.find_entry.Reads as find-entry-reads
 use Rattle.leaves.proofs.leaf.unlisted_leaf.Reads as unlisted-leaf-reads
-use Rattle.number.proofs.integer.try_from_le_slice.Reads as try-from-le-slice-reads
+use Rattle.integer.proofs.try_from_le_slice.Reads as try-from-le-slice-reads
 use Rattle.typebook.proofs.block.entries.Reads as entries-reads
 use Rattle.typebook.proofs.block.fields.Reads as fields-reads
 use Rattle.typebook.proofs.block.size.Reads as size-reads

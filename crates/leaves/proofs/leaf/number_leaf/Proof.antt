@@ -8,9 +8,9 @@ use Rattle.leaves.proofs.leaf.number_leaf.Lts as lts
 use Rattle.leaves.proofs.leaf.bool_leaf.Reads as bool-leaf-reads
 use Rattle.leaves.proofs.leaf.integer_leaf.Reads as integer-leaf-reads
 use Rattle.leaves.proofs.leaf.real_leaf.Reads as real-leaf-reads
-use Rattle.number.proofs.float.real_from_le_slice.Reads as real-from-le-slice-reads
-use Rattle.number.proofs.integer.try_from_le_slice.Reads as try-from-le-slice-reads
-use Rattle.number.proofs.type_id.AdsTypeId.to_u32.Reads as to-u32-reads
+use Rattle.float.proofs.real_from_le_slice.Reads as real-from-le-slice-reads
+use Rattle.integer.proofs.try_from_le_slice.Reads as try-from-le-slice-reads
+use Rattle.type_id.proofs.AdsTypeId.to_u32.Reads as to-u32-reads
 use Rattle.typebook.proofs.block.type_id.Reads as type-id-reads
 
 ruleset exits = (number-bool, number-real, number-size, number-integer, refl)

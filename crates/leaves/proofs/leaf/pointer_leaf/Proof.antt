@@ -6,7 +6,7 @@ use Rattle.leaves.proofs.leaf.pointer_leaf.Tie as tie
 use Rattle.leaves.proofs.leaf.pointer_leaf.Reads as reads
 use Rattle.leaves.proofs.leaf.pointer_leaf.Lts as lts
 use Rattle.leaves.proofs.leaf.integer_leaf.Reads as integer-leaf-reads
-use Rattle.number.proofs.integer.try_from_le_slice.Reads as try-from-le-slice-reads
+use Rattle.integer.proofs.try_from_le_slice.Reads as try-from-le-slice-reads
 
 ruleset exits = (pointer-two, pointer-four, pointer-eight, pointer-other, refl)
 

@@ -5,7 +5,7 @@ use Rattle.leaves.proofs.leaf.text_leaf.Statement.{statement}
 use Rattle.leaves.proofs.leaf.text_leaf.Tie as tie
 use Rattle.leaves.proofs.leaf.text_leaf.Reads as reads
 use Rattle.leaves.proofs.leaf.text_leaf.Lts as lts
-use Rattle.number.proofs.type_id.AdsTypeId.to_u32.Reads as to-u32-reads
+use Rattle.type_id.proofs.AdsTypeId.to_u32.Reads as to-u32-reads
 use Rattle.typebook.proofs.block.size.Reads as size-reads
 use Rattle.typebook.proofs.block.type_id.Reads as type-id-reads
 use Rattle.utf_16.proofs.wstring_end.Reads as wstring-end-reads

@@ -1,4 +1,4 @@
-use Rattle.number.proofs.TypeIds.{known}
+use Rattle.type_id.proofs.TypeIds.{known}
 use Rattle.type_category.specs.Category.{idStep}
 use borrow.Author.Needs.{needs}
 use Rattle.type_category.proofs.type_category.by_type_id.Statement.{statement}

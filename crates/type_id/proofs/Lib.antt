@@ -1,0 +1,2 @@
+-- Laws that the functions' proofs cite, and those that the crates above cite.
+pub mod TypeIds

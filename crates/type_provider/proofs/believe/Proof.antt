@@ -1,0 +1,31 @@
+-- `type_provider::believe` meets its contract. Assumes nothing.
+use Rattle.type_provider.proofs.Slots.{probed-none, probed-at}
+use borrow.Author.Needs.{needs}
+use Rattle.type_provider.proofs.believe.Statement.{statement}
+use Rattle.type_provider.proofs.believe.Tie as tie
+
+returns : tie.Need-returns
+returns c = search probed-none
+
+sub-n : tie.Need-sub-n
+sub-n c = search needs
+
+searched-requires : tie.Need-searched-requires
+searched-requires c κs = search needs
+
+returns-2 : tie.Need-returns-2
+returns-2 c = search probed-none
+
+is-named-requires : tie.Need-is-named-requires
+is-named-requires c κs = search needs
+
+returns-3 : tie.Need-returns-3
+returns-3 c = search probed-at
+
+returns-4 : tie.Need-returns-4
+returns-4 c = search probed-none
+
+pub believe-spec : {M : Type 1} → statement M
+believe-spec =
+    tie.close
+    (tie.spec returns sub-n searched-requires returns-2 is-named-requires returns-3 returns-4)

@@ -1,0 +1,54 @@
+-- `type_provider::enter` meets its contract. Assumes nothing.
+use Rattle.type_provider.proofs.Slots.{entered-at}
+use borrow.Author.Needs.{needs}
+use Rattle.type_provider.proofs.enter.Statement.{statement}
+use Rattle.type_provider.proofs.enter.Tie as tie
+
+kind-requires : tie.Need-kind-requires
+kind-requires c κs = search needs
+
+returns : tie.Need-returns
+returns c = search needs
+
+name-requires : tie.Need-name-requires
+name-requires c κs = search needs
+
+free-slot-requires : tie.Need-free-slot-requires
+free-slot-requires c κs = search needs
+
+same-length : tie.Need-same-length
+same-length c = search needs
+
+returns-2 : tie.Need-returns-2
+returns-2 c = search needs
+
+add-index : tie.Need-add-index
+add-index c = search needs
+
+mul-index : tie.Need-mul-index
+mul-index c = search needs
+
+slice-write-index : tie.Need-slice-write-index
+slice-write-index c = search needs
+
+same-length-2 : tie.Need-same-length-2
+same-length-2 c = search needs
+
+returns-3 : tie.Need-returns-3
+returns-3 c = search entered-at
+
+pub enter-spec : {M : Type 1} → statement M
+enter-spec =
+    tie.close
+    (tie.spec
+    kind-requires
+    returns
+    name-requires
+    free-slot-requires
+    same-length
+    returns-2
+    add-index
+    mul-index
+    slice-write-index
+    same-length-2
+    returns-3)
