@@ -1,45 +1,19 @@
 -- Laws of `Puts`: how bytes are put in several parts, and what that says of a call that prints them. Assumes nothing.
 use mathlib.Core.Path.{_≡_, refl, sym, ap, _∙_}
 use mathlib.Core.Bool.{Bool, true, false, cond}
-use mathlib.Core.List.{List, [], _∷_, _++_, append-nil}
-use Prim.Native.Nat.{ℕ, suc, _+_, _≤_, _<_}
+use mathlib.Core.List.{List, [], _∷_, _++_}
+use Prim.Native.Nat.{ℕ, _+_, _≤_, _<_}
 use native.Mathlib.Omega.{arith}
 use native.Mathlib.Numerals.{add-one}
 use lib.ListN.{length, set, drop, getD, replicate, length-append}
 use lib.Seq.{drop-cons, drop-length}
 use lib.Dec.{leb}
-use borrow.Author.Tests.{leb-true, leb-false, le-leb, lt-leb}
+use borrow.Author.Tests.{le-leb, lt-leb}
 use Rattle.utf_8.specs.Buffer.{splice, fitsIn}
 use Rattle.utf_8.specs.declared.Put.{Put}
 use Rattle.utf_8.specs.declared.Put.the-variants.{Next, Full}
-use Rattle.utf_8.proofs.Splices.{splice-none, splice-long, splice-splice, splice-start, next-full, went, stored-1}
+use Rattle.utf_8.proofs.Splices.{splice-none, splice-start, length-splice, splice-both, fitsIn-then, unfitsIn-then, next-full, went, stored-1}
 use Rattle.lines.specs.Puts.{after, Puts, Ended, Printed}
-
--- ---- what fits, in two parts
-
-length-splice : (l xs : List ℕ) (at : ℕ) → fitsIn xs at (length l) ≡ true → length (splice l at xs) ≡ length l
-unfolding fitsIn
-length-splice l [] at h = ap length (splice-none l at)
-length-splice l (x ∷ xs) at h = splice-long l (x ∷ xs) at (leb-true _ _ h)
-
-splice-both : (l xs ys : List ℕ) (at : ℕ) → fitsIn xs at (length l) ≡ true → splice (splice l at xs) (at + length xs) ys ≡ splice l at (xs ++ ys)
-unfolding fitsIn
-splice-both l [] ys at h = let e : at + 0 ≡ at = omega arith in rw (splice-none, e)
-splice-both l (x ∷ xs) ys at h = splice-splice l (x ∷ xs) ys at (leb-true _ _ h)
-
-fits-then : (xs ys : List ℕ) (room at : ℕ) → fitsIn xs at room ≡ true → fitsIn (xs ++ ys) at room ≡ fitsIn ys (at + length xs) room
-unfolding fitsIn
-fits-then [] [] room at h = refl
-fits-then [] (y ∷ ys) room at h = let e : at + 0 ≡ at = omega arith in rw e
-fits-then (x ∷ xs) [] room at h = ap (λ (l : List ℕ). fitsIn l at room) (append-nil (x ∷ xs)) ∙ h
-fits-then (x ∷ xs) (y ∷ ys) room at h =
-    let e : at + suc (length (xs ++ y ∷ ys)) ≡ at + suc (length xs) + suc (length ys) = simp length-append (omega arith) in
-    rw e
-
-unfits-then : (xs ys : List ℕ) (room at : ℕ) → fitsIn xs at room ≡ false → fitsIn (xs ++ ys) at room ≡ false
-unfolding fitsIn
-unfits-then [] ys room at h = absurd (let z : _≡_ {A = ℕ} 0 1 = cc in omega arith)
-unfits-then (x ∷ xs) ys room at h = lt-leb (at + suc (length (xs ++ ys))) room (simp length-append (omega (arith, leb-false (at + suc (length xs)) room h)))
 
 -- ---- nothing, and one byte
 
@@ -77,12 +51,12 @@ module _ (xs ys out out₁ out₂ : List ℕ) (r : Put) where
       let l : length out₁ ≡ length out = ap length v ∙ length-splice out xs at f in
       let k : at + length xs + length ys ≡ at + length (xs ++ ys) = simp length-append (omega arith) in
       record {
-        answer = b .answer ∙ rw (e, l, ← fits-then xs ys (length out) at f, k);
+        answer = b .answer ∙ rw (e, l, ← fitsIn-then xs ys (length out) at f, k);
         wrote = λ i n z y. let j : i ≡ at = cc in b .wrote (at + length xs) n e y ∙ rw (v, j) (splice-both out xs ys at f);
       }
   then-by at q false f e w b =
       let g : r ≡ Full = b .answer ∙ rw e in
-      record { answer = g ∙ rw (unfits-then xs ys (length out) at f); wrote = λ i n z y. next-full (sym y ∙ g) }
+      record { answer = g ∙ rw (unfitsIn-then xs ys (length out) at f); wrote = λ i n z y. next-full (sym y ∙ g) }
 
   chain-by : (p q : Put) → Puts xs out p q out₁ → Puts ys out₁ q r out₂ → Puts (xs ++ ys) out p r out₂
   unfolding after

@@ -1,49 +1,19 @@
--- Laws of `Ran`: how a trace runs in two parts. They are the only place that opens `stepOf`, `splice` and `_then_`. Assumes nothing.
-use mathlib.Core.Path.{_≡_, refl, sym, ap, _∙_, subst}
+-- Laws of `Ran`: how a trace runs in two parts. They are the only place that opens `stepOf` and `_then_`. Assumes nothing.
+use mathlib.Core.Path.{_≡_, refl, sym, ap, _∙_}
 use mathlib.Core.Bool.{Bool, true, false, cond, _&&_}
-use mathlib.Core.List.{List, [], _∷_, _++_, append-assoc, append-nil}
-use Prim.Native.Nat.{ℕ, zero, suc, _+_, _-_, _≤_, _<_}
+use mathlib.Core.List.{List, [], _∷_, _++_, append-assoc}
+use Prim.Native.Nat.{ℕ, _+_, _-_}
 use native.Mathlib.Omega.{arith}
 use lib.ListN.{length, length-append}
-use lib.Dec.{leb}
-use borrow.Author.Tests.{leb-true, leb-false, le-leb, lt-leb}
-use Rattle.utf_8.specs.Buffer.{splice, fitsIn, Wrote}
+use Rattle.utf_8.specs.Buffer.{splice, fitsIn}
 use Rattle.utf_8.specs.declared.Put.the-variants as put
-use Rattle.utf_8.proofs.Splices.{splice-none, splice-long, splice-splice, went as put-went, stayed as put-stayed}
+use Rattle.utf_8.proofs.Splices.{length-splice, splice-both, fitsIn-then, unfitsIn-then}
 use Rattle.steps.specs.declared.Step.{Step}
 use Rattle.steps.specs.declared.Step.the-variants.{Next, Stop}
-use Rattle.steps.specs.Trace.{Event, rec, text, bytesOf, textBytes, tapeBytes, Trace, done, stop, eventsOf, endOf, refuse, one, _then_, fits, stepOf, Ran, From, Halts}
+use Rattle.steps.specs.Trace.{Event, rec, text, bytesOf, textBytes, tapeBytes, Trace, done, stop, eventsOf, endOf, refuse, _then_, fits, stepOf, Ran, From, Halts}
 
 pub next-stop : {X : Type 0} {n m k b : ℕ} → Next n m ≡ Stop k b → X
 next-stop e = absurd (let z : _≡_ {A = ℕ} 0 1 = cc in omega arith)
-
--- ---- splice
-
-pub length-splice : (l xs : List ℕ) (at : ℕ) → fitsIn xs at (length l) ≡ true → length (splice l at xs) ≡ length l
-unfolding fitsIn
-length-splice l [] at h = ap length (splice-none l at)
-length-splice l (x ∷ xs) at h = splice-long l (x ∷ xs) at (leb-true _ _ h)
-
-pub splice-both : (l xs ys : List ℕ) (at : ℕ) → fitsIn xs at (length l) ≡ true → splice (splice l at xs) (at + length xs) ys ≡ splice l at (xs ++ ys)
-unfolding fitsIn
-splice-both l [] ys at h = let e : at + 0 ≡ at = omega arith in rw (splice-none, e)
-splice-both l (x ∷ xs) ys at h = splice-splice l (x ∷ xs) ys at (leb-true _ _ h)
-
--- where the first fits, the whole fits as the second does
-fitsIn-then : (xs ys : List ℕ) (room at : ℕ) → fitsIn xs at room ≡ true → fitsIn (xs ++ ys) at room ≡ fitsIn ys (at + length xs) room
-unfolding fitsIn
-fitsIn-then [] [] room at h = refl
-fitsIn-then [] (y ∷ ys) room at h = let e : at + 0 ≡ at = omega arith in rw e
-fitsIn-then (x ∷ xs) [] room at h = ap (λ (l : List ℕ). fitsIn l at room) (append-nil (x ∷ xs)) ∙ h
-fitsIn-then (x ∷ xs) (y ∷ ys) room at h =
-    let e : at + suc (length (xs ++ y ∷ ys)) ≡ at + suc (length xs) + suc (length ys) = simp length-append (omega arith) in
-    rw e
-
--- where the first does not fit, nor does the whole
-unfitIn-then : (xs ys : List ℕ) (room at : ℕ) → fitsIn xs at room ≡ false → fitsIn (xs ++ ys) at room ≡ false
-unfolding fitsIn
-unfitIn-then [] ys room at h = absurd (let z : _≡_ {A = ℕ} 0 1 = cc in omega arith)
-unfitIn-then (x ∷ xs) ys room at h = lt-leb (at + suc (length (xs ++ ys))) room (simp length-append (omega (arith, leb-false (at + suc (length xs)) room h)))
 
 -- ---- events in two parts
 
@@ -98,8 +68,8 @@ unfits-then xs ys at from tapeRoom textRoom h =
 
     by : (a : Bool) → fitsIn (tapeBytes from xs) at tapeRoom ≡ a → (b : Bool) → fitsIn (textBytes xs) from textRoom ≡ b → a && b ≡ false
         → fitsIn (tapeBytes from (xs ++ ys)) at tapeRoom && fitsIn (textBytes (xs ++ ys)) from textRoom ≡ false
-    by false e b q h = rw (tape-then from xs ys, unfitIn-then (tapeBytes from xs) (tapeBytes (from + length (textBytes xs)) ys) tapeRoom at e)
-    by true e false q h = rw (text-then xs ys, unfitIn-then (textBytes xs) (textBytes ys) textRoom from q) (and-false (fitsIn (tapeBytes from (xs ++ ys)) at tapeRoom))
+    by false e b q h = rw (tape-then from xs ys, unfitsIn-then (tapeBytes from xs) (tapeBytes (from + length (textBytes xs)) ys) tapeRoom at e)
+    by true e false q h = rw (text-then xs ys, unfitsIn-then (textBytes xs) (textBytes ys) textRoom from q) (and-false (fitsIn (tapeBytes from (xs ++ ys)) at tapeRoom))
     by true e true q h = absurd (let z : _≡_ {A = ℕ} 0 1 = cc in omega arith)
 
 -- ---- what an answer tells

@@ -6,7 +6,7 @@ use Prim.Native.Nat.{ℕ, suc, _+_, _-_, _≤_, _<_}
 use native.Mathlib.Omega.{arith}
 use lib.ListN.{length, take, drop, set, length-append, length-drop, take-append-drop}
 use lib.Seq.{take-at, drop-append-add, drop-drop, length-take-le, sets, sets-eq}
-use borrow.Author.Tests.{leb-false, le-leb, lt-leb}
+use borrow.Author.Tests.{leb-true, leb-false, le-leb, lt-leb}
 use Rattle.utf_8.specs.declared.Put.{Put}
 use Rattle.utf_8.specs.declared.Put.the-variants.{Next, Full}
 use Rattle.utf_8.specs.Buffer.{splice, fitsIn, Wrote}
@@ -52,6 +52,35 @@ pub fits-not : (xs : List ℕ) (at room : ℕ) → 0 < length xs → room < at +
 unfolding fitsIn
 fits-not [] at room p h = absurd (omega arith)
 fits-not (x ∷ xs) at room p h = lt-leb _ _ h
+
+-- ---- in two parts
+
+-- where the first part fits, the length stays, and the second goes after it
+pub length-splice : (l xs : List ℕ) (at : ℕ) → fitsIn xs at (length l) ≡ true → length (splice l at xs) ≡ length l
+unfolding fitsIn
+length-splice l [] at h = ap length (splice-none l at)
+length-splice l (x ∷ xs) at h = splice-long l (x ∷ xs) at (leb-true _ _ h)
+
+pub splice-both : (l xs ys : List ℕ) (at : ℕ) → fitsIn xs at (length l) ≡ true → splice (splice l at xs) (at + length xs) ys ≡ splice l at (xs ++ ys)
+unfolding fitsIn
+splice-both l [] ys at h = let e : at + 0 ≡ at = omega arith in rw (splice-none, e)
+splice-both l (x ∷ xs) ys at h = splice-splice l (x ∷ xs) ys at (leb-true _ _ h)
+
+-- where the first part fits, the whole fits as the second does
+pub fitsIn-then : (xs ys : List ℕ) (room at : ℕ) → fitsIn xs at room ≡ true → fitsIn (xs ++ ys) at room ≡ fitsIn ys (at + length xs) room
+unfolding fitsIn
+fitsIn-then [] [] room at h = refl
+fitsIn-then [] (y ∷ ys) room at h = let e : at + 0 ≡ at = omega arith in rw e
+fitsIn-then (x ∷ xs) [] room at h = ap (λ (l : List ℕ). fitsIn l at room) (append-nil (x ∷ xs)) ∙ h
+fitsIn-then (x ∷ xs) (y ∷ ys) room at h =
+    let e : at + suc (length (xs ++ y ∷ ys)) ≡ at + suc (length xs) + suc (length ys) = simp length-append (omega arith) in
+    rw e
+
+-- where the first part does not fit, nor does the whole
+pub unfitsIn-then : (xs ys : List ℕ) (room at : ℕ) → fitsIn xs at room ≡ false → fitsIn (xs ++ ys) at room ≡ false
+unfolding fitsIn
+unfitsIn-then [] ys room at h = absurd (let z : _≡_ {A = ℕ} 0 1 = cc in omega arith)
+unfitsIn-then (x ∷ xs) ys room at h = lt-leb (at + suc (length (xs ++ ys))) room (simp length-append (omega (arith, leb-false (at + suc (length xs)) room h)))
 
 -- ---- Wrote
 
