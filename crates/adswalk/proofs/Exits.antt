@@ -13,8 +13,8 @@ use Rattle.utf_8.specs.declared.Put.the-variants.{Next, Full}
 use Rattle.book_check.specs.Check.{checkRoot}
 use Rattle.book_check.specs.declared.RootCheck.{RootCheck}
 use Rattle.book_check.specs.declared.RootCheck.the-variants as root
-use Rattle.de.specs.declared.deserializer.ReadAnswer.{ReadAnswer}
-use Rattle.de.specs.declared.deserializer.ReadAnswer.the-variants.{Done, NotFound, Refused}
+use Rattle.steps.specs.declared.ReadAnswer.{ReadAnswer}
+use Rattle.steps.specs.declared.ReadAnswer.the-variants.{Done, NotFound, Refused}
 use Rattle.de.specs.Read.{readTrace, ReadIs}
 use Rattle.lines.specs.Puts.{Printed}
 use Rattle.lines.specs.Lines.{walkLines, refusedLine}

@@ -18,8 +18,8 @@ use Rattle.tape.specs.Record.{recordBytes, recordOf, stepAt}
 use Rattle.tape.specs.Text.{partOf, recordText}
 use Rattle.tape.proofs.Records.{length-record}
 use Rattle.lines.specs.Lines.{textLine, lineOf, before, recordsAt, linesOf, headLine, walkLines, refusedLine}
-use Rattle.de.specs.declared.deserializer.ReadAnswer.{ReadAnswer}
-use Rattle.de.specs.declared.deserializer.ReadAnswer.the-variants.{NotFound, Refused}
+use Rattle.steps.specs.declared.ReadAnswer.{ReadAnswer}
+use Rattle.steps.specs.declared.ReadAnswer.the-variants.{NotFound, Refused}
 use Rattle.steps.specs.declared.Step.{Step}
 use Rattle.steps.specs.declared.Step.the-variants.{Stop}
 use Rattle.steps.specs.Trace.{Event, rec, text, bytesOf, textBytes, tapeBytes, Trace, done, stop, eventsOf, endOf, fits, stepOf}

@@ -8,8 +8,8 @@ use lib.Dec.{ltb}
 use Rattle.book_check.specs.Check.{checkRoot}
 use Rattle.book_check.specs.declared.RootCheck.{RootCheck}
 use Rattle.book_check.specs.declared.RootCheck.the-variants as root
-use Rattle.de.specs.declared.deserializer.ReadAnswer.{ReadAnswer}
-use Rattle.de.specs.declared.deserializer.ReadAnswer.the-variants.{Done, NotFound, Refused}
+use Rattle.steps.specs.declared.ReadAnswer.{ReadAnswer}
+use Rattle.steps.specs.declared.ReadAnswer.the-variants.{Done, NotFound, Refused}
 use Rattle.steps.specs.declared.Step.{Step}
 use Rattle.steps.specs.declared.Step.the-variants.{Next, Stop}
 use Rattle.steps.specs.Trace.{Event, rec, text, Trace, eventsOf, stepOf}

@@ -4,9 +4,9 @@ ghost use lib.ListN.{length};
 ghost use Rattle.lines.specs.Puts.{Printed};
 ghost use Rattle.adswalk.specs.Answer.{linesBy, walked, printed, Shown};
 use book_check::RootCheck;
-use de::deserializer::ReadAnswer;
 use lines::refused_line;
 use lines::walk_lines;
+use steps::ReadAnswer;
 use utf_8::Put;
 
 // The lines of what a read answered and left.

@@ -15,8 +15,8 @@ use Rattle.walks.specs.declared.Rmw.{Rmw}
 use Rattle.walks.specs.declared.Rmw.the-variants as rmw
 use Rattle.walks.specs.declared.Missing.{Missing}
 use Rattle.walks.specs.declared.Missing.the-variants as missing
-use Rattle.de.specs.declared.deserializer.ReadAnswer.{ReadAnswer}
-use Rattle.de.specs.declared.deserializer.ReadAnswer.the-variants as reading
+use Rattle.steps.specs.declared.ReadAnswer.{ReadAnswer}
+use Rattle.steps.specs.declared.ReadAnswer.the-variants as reading
 use Rattle.codes.specs.Numbers.{truthNumber}
 use Rattle.answers.specs.Values.{laid, Gives, AppendedAs, ResolvedAs, ResolutionAs, FieldsAs, RmwAs, MissingAs, ReadAs}
 

@@ -19,8 +19,8 @@ use Rattle.walks.specs.declared.Rmw.the-variants as rmw
 use Rattle.walks.specs.declared.Missing.{Missing}
 use Rattle.walks.specs.declared.Missing.the-variants as missing
 use Rattle.walks.specs.Calls.{rmwRefusal, missingRefusal}
-use Rattle.de.specs.declared.deserializer.ReadAnswer.{ReadAnswer}
-use Rattle.de.specs.declared.deserializer.ReadAnswer.the-variants as reading
+use Rattle.steps.specs.declared.ReadAnswer.{ReadAnswer}
+use Rattle.steps.specs.declared.ReadAnswer.the-variants as reading
 use Rattle.codes.specs.Numbers.{truthNumber}
 
 -- the new numbers over the first numbers of the array, as many as fit; the rest as before

@@ -1,5 +1,5 @@
 -- The (P) cases of document 01, as one theorem: each row's definitions give what the document says. Assumes nothing.
-use mathlib.Core.Path.{_≡_, refl, ap, _∙_}
+use mathlib.Core.Path.{_≡_, refl}
 use mathlib.Core.List.{List, map, map-append, _++_, flatMap}
 use Prim.Native.Nat.{ℕ}
 use Rattle.number.specs.Le as number-le

@@ -1,6 +1,6 @@
 -- Blocks of a type book, made from what they say (document 01, "The type book"). Assumes nothing.
 use mathlib.Core.List.{List, [], _∷_, _++_}
-use Prim.Native.Nat.{ℕ, zero, suc, _+_, _-_}
+use Prim.Native.Nat.{ℕ, _+_, _-_}
 use lib.ListN.{length, replicate}
 use Rattle.number.specs.Le.{leBytes}
 

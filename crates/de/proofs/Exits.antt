@@ -1,8 +1,8 @@
 -- What each function of the reader owes at each exit and each turn, from what the calls ensure and the tests show there, so that `search` finds each premise. Assumes nothing.
-use mathlib.Core.Path.{_≡_, refl, sym, ap, _∙_}
+use mathlib.Core.Path.{_≡_, sym, ap, _∙_}
 use mathlib.Core.Bool.{Bool, true, false}
 use mathlib.Core.List.{List}
-use Prim.Native.Nat.{ℕ, zero, suc, _+_, _*_, _-_, _/_, _^_, _≤_, _<_}
+use Prim.Native.Nat.{ℕ, zero, suc, _+_, _*_, _-_, _^_, _≤_, _<_}
 use native.Mathlib.Omega.{arith}
 use native.Mathlib.Nat.{zero-add, add-mul, one-mul, zero-mul}
 use lib.ListN.{length, getD, take, drop, length-take, length-drop}
@@ -26,12 +26,12 @@ use Rattle.field_plan.specs.declared.Planned.the-variants as planned
 use Rattle.field_plan.specs.Plan.{PlannedIs, Entries, Ready, PlanIs}
 use Rattle.field_plan.proofs.Plans.{ready-none}
 use Rattle.steps.specs.declared.Step.{Step}
-use Rattle.steps.specs.declared.Step.the-variants.{Next, Stop}
+use Rattle.steps.specs.declared.Step.the-variants.{Stop}
 use Rattle.de.specs.declared.deserializer.Shape.{Shape}
 use Rattle.de.specs.declared.deserializer.Shape.the-variants as shape
-use Rattle.steps.specs.Trace.{Trace, rec, one, refuse, From, Halts}
+use Rattle.steps.specs.Trace.{rec, one, From, Halts}
 use Rattle.de.specs.Plans.{Given, GivenElement, ElementChecked}
-use Rattle.de.specs.Walk.{Ctx, ctx, whole, Child, cut, shapeOf, shapeAt, shapeCheck, leafOf, checked, memberOf, membersFrom, membersOf, mapOf, productFrom, strideOf, isLast, elementItem, elementCheck, elementsFrom, elementsOf, dimensionOf, bytesOf, arrayBy, arrayOf, shapeWalk, walk, Fills, FillsNext, StrideIs}
+use Rattle.de.specs.Walk.{Ctx, ctx, whole, Child, shapeOf, shapeAt, shapeCheck, leafOf, checked, memberOf, membersFrom, membersOf, mapOf, strideOf, isLast, elementItem, elementCheck, elementsFrom, elementsOf, dimensionOf, bytesOf, arrayBy, arrayOf, shapeWalk, walk, Fills, FillsNext, StrideIs}
 use Rattle.steps.proofs.Runs.{Rest, from-as, from-held, halted, chain, rest-all, rest-next}
 use Rattle.de.proofs.Walks as walks
 

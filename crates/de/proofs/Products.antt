@@ -1,11 +1,10 @@
 -- A product that is known up to a top: once it is more than any length, what it is needs not be known. Assumes nothing.
-use mathlib.Core.Path.{_≡_, refl, sym, ap, _∙_}
+use mathlib.Core.Path.{_≡_, refl, sym, _∙_}
 use mathlib.Core.Bool.{Bool, true, false}
 use mathlib.Core.List.{List}
 use Prim.Native.Nat.{ℕ, zero, suc, _+_, _*_, _-_, _/_, _≤_, _<_, min}
 use native.Mathlib.Omega.{arith}
 use native.Mathlib.Nat.{mul-assoc, mul-one, mul-zero, mul-suc, div-lt-iff-lt-mul, min-eq-left, min-eq-right, min-le-right, mul-div-cancel-left}
-use lib.ListN.{length}
 use lib.Dec.{eqb, leb}
 use borrow.Author.Tests.{ne-eqb, leb-true, leb-false}
 use Rattle.typebook.specs.Book.{sizeOf, countOf, dimensionsOf}

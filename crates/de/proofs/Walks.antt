@@ -1,12 +1,12 @@
 -- The equations of the walk: what it is where the code's tests have led. They are the only place that opens its definitions. Assumes nothing.
-use mathlib.Core.Path.{_≡_, refl, sym, ap, _∙_}
-use mathlib.Core.Bool.{Bool, true, false, cond}
+use mathlib.Core.Path.{_≡_, sym, ap, _∙_}
+use mathlib.Core.Bool.{Bool, true, false}
 use mathlib.Core.List.{List}
-use Prim.Native.Nat.{ℕ, zero, suc, _+_, _*_, _-_, _/_, _≤_, _<_}
+use Prim.Native.Nat.{ℕ, suc, _+_, _*_, _-_, _≤_, _<_}
 use native.Mathlib.Omega.{arith}
 use native.Mathlib.Nat.{mul-comm, mul-assoc}
 use lib.ListN.{length}
-use lib.Dec.{leb, eqb}
+use lib.Dec.{eqb}
 use borrow.Author.Tests.{le-leb, lt-leb, eq-eqb, ne-eqb, eqb-true, leb-false}
 use Rattle.typebook.specs.Book.{sizeOf, fieldsOf, countOf, dimensionsOf}
 use Rattle.resolvers.specs.Resolve.{lookUp}
@@ -23,8 +23,8 @@ use Rattle.field_plan.specs.Plan.{FieldIs, PlanIs}
 use Rattle.de.specs.Plans.{ElementChecked}
 use Rattle.de.specs.declared.deserializer.Shape.{Shape}
 use Rattle.de.specs.declared.deserializer.Shape.the-variants as shape
-use Rattle.steps.specs.Trace.{Trace, rec, one, refuse, _then_}
-use Rattle.de.specs.Walk.{Ctx, Item, whole, further, Child, cut, shapeOf, shapeAt, leafOf, checked, fieldValue, memberOf, membersFrom, membersOf, mapOf, productFrom, strideOf, isLast, elementItem, shapeCheck, elementCheck, elementsFrom, elementsOf, dimensionOf, bytesOf, arrayBy, arrayOf, shapeWalk, itemWalk, walk, Fills, FillsNext}
+use Rattle.steps.specs.Trace.{rec, one, refuse, _then_}
+use Rattle.de.specs.Walk.{Ctx, Item, whole, further, Child, cut, shapeOf, shapeAt, checked, fieldValue, memberOf, membersFrom, membersOf, mapOf, productFrom, strideOf, isLast, elementItem, shapeCheck, elementCheck, elementsFrom, elementsOf, dimensionOf, bytesOf, arrayBy, arrayOf, shapeWalk, itemWalk, walk, Fills, FillsNext}
 
 -- ---- a value
 

@@ -1,6 +1,6 @@
 -- The whole read: its answer and the two buffers that it leaves (document 01: deserializer.rs, "Refusal table"). Assumes nothing.
 use mathlib.Core.Path.{_≡_}
-use mathlib.Core.Bool.{Bool, true, false, cond}
+use mathlib.Core.Bool.{cond}
 use mathlib.Core.List.{List}
 use Prim.Native.Nat.{ℕ, _/_}
 use lib.ListN.{length, take, replicate}
@@ -14,8 +14,8 @@ use Rattle.resolvers.specs.declared.Resolved.{Resolved}
 use Rattle.resolvers.specs.declared.Resolved.the-variants as resolved
 use Rattle.steps.specs.declared.Step.{Step}
 use Rattle.steps.specs.declared.Step.the-variants.{Next, Stop}
-use Rattle.de.specs.declared.deserializer.ReadAnswer.{ReadAnswer}
-use Rattle.de.specs.declared.deserializer.ReadAnswer.the-variants.{Done, NotFound, Refused}
+use Rattle.steps.specs.declared.ReadAnswer.{ReadAnswer}
+use Rattle.steps.specs.declared.ReadAnswer.the-variants.{Done, NotFound, Refused}
 use Rattle.steps.specs.Trace.{Trace, tapeBytes, textBytes, eventsOf, refuse, stepOf}
 use Rattle.de.specs.Walk.{Ctx, ctx, whole, walk}
 

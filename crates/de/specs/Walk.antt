@@ -1,7 +1,7 @@
 -- What a read emits, type by type (document 01: "The tape", the access files, deserializer.rs). Assumes nothing.
 use mathlib.Core.Path.{_≡_}
-use mathlib.Core.Bool.{Bool, true, false, cond, _&&_}
-use mathlib.Core.List.{List, [], _∷_}
+use mathlib.Core.Bool.{Bool, cond}
+use mathlib.Core.List.{List}
 use Prim.Native.Nat.{ℕ, zero, suc, _+_, _*_, _-_, _<_}
 use lib.ListN.{length, take, drop}
 use lib.Dec.{leb, eqb}
@@ -21,7 +21,7 @@ use Rattle.de.specs.declared.deserializer.Shape.{Shape}
 use Rattle.de.specs.declared.deserializer.Shape.the-variants as shape
 use Rattle.leaves.specs.Leaf.{leafAt}
 use Rattle.steps.specs.Leaves.{traceOf}
-use Rattle.steps.specs.Trace.{Trace, Event, rec, text, one, refuse, _then_}
+use Rattle.steps.specs.Trace.{Trace, rec, one, refuse, _then_}
 
 -- what is read and never written
 pub record Ctx : Type 0 where

@@ -14,6 +14,7 @@ use crate::array_access::array;
 use crate::map_access::map;
 use book_check::RootCheck;
 use resolvers::Resolved;
+use steps::ReadAnswer;
 use steps::Step;
 use type_category::type_category::AdsTypeCategory;
 
@@ -96,13 +97,6 @@ pub(crate) fn value(
         Shape::Array => array(s, book, index, width, t, bytes, left - 1, tape, text),
         Shape::Leaf => leaf(s, book, width, t, category, bytes, tape, text),
     }
-}
-
-// The number of records and of text bytes; or document 01's number, with the block that 7 carries.
-pub enum ReadAnswer {
-    Done(usize, usize),
-    NotFound(u32),
-    Refused(u8),
 }
 
 // Sets a whole buffer to 0.

@@ -14,7 +14,7 @@ use Rattle.field_types.specs.Calls.{Filled}
 use Rattle.walks.specs.declared.Rmw.{Rmw}
 use Rattle.walks.specs.declared.Missing.{Missing}
 use Rattle.walks.specs.Calls.{RmwIn, RmwIs, MissingIn, MissingIs}
-use Rattle.de.specs.declared.deserializer.ReadAnswer.{ReadAnswer}
+use Rattle.steps.specs.declared.ReadAnswer.{ReadAnswer}
 use Rattle.steps.specs.Trace.{Trace}
 use Rattle.de.specs.Read.{ReadIs}
 use Rattle.answers.specs.Values.{Gives, AppendedAs, ResolvedAs, FieldsAs, RmwAs, MissingAs, ReadAs}

@@ -1,7 +1,7 @@
 -- What a record or a text that is put does, as a trace of one event. Assumes nothing.
-use mathlib.Core.Path.{_≡_, refl, sym, ap, _∙_}
+use mathlib.Core.Path.{_≡_, refl, sym, _∙_}
 use mathlib.Core.Bool.{Bool, true, false, cond, _&&_}
-use mathlib.Core.List.{List, [], _∷_, _++_, append-nil}
+use mathlib.Core.List.{List, [], _++_, append-nil}
 use Prim.Native.Nat.{ℕ, _+_, _-_, _≤_, _<_}
 use native.Mathlib.Omega.{arith}
 use lib.ListN.{length, take, drop}
@@ -9,7 +9,7 @@ use lib.Seq.{take-all}
 use lib.Ieee.{Float}
 use Rattle.utf_16.specs.Decode as utf16
 use Rattle.windows_1252.specs.Text as windows1252
-use Rattle.utf_8.specs.Buffer.{splice, fitsIn, Wrote}
+use Rattle.utf_8.specs.Buffer.{fitsIn, Wrote}
 use Rattle.utf_8.specs.declared.Put.{Put}
 use Rattle.utf_8.specs.declared.Put.the-variants as put
 use Rattle.utf_8.proofs.Splices.{splice-none, next-full, Went, went}
@@ -19,7 +19,7 @@ use Rattle.float.specs.Float.{realBits}
 use Rattle.float.specs.declared.Real.the-variants as real
 use Rattle.steps.specs.declared.Step.{Step}
 use Rattle.steps.specs.declared.Step.the-variants.{Next, Stop}
-use Rattle.steps.specs.Trace.{Event, rec, text, bytesOf, textBytes, tapeBytes, Trace, eventsOf, endOf, one, fits, stepOf, Ran, From, Halts}
+use Rattle.steps.specs.Trace.{rec, text, bytesOf, textBytes, tapeBytes, Trace, eventsOf, endOf, one, fits, stepOf, Ran, From, Halts}
 use Rattle.steps.specs.Leaves.{decodedBy, traceOf}
 use Rattle.steps.proofs.Runs.{next-stop, from-next, halted}
 

@@ -3,7 +3,6 @@ use mathlib.Core.Bool.{Bool, true, false, cond}
 use mathlib.Core.List.{List}
 use Prim.Native.Nat.{ℕ}
 use lib.ListN.{take}
-use lib.Ieee.{Float}
 use Rattle.float.specs.Float.{realBits}
 use Rattle.float.specs.declared.Real.the-variants as real
 use Rattle.utf_16.specs.Decode as utf16

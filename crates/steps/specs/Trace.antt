@@ -1,7 +1,7 @@
 -- A trace: what a read emits, up to its end or its first refusal. It knows of no buffer.
 -- `Ran` says what a trace does to a tape and a text buffer, from some places on. Assumes nothing.
 use mathlib.Core.Path.{_≡_}
-use mathlib.Core.Bool.{Bool, true, false, cond, _&&_}
+use mathlib.Core.Bool.{Bool, cond, _&&_}
 use mathlib.Core.List.{List, [], _∷_, _++_}
 use Prim.Native.Nat.{ℕ, _+_}
 use lib.ListN.{length}

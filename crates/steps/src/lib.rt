@@ -18,6 +18,13 @@ pub enum Step {
     Stop(u8, u32),
 }
 
+// What a read answers: the number of records and of text bytes; or document 01's number, with the block that 7 carries.
+pub enum ReadAnswer {
+    Done(usize, usize),
+    NotFound(u32),
+    Refused(u8),
+}
+
 // A refusal, after a step: an earlier one is handed on.
 pub fn stop(s: Step, n: u8, b: u32) -> Step
     ensures { λ r. ⌜ Halts s n b r ⌝ }

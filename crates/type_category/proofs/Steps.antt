@@ -1,6 +1,6 @@
 -- What each return of type_category.rt answers, where the tests have led, one law for each. Assumes nothing.
-use mathlib.Core.Path.{_≡_, refl, sym, ap, _∙_}
-use mathlib.Core.Bool.{Bool, true, false, cond, not, _&&_, _||_}
+use mathlib.Core.Path.{_≡_, refl, sym, _∙_}
+use mathlib.Core.Bool.{Bool, true, false, _&&_, _||_}
 use mathlib.Core.List.{List, [], _∷_}
 use Prim.Native.Nat.{ℕ, _+_, _*_, _%_, _≤_, _<_}
 use native.Mathlib.Omega.{arith}
@@ -15,7 +15,7 @@ use Rattle.type_category.specs.declared.type_category.AdsTypeCategory.th
 use Rattle.type_category.specs.declared.type_category.Step.{Step}
 use Rattle.type_category.specs.declared.type_category.Step.the-variants.{Is, Next}
 use Rattle.type_category.specs.Text.{ascii, isOneOf, startsWith, contains}
-use Rattle.type_category.specs.Category.{isPointerName, isPointer, isReference, isArray, isEnum, isSubRangeName, isAlias, idStep, orElse, timeNames, pointerSizedNames, isPrimitiveName, isUnion, methodsCategory, fieldsCategory, isEmptyStruct, bareCategory, sizeCategory, complexCategory, simpleCategory, categoryOf}
+use Rattle.type_category.specs.Category.{isPointerName, isPointer, isReference, isSubRangeName, isAlias, idStep, orElse, timeNames, pointerSizedNames, isPrimitiveName, isUnion, methodsCategory, fieldsCategory, isEmptyStruct, bareCategory, sizeCategory, complexCategory, simpleCategory, categoryOf}
 
 and-true : (t : Bool) → t && true ≡ t
 and-true true = refl

@@ -1,8 +1,8 @@
 -- The tests on names: each loop keeps that the whole is what is left. Assumes nothing.
-use mathlib.Core.Path.{_≡_, refl, sym, ap, _∙_}
+use mathlib.Core.Path.{_≡_, refl, sym, _∙_}
 use mathlib.Core.Bool.{Bool, true, false, _&&_, _||_}
 use mathlib.Core.List.{List, [], _∷_}
-use Prim.Native.Nat.{ℕ, zero, suc, _+_, _-_, _≤_, _<_, min}
+use Prim.Native.Nat.{ℕ, _+_, _-_, _≤_, _<_}
 use native.Mathlib.Nat.{sub-zero, le-refl}
 use native.Mathlib.Omega.{arith}
 use native.Mathlib.Numerals.{add-one}
@@ -11,7 +11,7 @@ use lib.Seq.{drop-cons, take-all}
 use lib.Dec.{eqb}
 use borrow.Author.Tests.{eq-eqb, ne-eqb}
 use Rattle.typebook.specs.Book.{sameName}
-use Rattle.type_category.specs.Text.{startsWith, contains, isOneOf}
+use Rattle.type_category.specs.Text.{startsWith, contains}
 use Rattle.typebook.proofs.Names.{same-lengths}
 
 pub starts-short : (name start : List ℕ) → length name < length start → false ≡ startsWith name start

@@ -1,6 +1,6 @@
 -- The category of a type: `AdsTypeCategory::determine` of the Rust, on block n of a type book. The first test that holds
 -- decides, in the Rust's order. Nothing here looks at the block's kind. Assumes nothing.
-use mathlib.Core.Bool.{Bool, true, false, cond, not, _&&_, _||_}
+use mathlib.Core.Bool.{Bool, cond, not, _&&_, _||_}
 use mathlib.Core.List.{List, [], _∷_}
 use Prim.Native.Nat.{ℕ, _+_, _%_}
 use lib.ListN.{length}

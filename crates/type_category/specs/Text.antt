@@ -1,5 +1,5 @@
 -- Tests on a name, as the Rust's `==`, `starts_with` and `contains` make them. A name is the list of its bytes. Assumes nothing.
-use mathlib.Core.Bool.{Bool, true, false, _||_}
+use mathlib.Core.Bool.{Bool, false, _||_}
 use mathlib.Core.List.{List, [], _∷_}
 use Prim.Native.Nat.{ℕ}
 use Prim.Native.Char.{code}

@@ -11,7 +11,7 @@ use crate::lent;
 use crate::lent::FILL;
 use crate::lent::put_bytes_are;
 use crate::packing::put_packed;
-use de::deserializer::ReadAnswer;
+use steps::ReadAnswer;
 
 // The bytes of n records, of which a tape has at most 2,730.
 fn bytes_of(n: usize) -> usize {

@@ -49,12 +49,8 @@ use Rattle.type_category.proofs.type_category.AdsTypeCategory.determine.Reads a
 use Rattle.typebook.proofs.block.count.Reads as count-reads
 use Rattle.typebook.proofs.block.fields.Reads as fields-reads
 use Rattle.typebook.proofs.block.size.Reads as size-reads
-use Rattle.de.proofs.+array_access-array+array_access-dimension+array_access-element+array_access-elements+deserializer-value+map_access-map+map_access-member+map_access-members.{
-  statement,
-}
-use Rattle.de.proofs.+array_access-array+array_access-dimension+array_access-element+array_access-elements+deserializer-value+map_access-map+map_access-member+map_access-members.Tie.{
-  close,
-}
+use Rattle.de.proofs.+array_access-array+array_access-dimension+array_access-element+array_access-elements+deserializer-value+map_access-map+map_access-member+map_access-members.{statement}
+use Rattle.de.proofs.+array_access-array+array_access-dimension+array_access-element+array_access-elements+deserializer-value+map_access-map+map_access-member+map_access-members.Tie.{close}
 
 ruleset value-exits = (value-deep, value-map, value-array, value-leaf)
 

@@ -1,6 +1,5 @@
 use borrow.Author.Needs.{needs}
-use Prim.Native.Nat.{_≤_, _-_, _<_}
-use Rattle.typebook.specs.Book.{dimensionsOf}
+use Prim.Native.Nat.{_-_, _<_}
 use Rattle.de.proofs.Products.{Multiplied, multiplied-start, multiplied-again, multiplied-small, multiplied-end}
 use Rattle.de.proofs.array_access.product_is.Statement.{statement}
 use Rattle.de.proofs.array_access.product_is.Tie as tie

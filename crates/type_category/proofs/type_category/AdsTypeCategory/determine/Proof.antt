@@ -1,8 +1,6 @@
 use Rattle.type_category.proofs.Steps.{pointer-flag, pointer-name, reference-flag, reference-name, array-is, enum-is, range-is, simple-is}
 use borrow.Author.Needs.{needs}
-use Rattle.type_category.proofs.type_category.AdsTypeCategory.determine.Statement.{
-  statement,
-}
+use Rattle.type_category.proofs.type_category.AdsTypeCategory.determine.Statement.{statement}
 use Rattle.type_category.proofs.type_category.AdsTypeCategory.determine.Tie as tie
 
 ruleset exits = (pointer-flag, pointer-name, reference-flag, reference-name, array-is, enum-is, range-is, simple-is)
