@@ -46,6 +46,7 @@ abbrev pub appendedValues : Appended → List ℕ
 appendedValues (appended.Done n) = n ∷ []
 appendedValues (appended.Refused n) = []
 
+-- r is the number of what appending answers, and `after` is the array `before` with its values laid over it
 abbrev pub AppendedAs : Appended → List ℕ → ℕ → List ℕ → Type 0
 AppendedAs x before r after = Gives (appendedRefusal x) (appendedValues x) before r after
 
@@ -57,6 +58,7 @@ resolvedValues (resolved.Base b) = b ∷ []
 resolvedValues (resolved.Lacks b) = b ∷ []
 resolvedValues resolved.Endless = []
 
+-- r is the number of what a chain comes to, and `after` is the array `before` with its values laid over it
 abbrev pub ResolvedAs : Resolved → List ℕ → ℕ → List ℕ → Type 0
 ResolvedAs x before r after = Gives (resolvedRefusal x) (resolvedValues x) before r after
 
@@ -66,6 +68,7 @@ resolutionValues (resolution.Block b) = b ∷ []
 resolutionValues (resolution.NotFound b) = b ∷ []
 resolutionValues (resolution.Refused n) = []
 
+-- r is the number of what `resolve_alias` or `resolve_indirection` answers, and `after` is the array `before` with its values laid over it
 abbrev pub ResolutionAs : Resolution → List ℕ → ℕ → List ℕ → Type 0
 ResolutionAs x before r after = Gives (resolutionRefusal x) (resolutionValues x) before r after
 
@@ -75,6 +78,7 @@ fieldsValues (fields.Done n) = n ∷ []
 fieldsValues (fields.NotFound b) = b ∷ []
 fieldsValues (fields.Refused n) = []
 
+-- r is the number of what `resolve_fields` answers, and `after` is the array `before` with its values laid over it
 abbrev pub FieldsAs : FieldsAnswer → List ℕ → ℕ → List ℕ → Type 0
 FieldsAs x before r after = Gives (fieldsRefusal x) (fieldsValues x) before r after
 
@@ -87,6 +91,7 @@ rmwValues rmw.No = 0 ∷ []
 rmwValues (rmw.NotFound b) = b ∷ []
 rmwValues (rmw.Refused n) = []
 
+-- r is the number of what read-modify-write answers, and `after` is the array `before` with its values laid over it
 abbrev pub RmwAs : Rmw → List ℕ → ℕ → List ℕ → Type 0
 RmwAs x before r after = Gives (rmwRefusal x) (rmwValues x) before r after
 
@@ -95,6 +100,7 @@ abbrev pub missingValues : Missing → List ℕ
 missingValues (missing.Listed n whole count) = n ∷ truthNumber whole ∷ count ∷ []
 missingValues (missing.Refused n) = []
 
+-- r is the number of what `missing_types` answers, and `after` is the array `before` with its values laid over it
 abbrev pub MissingAs : Missing → List ℕ → ℕ → List ℕ → Type 0
 MissingAs x before r after = Gives (missingRefusal x) (missingValues x) before r after
 
@@ -112,5 +118,6 @@ readValues (reading.Done n m) = n ∷ m ∷ []
 readValues (reading.NotFound b) = b ∷ []
 readValues (reading.Refused n) = []
 
+-- r is the number of what a read answers, and `after` is the array `before` with its values laid over it
 abbrev pub ReadAs : ReadAnswer → List ℕ → ℕ → List ℕ → Type 0
 ReadAs x before r after = Gives (readRefusal x) (readValues x) before r after

@@ -25,6 +25,7 @@ unfoldable pub every : (ℕ → Bool) → List ℕ → Bool
 every p [] = true
 every p (x ∷ xs) = p x && every p xs
 
+-- a byte is 0
 abbrev pub isZero : ℕ → Bool
 isZero x = eqb x 0
 

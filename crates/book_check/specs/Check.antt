@@ -19,10 +19,11 @@ use Rattle.book_check.specs.declared.RootCheck.the-variants.{Root, Refus
 unfoldable pub sizeRight : ℕ → ℕ → Bool
 sizeRight room len = leb len room && (ltb 0 len && (eqb (len % 512) 0 && leb (len / 512) 65536))
 
--- 2: every block holds its sum
+-- block n holds its sum
 unfoldable pub sumAt : List ℕ → ℕ → Bool
 sumAt book n = sumRight (blockOf book n)
 
+-- 2: every block of the book holds its sum
 abbrev pub sums : List ℕ → Bool
 sums book = allFrom (sumAt book) 0 (blocks book)
 
@@ -32,6 +33,7 @@ placeOf book n (suc f) e = cond (fieldForm (blockOf book n)) (Next f e) Wrong
 placeOf book n zero (suc e) = cond (entryForm (blockOf book n)) (Next zero e) Wrong
 placeOf book n zero zero = cond (typeForm (blockOf book n)) (Next (fieldsOf book n) (entriesOf book n)) Wrong
 
+-- what `go` says of the fields and entries due after a block; after a block that is not of its place, false
 unfoldable pub onward : (ℕ → ℕ → Bool) → Place → Bool
 onward go (Next f e) = go f e
 onward go Wrong = false
@@ -41,13 +43,15 @@ unfoldable pub placedFrom : List ℕ → ℕ → ℕ → ℕ → ℕ → Bool
 placedFrom book n zero f e = eqb f 0 && eqb e 0
 placedFrom book n (suc k) f e = onward (placedFrom book (n + 1) k) (placeOf book n f e)
 
+-- 3: all blocks of the book have the form of their places, and nothing is due before the first or after the last
 abbrev pub placed : List ℕ → Bool
 placed book = placedFrom book 0 (blocks book) 0 0
 
--- all of 1 before all of 2, all of 2 before all of 3, all of 3 before 4, which is `distinct`: no two types of one name
+-- 2 to 4 of a book: all of 2 before all of 3, all of 3 before 4, which is `distinct`: no two types of one name
 unfoldable pub checkBlocks : List ℕ → BookCheck
 checkBlocks book = cond (sums book) (cond (placed book) (cond (distinct book) Valid Doubled) Form) Sum
 
+-- the book in the first `len` bytes of a buffer: 1 before 2 to 4
 unfoldable pub checkBook : List ℕ → ℕ → BookCheck
 checkBook buffer len = cond (sizeRight (length buffer) len) (checkBlocks (take len buffer)) Size
 

@@ -8,6 +8,7 @@ use Rattle.number.specs.Le.{leBytes}
 abbrev pub padded : ℕ → List ℕ → List ℕ
 padded n bytes = bytes ++ replicate (n - length bytes) 0
 
+-- the sum of a list of bytes
 unfoldable pub sumOf : List ℕ → ℕ
 sumOf [] = 0
 sumOf (b ∷ bs) = b + sumOf bs

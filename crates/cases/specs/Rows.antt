@@ -25,10 +25,12 @@ use Rattle.walks.specs.declared.Rmw.{Rmw}
 use Rattle.walks.specs.declared.Rmw.the-variants as rmw
 use Rattle.cases.specs.Blocks.{typeBlock, fieldBlock}
 
+-- a row of the table: what the definitions give, and what document 01 says, each as numbers
 pub record Row : Type 0 where
   pub got : List ℕ
   pub said : List ℕ
 
+-- the row of what is given, before `is`, and what is said, after it
 infix 4 _is_
 abbrev pub _is_ : List ℕ → List ℕ → Row
 g is s = record { got = g; said = s }
@@ -38,6 +40,7 @@ abbrev pub signed : ℤ → List ℕ
 signed (pos n) = 0 ∷ n ∷ []
 signed (negsuc n) = 1 ∷ suc n ∷ []
 
+-- whether a length fits some room: 1 with the length, or 0
 abbrev pub room : Room → List ℕ
 room (Fits n) = 1 ∷ n ∷ []
 room Over = 0 ∷ []
@@ -47,20 +50,23 @@ abbrev pub wideText : List ℕ → TextEnd → List ℕ
 wideText bytes (Terminated n) = utf16.decodeText (take n bytes)
 wideText bytes (Unterminated n) = utf16.decodeText (take n bytes)
 
--- U+0416 in UTF-8, and its decimal reference
+-- U+0416 in UTF-8
 abbrev pub zhe : List ℕ
 zhe = 0xd0 ∷ 0x96 ∷ []
 
--- the names INT, S, A, B
+-- the name INT
 abbrev pub int : List ℕ
 int = 0x49 ∷ 0x4e ∷ 0x54 ∷ []
 
+-- the name S
 abbrev pub s : List ℕ
 s = 0x53 ∷ []
 
+-- the name A
 abbrev pub a : List ℕ
 a = 0x41 ∷ []
 
+-- the name B
 abbrev pub b : List ℕ
 b = 0x42 ∷ []
 
@@ -81,7 +87,7 @@ needed rmw.No = 0 ∷ []
 needed (rmw.NotFound b) = 7 ∷ b ∷ []
 needed (rmw.Refused n) = n ∷ []
 
--- the names of a chain, each of one letter from `A` on
+-- name n of a chain, from 0 on: the one byte 41h + n
 abbrev pub link : ℕ → List ℕ
 link n = (0x41 + n) ∷ []
 
@@ -94,13 +100,15 @@ aliases n (suc k) = typeBlock 65 0 0 (link n) (link (suc n)) ++ aliases (suc n) 
 abbrev pub chain : ℕ → List ℕ
 chain k = aliases 0 k ++ typeBlock 2 2 0 (link k) []
 
--- a struct S of two fields; FB is a function block by its size; X is in no book here
+-- the name FB
 abbrev pub fb : List ℕ
 fb = 0x46 ∷ 0x42 ∷ []
 
+-- the name X, of which the books made by `structOf` and `twoAliases` have no type
 abbrev pub x : List ℕ
 x = 0x58 ∷ []
 
+-- the book of a struct S with two fields, whose types have the names given, and of FB, a function block by its size of 12
 abbrev pub structOf : List ℕ → List ℕ → List ℕ
 structOf first second = typeBlock 65 16 2 s [] ++ fieldBlock 0 4 a first ++ fieldBlock 4 12 b second ++ typeBlock 65 12 0 fb []
 
@@ -142,5 +150,6 @@ chains =
     ∷ (listed (walkOf twoAliases 8 0) is (4 ∷ 3 ∷ []))
     ∷ []
 
+-- all rows, for the cases that document 01 marks (P)
 abbrev pub rows : List Row
 rows = values ++ chains

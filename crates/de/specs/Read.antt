@@ -19,12 +19,13 @@ use Rattle.steps.specs.declared.ReadAnswer.the-variants.{Done, NotFound, Refuse
 use Rattle.steps.specs.Trace.{Trace, tapeBytes, textBytes, eventsOf, refuse, stepOf}
 use Rattle.de.specs.Walk.{Ctx, ctx, whole, walk}
 
--- the root's aliases are resolved first: 7 with its block, or 8; then its value, with 64 levels
+-- by what the root's aliases come to: its value, with 64 levels; or 7 with its block, or 8
 unfoldable pub rootBy : Ctx → List ℕ → Resolved → Trace
 rootBy c mem (resolved.Base t) = walk c 64 (whole t) mem
 rootBy c mem (resolved.Lacks b) = refuse 7 b
 rootBy c mem resolved.Endless = refuse 8 0
 
+-- what is read of root block n: its aliases are resolved first
 unfoldable pub rootTrace : Ctx → ℕ → List ℕ → Trace
 rootTrace c n mem = rootBy c mem (resolveAlias (c .book) (c .width) n)
 

@@ -28,6 +28,7 @@ pub record Ctx : Type 0 where
   pub book : List ℕ
   pub width : ℕ
 
+-- the `Ctx` of a book and a pointer width
 abbrev pub ctx : List ℕ → ℕ → Ctx
 ctx b w = record { book = b; width = w }
 
@@ -63,6 +64,7 @@ shapeOf category.Union = shape.Map
 shapeOf category.Reference = shape.Leaf
 shapeOf category.Interface = shape.Leaf
 
+-- how a value of type block t is read, by its category
 unfoldable pub shapeAt : Ctx → ℕ → Shape
 shapeAt c t = shapeOf (categoryOf (c .book) (c .width) t)
 
@@ -121,12 +123,13 @@ isLast book d t = leb (dimensionsOf book t) (d + 1)
 unfoldable pub elementItem : Ctx → ℕ → ℕ → ℕ → Item
 elementItem c d t e = cond (isLast (c .book) d t) (whole e) (further (d + 1) t e)
 
--- the fields of an element that has any, in the last dimension
+-- what the test of a type's fields gives, where it is read by its fields; else nothing is refused
 unfoldable pub shapeCheck : Shape → FieldsCheck → FieldsCheck
 shapeCheck shape.Map f = f
 shapeCheck shape.Array f = check.Fine
 shapeCheck shape.Leaf f = check.Fine
 
+-- the first refusal of the fields of array t's elements, of type e: looked for in the last dimension, where e is read by its fields
 unfoldable pub elementCheck : Ctx → ℕ → ℕ → ℕ → FieldsCheck
 elementCheck c d t e = cond (isLast (c .book) d t) (shapeCheck (shapeAt c e) (fieldsCheck (c .book) (c .width) e)) check.Fine
 
@@ -135,6 +138,7 @@ unfoldable pub elementsFrom : Child → Item → ℕ → List ℕ → ℕ → �
 elementsFrom child item stride mem from zero = one (rec 2 0 0 0)
 elementsFrom child item stride mem from (suc k) = child item (cut from stride mem) then elementsFrom child item stride mem (from + stride) k
 
+-- dimension d of array t: the array record with its count, its elements in order, the end record
 unfoldable pub elementsOf : Child → Ctx → ℕ → ℕ → ℕ → List ℕ → Trace
 elementsOf child c d t e mem =
     one (rec 1 0 (countOf (c .book) t d) 0) then elementsFrom child (elementItem c d t e) (strideOf (c .book) d t e) mem 0 (countOf (c .book) t d)
@@ -161,11 +165,13 @@ arrayOf child c t mem =
 
 -- ---- a value
 
+-- a value of resolved type t: by its fields, by its elements, or as a whole
 unfoldable pub shapeWalk : Child → Ctx → ℕ → List ℕ → Shape → Trace
 shapeWalk child c t mem shape.Map = mapOf child c t mem
 shapeWalk child c t mem shape.Array = arrayOf child c t mem
 shapeWalk child c t mem shape.Leaf = leafOf c t mem
 
+-- what some bytes hold: a value, read by its type's shape, or a further dimension of an array
 unfoldable pub itemWalk : Child → Ctx → Item → List ℕ → Trace
 itemWalk child c (whole t) mem = shapeWalk child c t mem (shapeAt c t)
 itemWalk child c (further d t e) mem = dimensionOf child c d t e mem

@@ -17,5 +17,6 @@ isOther book name n = not (isNamed book name n)
 unfoldable pub isFirst : List ℕ → ℕ → Bool
 isFirst book n = not (isType book n) || allFrom (isOther book (nameOf book n)) 0 n
 
+-- no two type blocks of the book have one name
 abbrev pub distinct : List ℕ → Bool
 distinct book = allFrom (isFirst book) 0 (blocks book)

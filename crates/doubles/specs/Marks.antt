@@ -14,9 +14,11 @@ unfoldable pub mixed : ℕ → List ℕ → ℕ
 mixed h [] = h
 mixed h (x ∷ xs) = mixed ((h + x) * 16777619 % 4294967296) xs
 
+-- the hash of a name, of 32 bits, from the offset basis of the Fowler-Noll-Vo hash on
 abbrev pub hashOf : List ℕ → ℕ
 hashOf name = mixed 2166136261 name
 
+-- bit s is set: the marks are numbers of 32 bits, the lowest bit first
 unfoldable pub bitOf : List ℕ → ℕ → Bool
 bitOf marks s = eqb (getD marks (s / 32) 0 / 2 ^ (s % 32) % 2) 1
 

@@ -69,5 +69,6 @@ unfoldable pub rootFields : List ℕ → ℕ → ℕ → ℕ → ℕ → FieldsA
 rootFields buffer len width root room =
     atRoot fields.Refused (λ t. fieldsAnswer (take len buffer) width t room) (checkRoot buffer len root)
 
+-- the records of the root block's fields, or none where 1 to 5 refuse
 unfoldable pub rootRecords : List ℕ → ℕ → ℕ → ℕ → List ℕ
 rootRecords buffer len width root = atRoot (λ n. []) (fieldRecords (take len buffer) width) (checkRoot buffer len root)

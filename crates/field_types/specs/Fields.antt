@@ -25,6 +25,7 @@ fieldOf book f n (Base u) =
 fieldOf book f n (Lacks c) = answer.Lacks c
 fieldOf book f n Endless = answer.Endless
 
+-- field block f, by what the look-up of its type name found; nothing is 7 with block f
 unfoldable pub fieldFound : List ℕ → ℕ → ℕ → Found → FieldAnswer
 fieldFound book width f (At n) = fieldOf book f n (resolveAlias book width n)
 fieldFound book width f Nothing = answer.Lacks f
@@ -33,6 +34,7 @@ fieldFound book width f Nothing = answer.Lacks f
 unfoldable pub resolveField : List ℕ → ℕ → ℕ → FieldAnswer
 resolveField book width f = fieldFound book width f (find book (typeNameOf book f))
 
+-- the answer of resolving field block f, whose resolved type is a type block where there is one
 pub record FieldResolved (book : List ℕ) (width f : ℕ) (r : FieldAnswer) : Type 0 where
   pub is : r ≡ resolveField book width f
   pub typed : (x : ResolvedField) → r ≡ answer.Field x → isType book (x .resolved) ≡ true

@@ -28,6 +28,7 @@ pub record PartGiven (book part : List ℕ) (start : ℕ) (before : List ℕ) (r
   pub gives : Gives 0 (placeOf book start ∷ length part ∷ []) before r after
   pub is : take (length part) (drop (placeOf book start) book) ≡ part
 
+-- what appending answers, as a number and values, and the buffer that it leaves
 pub record AppendGiven (buffer : List ℕ) (len : ℕ) (piece before : List ℕ) (r : ℕ) (buffer′ after : List ℕ) : Type 0 where
   pub answer : Appended
   pub by : AppendIs buffer len piece answer buffer′
@@ -44,6 +45,7 @@ pub record FieldsGiven (is : FieldsAnswer) (new records before : List ℕ) (r : 
   pub by : Filled is new records answer records′
   pub gives : FieldsAs answer before r after
 
+-- what read-modify-write answers for a root, as a number and values, and the scratch that it leaves
 pub record RmwGiven (buffer : List ℕ) (len width root : ℕ) (scratch before : List ℕ) (r : ℕ) (scratch′ after : List ℕ) : Type 0 where
   pub answer : Rmw
   pub by : RmwIs buffer len width root scratch answer scratch′
@@ -55,6 +57,7 @@ pub record RmwInGiven (fits : Bool) (book : List ℕ) (width root : ℕ) (scratc
   pub by : RmwIn fits book width root scratch answer scratch′
   pub gives : RmwAs answer before r after
 
+-- what `missing_types` answers for a root, as a number and values, and the scratch and the list that it leaves
 pub record MissingGiven (buffer : List ℕ) (len width root : ℕ) (scratch list before : List ℕ) (r : ℕ) (scratch′ list′ after : List ℕ) : Type 0 where
   pub answer : Missing
   pub by : MissingIs buffer len width root scratch list answer scratch′ list′

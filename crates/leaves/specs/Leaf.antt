@@ -54,12 +54,14 @@ kindOfLeaf category.Interface = kind.Pointer
 unfoldable pub boolLeaf : List ℕ → LeafValue
 boolLeaf mem = cond (eqb (length mem) 1) (leaf.Bool (not (eqb (getD mem 0 0) 0))) (leaf.Refused 10)
 
+-- a real as the value of a leaf: a NaN keeps its bit pattern
 abbrev pub realLeaf : Real → LeafValue
 realLeaf (real.Single x) = leaf.Single x
 realLeaf (real.Double x) = leaf.Double x
 realLeaf (real.NanSingle n) = leaf.NanSingle n
 realLeaf (real.NanDouble n) = leaf.NanDouble n
 
+-- an integer as the value of a leaf, with its width
 abbrev pub valueLeaf : Integer → LeafValue
 valueLeaf (integer.Signed w b) = leaf.Signed w b
 valueLeaf (integer.Unsigned w n) = leaf.Unsigned w n
@@ -70,6 +72,7 @@ integerLeaf (read.Value v) = valueLeaf v
 integerLeaf read.Size = leaf.Refused 10
 integerLeaf read.Unsupported = leaf.Refused 11
 
+-- a real's value, or 10 for another size; the other answer for an id that is no real's
 abbrev pub realOr : RealRead → LeafValue → LeafValue
 realOr (realRead.Value v) other = realLeaf v
 realOr realRead.Size other = leaf.Refused 10
@@ -111,6 +114,7 @@ unlisted (read.Value v) = leaf.Refused 12
 unlisted read.Size = leaf.Refused 10
 unlisted read.Unsupported = leaf.Refused 11
 
+-- the entry that was found, else the other answer
 abbrev pub entryOr : Found → LeafValue → LeafValue
 entryOr (At n) other = leaf.Entry n
 entryOr Nothing other = other
@@ -122,6 +126,7 @@ enumLeaf book t mem =
     (entryOr (entryFrom book mem (t + 1 + fieldsOf book t) (entriesOf book t)) (unlisted (readInteger (idOf (typeIdOf book t)) mem)))
     (leaf.Refused 10)
 
+-- the value of resolved type t in some bytes, by how it is read; what is no leaf is 11
 unfoldable pub leafBy : List ℕ → ℕ → ℕ → List ℕ → LeafKind → LeafValue
 leafBy book width t mem kind.Number = numberLeaf book t mem
 leafBy book width t mem kind.Text = textLeaf book t mem

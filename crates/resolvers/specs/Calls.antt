@@ -25,11 +25,13 @@ atRoot refuse go (checked.Refused n) = refuse n
 
 -- ---- resolve_alias, resolve_indirection
 
+-- what a chain comes to, as a call answers it: the block, 7 with its block, or 8
 unfoldable pub resolution : Resolved → Resolution
 resolution (resolved.Base u) = Block u
 resolution (resolved.Lacks c) = NotFound c
 resolution resolved.Endless = Refused 8
 
+-- the root with aliases resolved, and references too where they are followed: 1 to 5 first, then 7 or 8
 unfoldable pub rootResolution : Bool → List ℕ → ℕ → ℕ → ℕ → Resolution
 rootResolution references buffer len width root =
     atRoot Refused (λ t. resolution (resolveType references (take len buffer) width t)) (checkRoot buffer len root)

@@ -75,6 +75,7 @@ pub record ResolvedIs (book : List ℕ) (answer r : Resolved) : Type 0 where
   pub is : r ≡ answer
   pub typed : (u : ℕ) → r ≡ Base u → isType book u ≡ true
 
+-- what block b's type name comes to, which is a type block where it is a block
 pub record LookedUp (book : List ℕ) (width b : ℕ) (r : Resolved) : Type 0 where
   pub is : r ≡ lookUp book width b
   pub typed : (u : ℕ) → r ≡ Base u → isType book u ≡ true

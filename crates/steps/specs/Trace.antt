@@ -31,6 +31,7 @@ tapeBytes from [] = []
 tapeBytes from (rec k w a b ∷ es) = bytesOf k w a b ++ tapeBytes from es
 tapeBytes from (text xs ∷ es) = bytesOf 11 0 from (length xs) ++ tapeBytes (from + length xs) es
 
+-- what is emitted up to the end; or up to a refusal, with document 01's number and the block that 7 carries (else 0)
 pub data Trace : Type 0 where
   done : List Event → Trace
   stop : List Event → ℕ → ℕ → Trace
@@ -45,9 +46,11 @@ unfoldable pub endOf : Trace → ℕ → ℕ → Step
 endOf (done es) at from = Next (at + length (tapeBytes from es)) (from + length (textBytes es))
 endOf (stop es n b) at from = Stop n b
 
+-- a trace of one event, without a refusal
 abbrev pub one : Event → Trace
 one e = done (e ∷ [])
 
+-- a refusal before any event: its number, and the block that 7 carries (else 0)
 abbrev pub refuse : ℕ → ℕ → Trace
 refuse n b = stop [] n b
 

@@ -21,6 +21,7 @@ rmwRefusal rmw.No = 0
 rmwRefusal (rmw.NotFound b) = 7
 rmwRefusal (rmw.Refused n) = n
 
+-- document 01's number of what `missing_types` answers, 0 where nothing is refused
 abbrev pub missingRefusal : Missing → ℕ
 missingRefusal (missing.Listed n w c) = 0
 missingRefusal (missing.Refused n) = n

@@ -36,7 +36,7 @@ pub record Left (book : List ℕ) (width : ℕ) (sc ls : List ℕ) (left depth :
   pub valid : ValidBook book
   pub parts : (b : ℕ) → List·Memᴰ b (stackOf sc depth) → isPart book b ≡ true
 
--- an event of a walk, and what is left to walk after it
+-- the walk w meets a name that comes to type block t, of category c; the rest of w is what is left to walk
 pub record AfterNew (book : List ℕ) (width : ℕ) (sc ls : List ℕ) (left t depth : ℕ) (c : AdsTypeCategory) (w : Walk) : Type 0 where
   pub kind : c ≡ categoryOf book width t
   pub by : ℕ
@@ -45,6 +45,7 @@ pub record AfterNew (book : List ℕ) (width : ℕ) (sc ls : List ℕ) (left t d
   pub is : w ≡ met by name (Base t) next
   pub left-over : Left book width sc ls left depth next
 
+-- the walk w meets a name that comes to nothing at block b, whose type name is not in the book; its rest is left to walk, with b listed
 pub record AfterLacking (book : List ℕ) (width : ℕ) (sc ls : List ℕ) (left b depth : ℕ) (w : Walk) : Type 0 where
   pub by : ℕ
   pub name : List ℕ
@@ -52,6 +53,7 @@ pub record AfterLacking (book : List ℕ) (width : ℕ) (sc ls : List ℕ) (left
   pub is : w ≡ met by name (Lacks b) next
   pub left-over : Left book width sc (ls ++ (b ∷ [])) left depth next
 
+-- the walk w meets a name whose alias chain is too long; the rest of w is what is left to walk
 pub record AfterLong (book : List ℕ) (width : ℕ) (sc ls : List ℕ) (left depth : ℕ) (w : Walk) : Type 0 where
   pub by : ℕ
   pub name : List ℕ

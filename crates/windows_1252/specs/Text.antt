@@ -18,6 +18,7 @@ unfoldable pub endFrom : ℕ → List ℕ → TextEnd
 endFrom n [] = Unterminated n
 endFrom n (b ∷ bs) = cond (eqb b 0) (Terminated n) (endFrom (n + 1) bs)
 
+-- where the text of a STRING ends: before its first zero byte, else with the memory
 abbrev pub stringEnd : List ℕ → TextEnd
 stringEnd bytes = endFrom 0 bytes
 
