@@ -116,7 +116,7 @@ structOf first second = typeBlock 65 16 2 s [] ++ fieldBlock 0 4 a first ++ fiel
 abbrev pub twoAliases : List ℕ
 twoAliases = typeBlock 65 16 2 s [] ++ fieldBlock 0 4 a a ++ fieldBlock 4 12 b b ++ typeBlock 65 0 0 a x ++ typeBlock 65 0 0 b x
 
--- layers 1 and 2
+-- the rows on integers, texts and categories (layers 1 and 2)
 unfoldable pub values : List Row
 values =
     -- integer/mod.rs: Int8 80h is −128; Int16 00h 80h is −32,768; FFh 7Fh is 32,767
@@ -136,7 +136,7 @@ values =
     ∷ ((placeOf (categoryOf (twoFields 4 8) 8 0) ∷ []) is (placeOf category.FunctionBlock ∷ []))
     ∷ []
 
--- resolvers.rs and its walks
+-- the rows on alias chains and on the two walks (resolvers.rs)
 abbrev pub chains : List Row
 chains =
     -- resolvers.rs: INT with type name INT answers 8; 31 hops resolve; 32 answer 8, but 7 if the 32nd target is missing

@@ -51,6 +51,6 @@ Settled book width sc depth t (New u d c) sc′ = Expanded book width sc depth t
 Settled book width sc depth t (Long d) sc′ = Unending book width sc depth t d sc′
 Settled book width sc depth t Full sc′ = ⊥
 
--- a record, so that `search` takes it as it stands
+-- `Settled` of the event r, as a record, which `search` takes as it stands
 pub record Settles (book : List ℕ) (width : ℕ) (sc : List ℕ) (depth t : ℕ) (r : Event) (sc′ : List ℕ) : Type 0 where
   pub so : Settled book width sc depth t r sc′

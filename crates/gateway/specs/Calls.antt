@@ -39,7 +39,7 @@ pub record ChainGiven (book : List ℕ) (answer : Resolved) (before : List ℕ) 
   pub gives : ResolvedAs answer before r after
   pub typed : (u : ℕ) → answer ≡ Base u → isType book u ≡ true
 
--- the records `new` of the fields in the lent slice
+-- the answer `is` of `resolve_fields`, as a number and values, and the lent slice that it leaves, with the records `new` in a success
 pub record FieldsGiven (is : FieldsAnswer) (new records before : List ℕ) (r : ℕ) (records′ after : List ℕ) : Type 0 where
   pub answer : FieldsAnswer
   pub by : Filled is new records answer records′
@@ -69,7 +69,7 @@ pub record MissingInGiven (fits : Bool) (book : List ℕ) (width root : ℕ) (sc
   pub by : MissingIn fits book width root scratch list answer scratch′ list′
   pub gives : MissingAs answer before r after
 
--- what is read is a trace of the walk below it
+-- what a read of the trace answers, as a number and values, and the tape and the text that it leaves
 pub record ReadGiven (trace : Trace) (tape text before : List ℕ) (r : ℕ) (tape′ text′ after : List ℕ) : Type 0 where
   pub answer : ReadAnswer
   pub by : ReadIs trace tape text answer tape′ text′

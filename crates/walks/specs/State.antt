@@ -100,7 +100,7 @@ Due left (New t d c) = 0 < left
 Due left (Long d) = 0 < left
 Due left Full = left ≡ 0
 
--- a record, so that `search` takes it as it stands
+-- `Due` of an event, as a record, which `search` takes as it stands
 pub record IsDue (left : ℕ) (e : Event) : Type 0 where
   pub due : Due left e
 
@@ -188,6 +188,6 @@ pub record Decided (e : Event) (left : ℕ) (r : TurnRmw) : Type 0 where
   pub goes : (book : List ℕ) (width : ℕ) (all : Walk) (sc : List ℕ) (w : Walk) → rmwOf book width all ≡ rmwOf book width w → After book width sc [] left w e → ThenRmw book width all sc r
   pub falls : (sc : List ℕ) (m : ℕ) → Falls sc left m e → workRmw sc r < 1 + m
 
--- a record, so that `search` takes it as it stands
+-- `ThenRmw` of a state of the loop, as a record, which `search` takes as it stands
 pub record HereRmw (book : List ℕ) (width : ℕ) (all : Walk) (sc : List ℕ) (r : TurnRmw) : Type 0 where
   pub so : ThenRmw book width all sc r
