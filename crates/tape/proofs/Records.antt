@@ -33,12 +33,17 @@ module _ (tape : List ℕ) (at : ℕ) where
       let k : length tape - at < 24 = simp length-drop at (rw (rest-is tape at) at l) in
       rw (lt-leb (at + 24) (length tape) (omega arith))
 
-  pub step-whole : (a b : ℕ) → at ≤ length tape → 24 ≤ length (restOf tape at) → a ≡ leValue (take 8 (restOf (restOf tape at) 8)) → b ≡ leValue (take 8 (restOf (restOf tape at) 16))
-      → step.Record (record { kind = getD (restOf tape at) 0 0; width = getD (restOf tape at) 1 0; a = a; b = b }) (record { at = at + 24 }) ≡ stepAt tape at
-  unfolding stepAt recordOf
-  step-whole a b h l ea eb =
+  pub step-whole : (r : Record) → at ≤ length tape → 24 ≤ length (restOf tape at) → r ≡ recordOf (restOf tape at) → step.Record r (record { at = at + 24 }) ≡ stepAt tape at
+  unfolding stepAt
+  step-whole r h l e =
       let k : 24 ≤ length tape - at = simp length-drop at (rw (rest-is tape at) at l) in
-      rw (le-leb (at + 24) (length tape) (omega arith), ea, eb, rest-is (restOf tape at) 8, rest-is (restOf tape at) 16, rest-is tape at)
+      rw (le-leb (at + 24) (length tape) (omega arith), e, rest-is tape at)
+
+-- a record taken apart: its first two bytes, and the numbers from bytes 8 and 16 on
+pub record-taken : (bytes : List ℕ) (a b : ℕ) → a ≡ leValue (take 8 (restOf bytes 8)) → b ≡ leValue (take 8 (restOf bytes 16))
+    → record { kind = getD bytes 0 0; width = getD bytes 1 0; a = a; b = b } ≡ recordOf bytes
+unfolding recordOf
+record-taken bytes a b ea eb = rw (ea, eb, rest-is bytes 8, rest-is bytes 16)
 
 pub length-record : (r : Record) → length (recordBytes r) ≡ 24
 unfolding recordBytes leBytes

@@ -3,7 +3,8 @@ ghost use mathlib.Core.Path.{_≡_};
 ghost use Prim.Native.Nat.{_+_, _≤_};
 ghost use lib.ListN.{length};
 ghost use Rattle.utf_8.specs.Buffer.{Wrote, splice};
-ghost use Rattle.tape.specs.Record.{recordBytes};
+ghost use Rattle.tape.specs.Record.{recordBytes, recordOf};
+use number::le::le_value;
 use utf_8::Put;
 
 pub const LENGTH: usize = 24;
@@ -89,6 +90,19 @@ fn to_bytes(r: Record) -> [u8; 24]
         (b6 % 256) as u8,
         (b7 % 256) as u8,
     ]
+}
+
+// The record that some bytes begin with: what `to_bytes` makes, taken apart.
+pub(crate) fn from_bytes(bytes: &[u8]) -> Record
+    requires { ⌜ 24 ≤ length (now bytes) ⌝ }
+    ensures { λ r. ⌜ r ≡ recordOf (now (bytes .entry)) ⌝ }
+{
+    Record {
+        kind: bytes[0],
+        width: bytes[1],
+        a: le_value(&bytes[8..]),
+        b: le_value(&bytes[16..]),
+    }
 }
 
 // Copies a record's bytes to a place where they fit.

@@ -4,58 +4,39 @@ use Rattle.tape.proofs.cursor.Cursor.next.Statement.{statement}
 use Rattle.tape.proofs.cursor.Cursor.next.Tie as tie
 use Rattle.tape.proofs.cursor.Cursor.next.Reads as reads
 use Rattle.tape.proofs.cursor.Cursor.next.Lts as lts
-use Rattle.number.proofs.le.le_value.Reads as le-value-reads
+use Rattle.tape.proofs.record.from_bytes.Reads as from-bytes-reads
 
 ruleset exits = (step-past, step-short, step-whole)
 
+-- src/cursor.rt:30:13
 returns : tie.Need-returns
 returns c = search exits
 
+-- src/cursor.rt:32:20
 sub-rest : tie.Need-sub-rest
 sub-rest c = search needs
 
+-- src/cursor.rt:32:20
 part-rest-start : tie.Need-part-rest-start
 part-rest-start c = search needs
 
+-- src/cursor.rt:32:20
 part-rest-end : tie.Need-part-rest-end
 part-rest-end c = search needs
 
+-- src/cursor.rt:34:13
 returns-2 : tie.Need-returns-2
 returns-2 c = search exits
 
-shared-slice-read-t10 : tie.Need-shared-slice-read-t10
-shared-slice-read-t10 c = search needs
+-- src/cursor.rt:36:22
+from-bytes-requires : tie.Need-from-bytes-requires
+from-bytes-requires c κs = search needs
 
-shared-slice-read-t12 : tie.Need-shared-slice-read-t12
-shared-slice-read-t12 c = search needs
+-- src/cursor.rt:36:53
+add-t5 : tie.Need-add-t5
+add-t5 c = search needs
 
-sub-le-value : tie.Need-sub-le-value
-sub-le-value c = search needs
-
-part-le-value-start : tie.Need-part-le-value-start
-part-le-value-start c = search needs
-
-part-le-value-end : tie.Need-part-le-value-end
-part-le-value-end c = search needs
-
-le-value-requires : tie.Need-le-value-requires
-le-value-requires c κs = search needs
-
-sub-le-value-2 : tie.Need-sub-le-value-2
-sub-le-value-2 c = search needs
-
-part-le-value-start-2 : tie.Need-part-le-value-start-2
-part-le-value-start-2 c = search needs
-
-part-le-value-end-2 : tie.Need-part-le-value-end-2
-part-le-value-end-2 c = search needs
-
-le-value-requires-2 : tie.Need-le-value-requires-2
-le-value-requires-2 c κs = search needs
-
-add-t23 : tie.Need-add-t23
-add-t23 c = search needs
-
+-- src/cursor.rt:25:5
 returns-3 : tie.Need-returns-3
 returns-3 c = search exits
 
@@ -68,15 +49,6 @@ next-spec =
     part-rest-start
     part-rest-end
     returns-2
-    shared-slice-read-t10
-    shared-slice-read-t12
-    sub-le-value
-    part-le-value-start
-    part-le-value-end
-    le-value-requires
-    sub-le-value-2
-    part-le-value-start-2
-    part-le-value-end-2
-    le-value-requires-2
-    add-t23
+    from-bytes-requires
+    add-t5
     returns-3)

@@ -1,0 +1,2 @@
+use Rattle.tape.proofs.Records.{record-taken}
+returns.* => search record-taken
