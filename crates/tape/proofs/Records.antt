@@ -1,6 +1,6 @@
 -- A record's bytes, taken apart and stored. Assumes nothing.
 use mathlib.Core.Path.{_≡_, refl, _∙_}
-use mathlib.Core.List.{List}
+use mathlib.Core.List.{List, [], _∷_}
 use Prim.Native.Nat.{ℕ, _+_, _-_, _≤_, _<_}
 use native.Mathlib.Omega.{arith}
 use native.Mathlib.Numerals.{add-one}
@@ -44,6 +44,12 @@ pub record-taken : (bytes : List ℕ) (a b : ℕ) → a ≡ leValue (take 8 (res
     → record { kind = getD bytes 0 0; width = getD bytes 1 0; a = a; b = b } ≡ recordOf bytes
 unfolding recordOf
 record-taken bytes a b ea eb = rw (ea, eb, rest-is bytes 8, rest-is bytes 16)
+
+-- a record put together: kind, width, six zeros and the bytes of two numbers
+pub record-made : (r : Record) (a b : List ℕ) → a ≡ leBytes 8 (r .a) → b ≡ leBytes 8 (r .b)
+    → r .kind ∷ r .width ∷ 0 ∷ 0 ∷ 0 ∷ 0 ∷ 0 ∷ 0 ∷ getD a 0 0 ∷ getD a 1 0 ∷ getD a 2 0 ∷ getD a 3 0 ∷ getD a 4 0 ∷ getD a 5 0 ∷ getD a 6 0 ∷ getD a 7 0 ∷ getD b 0 0 ∷ getD b 1 0 ∷ getD b 2 0 ∷ getD b 3 0 ∷ getD b 4 0 ∷ getD b 5 0 ∷ getD b 6 0 ∷ getD b 7 0 ∷ [] ≡ recordBytes r
+unfolding recordBytes leBytes
+record-made r a b ea eb = rw (ea, eb)
 
 pub length-record : (r : Record) → length (recordBytes r) ≡ 24
 unfolding recordBytes leBytes

@@ -2,6 +2,7 @@
 ghost use mathlib.Core.Path.{_≡_};
 ghost use Prim.Native.Nat.{_+_, _≤_};
 ghost use lib.ListN.{length};
+ghost use Rattle.number.specs.Le.{leBytes};
 ghost use Rattle.utf_8.specs.Buffer.{Wrote, splice};
 ghost use Rattle.tape.specs.Record.{recordBytes, recordOf};
 use number::le::le_value;
@@ -44,26 +45,35 @@ pub struct Record {
     pub b: u64,
 }
 
+// The eight bytes of a number, the lowest first.
+fn le_bytes(n: u64) -> [u8; 8]
+    ensures { λ bytes. ⌜ bytes ≡ leBytes 8 n ⌝ }
+{
+    let n1 = n / 256;
+    let n2 = n1 / 256;
+    let n3 = n2 / 256;
+    let n4 = n3 / 256;
+    let n5 = n4 / 256;
+    let n6 = n5 / 256;
+    let n7 = n6 / 256;
+    [
+        (n % 256) as u8,
+        (n1 % 256) as u8,
+        (n2 % 256) as u8,
+        (n3 % 256) as u8,
+        (n4 % 256) as u8,
+        (n5 % 256) as u8,
+        (n6 % 256) as u8,
+        (n7 % 256) as u8,
+    ]
+}
+
 // The bytes of a record: kind, width, six zeros, A and B, each the lowest byte first.
 fn to_bytes(r: Record) -> [u8; 24]
     ensures { λ bytes. ⌜ bytes ≡ recordBytes r ⌝ }
 {
-    let a = r.a;
-    let a1 = a / 256;
-    let a2 = a1 / 256;
-    let a3 = a2 / 256;
-    let a4 = a3 / 256;
-    let a5 = a4 / 256;
-    let a6 = a5 / 256;
-    let a7 = a6 / 256;
-    let b = r.b;
-    let b1 = b / 256;
-    let b2 = b1 / 256;
-    let b3 = b2 / 256;
-    let b4 = b3 / 256;
-    let b5 = b4 / 256;
-    let b6 = b5 / 256;
-    let b7 = b6 / 256;
+    let a = le_bytes(r.a);
+    let b = le_bytes(r.b);
     [
         r.kind,
         r.width,
@@ -73,22 +83,22 @@ fn to_bytes(r: Record) -> [u8; 24]
         0,
         0,
         0,
-        (a % 256) as u8,
-        (a1 % 256) as u8,
-        (a2 % 256) as u8,
-        (a3 % 256) as u8,
-        (a4 % 256) as u8,
-        (a5 % 256) as u8,
-        (a6 % 256) as u8,
-        (a7 % 256) as u8,
-        (b % 256) as u8,
-        (b1 % 256) as u8,
-        (b2 % 256) as u8,
-        (b3 % 256) as u8,
-        (b4 % 256) as u8,
-        (b5 % 256) as u8,
-        (b6 % 256) as u8,
-        (b7 % 256) as u8,
+        a[0],
+        a[1],
+        a[2],
+        a[3],
+        a[4],
+        a[5],
+        a[6],
+        a[7],
+        b[0],
+        b[1],
+        b[2],
+        b[3],
+        b[4],
+        b[5],
+        b[6],
+        b[7],
     ]
 }
 

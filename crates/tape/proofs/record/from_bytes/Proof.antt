@@ -6,47 +6,36 @@ use Rattle.tape.proofs.record.from_bytes.Reads as reads
 use Rattle.tape.proofs.record.from_bytes.Lts as lts
 use Rattle.number.proofs.le.le_value.Reads as le-value-reads
 
--- src/record.rt:101:15
 shared-slice-read-t3 : tie.Need-shared-slice-read-t3
 shared-slice-read-t3 c = search needs
 
--- src/record.rt:102:16
 shared-slice-read-t5 : tie.Need-shared-slice-read-t5
 shared-slice-read-t5 c = search needs
 
--- src/record.rt:103:21
 sub-le-value : tie.Need-sub-le-value
 sub-le-value c = search needs
 
--- src/record.rt:103:21
 part-le-value-start : tie.Need-part-le-value-start
 part-le-value-start c = search needs
 
--- src/record.rt:103:21
 part-le-value-end : tie.Need-part-le-value-end
 part-le-value-end c = search needs
 
--- src/record.rt:103:12
 le-value-requires : tie.Need-le-value-requires
 le-value-requires c κs = search needs
 
--- src/record.rt:104:21
 sub-le-value-2 : tie.Need-sub-le-value-2
 sub-le-value-2 c = search needs
 
--- src/record.rt:104:21
 part-le-value-start-2 : tie.Need-part-le-value-start-2
 part-le-value-start-2 c = search needs
 
--- src/record.rt:104:21
 part-le-value-end-2 : tie.Need-part-le-value-end-2
 part-le-value-end-2 c = search needs
 
--- src/record.rt:104:12
 le-value-requires-2 : tie.Need-le-value-requires-2
 le-value-requires-2 c κs = search needs
 
--- src/record.rt:96:1
 returns : tie.Need-returns
 returns c = search record-taken
 

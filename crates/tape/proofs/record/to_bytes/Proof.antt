@@ -1,82 +1,88 @@
-use mathlib.Core.Path.{refl}
-use Rattle.number.specs.Le.{leBytes}
-use Rattle.tape.specs.Record.{recordBytes}
+use Rattle.tape.proofs.Records.{record-made}
 use borrow.Author.Needs.{needs}
 use Rattle.tape.proofs.record.to_bytes.Statement.{statement}
 use Rattle.tape.proofs.record.to_bytes.Tie as tie
 use Rattle.tape.proofs.record.to_bytes.Reads as reads
 use Rattle.tape.proofs.record.to_bytes.Lts as lts
+use Rattle.tape.proofs.record.le_bytes.Reads as le-bytes-reads
 
-cast-t19 : tie.Need-cast-t19
-cast-t19 c = search needs
+le-bytes-requires : tie.Need-le-bytes-requires
+le-bytes-requires c κs = search needs
 
-cast-t21 : tie.Need-cast-t21
-cast-t21 c = search needs
+le-bytes-requires-2 : tie.Need-le-bytes-requires-2
+le-bytes-requires-2 c κs = search needs
 
-cast-t23 : tie.Need-cast-t23
-cast-t23 c = search needs
+array-read-t7 : tie.Need-array-read-t7
+array-read-t7 c = search needs
 
-cast-t25 : tie.Need-cast-t25
-cast-t25 c = search needs
+array-read-t10 : tie.Need-array-read-t10
+array-read-t10 c = search needs
 
-cast-t27 : tie.Need-cast-t27
-cast-t27 c = search needs
+array-read-t13 : tie.Need-array-read-t13
+array-read-t13 c = search needs
 
-cast-t29 : tie.Need-cast-t29
-cast-t29 c = search needs
+array-read-t16 : tie.Need-array-read-t16
+array-read-t16 c = search needs
 
-cast-t31 : tie.Need-cast-t31
-cast-t31 c = search needs
+array-read-t19 : tie.Need-array-read-t19
+array-read-t19 c = search needs
 
-cast-t33 : tie.Need-cast-t33
-cast-t33 c = search needs
+array-read-t22 : tie.Need-array-read-t22
+array-read-t22 c = search needs
 
-cast-t35 : tie.Need-cast-t35
-cast-t35 c = search needs
+array-read-t25 : tie.Need-array-read-t25
+array-read-t25 c = search needs
 
-cast-t37 : tie.Need-cast-t37
-cast-t37 c = search needs
+array-read-t28 : tie.Need-array-read-t28
+array-read-t28 c = search needs
 
-cast-t39 : tie.Need-cast-t39
-cast-t39 c = search needs
+array-read-t31 : tie.Need-array-read-t31
+array-read-t31 c = search needs
 
-cast-t41 : tie.Need-cast-t41
-cast-t41 c = search needs
+array-read-t34 : tie.Need-array-read-t34
+array-read-t34 c = search needs
 
-cast-t43 : tie.Need-cast-t43
-cast-t43 c = search needs
+array-read-t37 : tie.Need-array-read-t37
+array-read-t37 c = search needs
 
-cast-t45 : tie.Need-cast-t45
-cast-t45 c = search needs
+array-read-t40 : tie.Need-array-read-t40
+array-read-t40 c = search needs
 
-cast-t47 : tie.Need-cast-t47
-cast-t47 c = search needs
+array-read-t43 : tie.Need-array-read-t43
+array-read-t43 c = search needs
 
-cast-t49 : tie.Need-cast-t49
-cast-t49 c = search needs
+array-read-t46 : tie.Need-array-read-t46
+array-read-t46 c = search needs
+
+array-read-t49 : tie.Need-array-read-t49
+array-read-t49 c = search needs
+
+array-read-t52 : tie.Need-array-read-t52
+array-read-t52 c = search needs
 
 returns : tie.Need-returns
-unfolding recordBytes leBytes
-returns c = refl
+returns c = search record-made
 
 pub to-bytes-spec : {M : Type 1} → statement M
 to-bytes-spec =
     tie.close
     (tie.spec
-    cast-t19
-    cast-t21
-    cast-t23
-    cast-t25
-    cast-t27
-    cast-t29
-    cast-t31
-    cast-t33
-    cast-t35
-    cast-t37
-    cast-t39
-    cast-t41
-    cast-t43
-    cast-t45
-    cast-t47
-    cast-t49
+    le-bytes-requires
+    le-bytes-requires-2
+    array-read-t7
+    array-read-t10
+    array-read-t13
+    array-read-t16
+    array-read-t19
+    array-read-t22
+    array-read-t25
+    array-read-t28
+    array-read-t31
+    array-read-t34
+    array-read-t37
+    array-read-t40
+    array-read-t43
+    array-read-t46
+    array-read-t49
+    array-read-t52
     returns)
