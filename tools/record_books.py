@@ -1,13 +1,13 @@
 #!/usr/bin/env python3
 """Records what the calls on type books answer: one file for each of these words.
 
-    python3 tools/record_books.py ORACLE FOLDER categories|checks|walks|reads|writes ...
+    python3 tools/record_books.py ORACLE FOLDER categories|checks|walks|reads ...
 
 ORACLE is the oracle's folder, built; FOLDER is crates/vectors/data. Every seed is fixed, so a file comes out the same.
 
-categories, walks and reads are the answers of the Rust (requests cat; alias, indir, rmw, missing, fields; read), writes
-those of its request writedoc, for books that are valid. checks is document 01's text on the form of books, refusals 1 to 5, as the
-function `check` of the oracle's book.py reads it: the Rust has no such test. tools/record_limits.py records the limits.
+categories, walks and reads are the answers of the Rust (requests cat; alias, indir, rmw, missing, fields; read), for books
+that are valid. checks is document 01's text on the form of books, refusals 1 to 5, as the function `check` of the oracle's
+book.py reads it: the Rust has no such test. tools/record_limits.py records the limits.
 """
 
 import itertools
@@ -121,19 +121,6 @@ class Recorder:
         """Bytes of tape and text that an accepted read takes."""
         t, x = self.b.tape_from_tree(self.b.tree_from_events(words[1:]))
         return len(t), len(x)
-
-    def write(self, file, book, width, n, image, tree):
-        tape, text = self.b.tape_from_tree(tree)
-        words = self.ask("writedoc", width, book, n, image, tape, text)
-        if words[0] == "err":
-            answer = refusal(words) + b"\1"
-        else:
-            answer = b"\0" + packed(b"" if words[1] == "-" else bytes.fromhex(words[1]))
-        if len(tape) > TAPE:
-            return
-        given = bytes([width]) + u32(n) + u16(len(image)) + u16(len(tape)) + image + packed(tape + text)
-        if len(given) + len(answer) < 60000:
-            file.add_in_order(WRITE, given, answer)
 
     # -- files
 
@@ -357,29 +344,12 @@ class Recorder:
         print("reads:", dict(sorted(told.items())))
         return file
 
-    def writes(self, count=3000):
-        file, b = CaseFile(), self.b
-        for rng, made in self.random(60000, count):
-            data = made.book.bytes()
-            memory = b.gen_memory(rng, made)
-            if b.has_bom(memory) or len(memory) > 8192:
-                memory = bytes(min(len(memory), 8192))
-            add_book(file, data)
-            words = self.ask("read", made.width, data, made.root, memory)
-            if words[0] == "ok":
-                tree = b.tree_from_events(words[1:])
-                self.write(file, data, made.width, made.root, bytes([FILL]) * len(memory), tree)
-                self.write(file, data, made.width, made.root, memory, b.mutate(rng, tree, made.book))
-            self.write(file, data, made.width, made.root, memory, b.gen_tree(rng, made))
-        return file
-
 
 def main():
     folder, out, words = sys.argv[1], sys.argv[2], sys.argv[3:]
     rec = Recorder(folder)
     for word in words:
-        {"categories": rec.categories, "checks": rec.checks, "walks": rec.walks, "reads": rec.reads,
-         "writes": rec.writes}[word]().write(f"{out}/{word}")
+        {"categories": rec.categories, "checks": rec.checks, "walks": rec.walks, "reads": rec.reads}[word]().write(f"{out}/{word}")
     rec.oracle.close()
 
 

@@ -27,6 +27,12 @@ fn walks() {
         || twin::walk::requires_read_modify_write(&twin, WIDTH, 0),
     );
     pair(
+        "requires_read_modify_write, checked before; each look-up a scan",
+        3,
+        || root.requires_read_modify_write_with(WIDTH, &mut s),
+        || twin::walk::requires_read_modify_write(&plain, WIDTH, 0),
+    );
+    pair(
         "missing_types, checked before; HashMap",
         41,
         || root.missing_types_with(WIDTH, &mut s),

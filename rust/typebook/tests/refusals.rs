@@ -1,4 +1,4 @@
-//! Document 01's cases by hand: every refusal that can be met so far (1 to 15; 16 to 19 are the writer's), its neighbours that
+//! Document 01's cases by hand: every refusal of the calls that are here (1 to 15; 16 to 19 are the writer's), its neighbours that
 //! aren't refused, and what the buffers hold afterwards.
 
 use twin::make::{Type, book, chain, deep, example, int, mend, wide};
@@ -179,6 +179,24 @@ fn chains_by_other_ways() {
         calls::read(&lacking, 1024, WIDTH, 0, &[0, 0], &mut [], &mut [], &mut []),
         7
     );
+}
+
+/// 20,000 fields of one type are one name more, also where a hundred aliases come to their struct: what is left to visit never
+/// fills the scratch.
+#[test]
+fn many_fields_of_one_type_are_one_name() {
+    let many = (0..20_000).fold(Type::new("MANY").size(2), |t, i| t.field(&format!("f{i}"), "INT", 0, 2));
+    let alone = book(&[many.clone(), int()]);
+    assert_eq!(rmw(&alone), (0, 0));
+    assert_eq!(missing(&alone), (vec![], 1, 2));
+    // Of fields of a missing type the last one is listed.
+    assert_eq!(missing(&many.bytes()), (vec![20_000], 1, 2));
+
+    let alias = |i: usize| Type::new(&format!("T{i}")).of("MANY").size(2);
+    let aliases: Vec<Type> = (0..100).map(alias).collect();
+    let all = book(&[vec![wide(100)], aliases, vec![many, int()]].concat());
+    assert_eq!(rmw(&all), (0, 0));
+    assert_eq!(missing(&all), (vec![], 1, 102));
 }
 
 #[test]
