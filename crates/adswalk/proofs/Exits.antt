@@ -16,7 +16,7 @@ use Rattle.book_check.specs.declared.RootCheck.the-variants as root
 use Rattle.steps.specs.declared.ReadAnswer.{ReadAnswer}
 use Rattle.steps.specs.declared.ReadAnswer.the-variants.{Done, NotFound, Refused}
 use Rattle.de.specs.Read.{readTrace, ReadIs}
-use Rattle.lines.specs.Puts.{Printed}
+use Rattle.figures.specs.Puts.{Printed}
 use Rattle.lines.specs.Lines.{walkLines, refusedLine}
 use Rattle.adswalk.specs.Answer.{linesBy, walked, checkedLines, printed, Shown}
 use Rattle.adswalk.proofs.Emits.{emits-read}

@@ -14,8 +14,10 @@ use Rattle.book_check.specs.Check.{ValidBook, checkRoot}
 use Rattle.book_check.specs.declared.RootCheck.{RootCheck}
 use Rattle.book_check.specs.declared.RootCheck.the-variants as root
 use Rattle.book_check.proofs.Valid.{valid-size, valid-names, root-valid}
-use Rattle.lines.specs.Lines.{textLine, headLine, refusedLine}
-use Rattle.lines.proofs.Lengths.{text-short, refused-short, head-short, line-short}
+use Rattle.record_line.specs.Line.{textLine}
+use Rattle.lines.specs.Lines.{headLine, refusedLine}
+use Rattle.record_line.proofs.Lengths.{text-short, line-short}
+use Rattle.lines.proofs.Lengths.{refused-short, head-short}
 use Rattle.steps.specs.declared.Step.the-variants.{Stop}
 use Rattle.steps.specs.Trace.{Event, rec, text, textBytes, tapeBytes, Trace, done, stop, eventsOf, endOf, fits, stepOf}
 use Rattle.de.specs.Read.{readTrace}

@@ -17,7 +17,8 @@ use Rattle.tape.specs.declared.cursor.Step.the-variants as step
 use Rattle.tape.specs.Record.{recordBytes, recordOf, stepAt}
 use Rattle.tape.specs.Text.{partOf, recordText}
 use Rattle.tape.proofs.Records.{length-record}
-use Rattle.lines.specs.Lines.{textLine, lineOf, before, recordsAt, linesOf, headLine, walkLines, refusedLine}
+use Rattle.record_line.specs.Line.{textLine, lineOf}
+use Rattle.lines.specs.Lines.{before, recordsAt, linesOf, headLine, walkLines, refusedLine}
 use Rattle.steps.specs.declared.ReadAnswer.{ReadAnswer}
 use Rattle.steps.specs.declared.ReadAnswer.the-variants.{NotFound, Refused}
 use Rattle.steps.specs.declared.Step.{Step}

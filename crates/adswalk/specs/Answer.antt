@@ -14,7 +14,8 @@ use Rattle.steps.specs.declared.Step.{Step}
 use Rattle.steps.specs.declared.Step.the-variants.{Next, Stop}
 use Rattle.steps.specs.Trace.{Event, rec, text, Trace, eventsOf, stepOf}
 use Rattle.de.specs.Read.{readTrace}
-use Rattle.lines.specs.Lines.{textLine, lineOf, headLine, walkLines, refusedLine}
+use Rattle.record_line.specs.Line.{textLine, lineOf}
+use Rattle.lines.specs.Lines.{headLine, walkLines, refusedLine}
 
 -- ---- what is printed
 

@@ -1,7 +1,7 @@
 // What the program prints of a book and a memory: root 0, pointers of 8 bytes.
 ghost use Prim.Native.Nat.{_≤_};
 ghost use lib.ListN.{length};
-ghost use Rattle.lines.specs.Puts.{Printed};
+ghost use Rattle.figures.specs.Puts.{Printed};
 ghost use Rattle.adswalk.specs.Answer.{linesBy, walked, printed, Shown};
 use book_check::RootCheck;
 use lines::refused_line;

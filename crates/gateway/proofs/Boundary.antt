@@ -16,7 +16,7 @@ use Rattle.type_cache.specs.declared.Appended.the-variants.{Done, Refused}
 use Rattle.type_cache.specs.Append.{appendRefusal, appendCall}
 use Rattle.type_cache.proofs.Adds.{grown}
 use Rattle.codes.specs.Numbers.{truthNumber}
-use Rattle.answers.specs.Values.{appendedRefusal}
+use Rattle.book_answers.specs.Answers.{appendedRefusal}
 use Rattle.gateway.specs.Calls.{AppendGiven}
 
 zero-valid : (c : BookCheck) → bookRefusal c ≡ 0 → c ≡ Valid

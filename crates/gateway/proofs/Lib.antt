@@ -1,4 +1,4 @@
 -- Laws that the functions' proofs cite, and those that a caller leans on.
 mod Numbers
-mod Parts
+mod Equal
 pub mod Boundary

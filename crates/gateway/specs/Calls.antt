@@ -1,9 +1,8 @@
 -- The exported calls: each gives, by numbers, what the call below it answers, and leaves the lent buffers as that does. Assumes nothing.
 use mathlib.Core.Path.{_≡_}
 use mathlib.Core.Bool.{Bool, true}
-use mathlib.Core.List.{List, [], _∷_}
-use Prim.Native.Nat.{ℕ, min}
-use lib.ListN.{length, take, drop}
+use mathlib.Core.List.{List}
+use Prim.Native.Nat.{ℕ}
 use Rattle.typebook.specs.Book.{isType}
 use Rattle.type_cache.specs.declared.Appended.{Appended}
 use Rattle.type_cache.specs.Append.{AppendIs}
@@ -17,16 +16,10 @@ use Rattle.walks.specs.Calls.{RmwIn, RmwIs, MissingIn, MissingIs}
 use Rattle.steps.specs.declared.ReadAnswer.{ReadAnswer}
 use Rattle.steps.specs.Trace.{Trace}
 use Rattle.de.specs.Read.{ReadIs}
-use Rattle.answers.specs.Values.{Gives, AppendedAs, ResolvedAs, FieldsAs, RmwAs, MissingAs, ReadAs}
-
--- a part that starts at byte `start` stands there, or at the book's end where the book is shorter
-abbrev pub placeOf : List ℕ → ℕ → ℕ
-placeOf book start = min start (length book)
-
--- a part of the book as offset and length, which lead to its bytes and never past the book's end
-pub record PartGiven (book part : List ℕ) (start : ℕ) (before : List ℕ) (r : ℕ) (after : List ℕ) : Type 0 where
-  pub gives : Gives 0 (placeOf book start ∷ length part ∷ []) before r after
-  pub is : take (length part) (drop (placeOf book start) book) ≡ part
+use Rattle.book_answers.specs.Answers.{AppendedAs}
+use Rattle.resolver_answers.specs.Answers.{ResolvedAs, FieldsAs}
+use Rattle.walk_answers.specs.Answers.{RmwAs, MissingAs}
+use Rattle.read_answers.specs.Answers.{ReadAs}
 
 -- what appending answers, as a number and values, and the buffer that it leaves
 pub record AppendGiven (buffer : List ℕ) (len : ℕ) (piece before : List ℕ) (r : ℕ) (buffer′ after : List ℕ) : Type 0 where

@@ -1,15 +1,17 @@
 // What the blocks of a book say, and appending a type to it.
 ghost use mathlib.Core.Path.{_≡_};
 ghost use mathlib.Core.List.{[], _∷_};
-ghost use Prim.Native.Nat.{_+_, _*_, _≤_};
+ghost use Prim.Native.Nat.{_+_, _*_};
 ghost use Rattle.typebook.specs.Book.{isType, nameOf, typeNameOf};
 ghost use Rattle.type_category.specs.Category.{categoryOf};
 ghost use Rattle.codes.specs.Numbers.{truthNumber, categoryNumber};
-ghost use Rattle.answers.specs.Values.{Gives};
-ghost use Rattle.gateway.specs.Calls.{placeOf, PartGiven, AppendGiven};
-use answers::values::done_1;
-use answers::values::done_2;
-use answers::values::give_appended;
+ghost use Rattle.lent_values.specs.Values.{Gives};
+ghost use Rattle.book_answers.specs.Answers.{PartGiven};
+ghost use Rattle.gateway.specs.Calls.{AppendGiven};
+use book_answers::give_appended;
+use book_answers::give_name;
+use book_answers::give_type_name;
+use lent_values::done_1;
 use type_category::type_category::AdsTypeCategory;
 
 // 1 where the block is a type block, else 0.
@@ -20,25 +22,12 @@ pub extern "C" fn gateway_is_type(book: &[u8], block: u32) -> u8
     codes::truth(typebook::block::is_type(book, block))
 }
 
-// Where byte k of block n stands, at most the book's end: an offset that no slice of the book refuses.
-fn place_of(book: &[u8], n: u32, k: u64) -> u64
-    requires { ⌜ k ≤ 254 ⌝ }
-    ensures { λ r. ⌜ r ≡ placeOf (now (book .entry)) (n * 512 + k) ⌝ }
-{
-    let start = n as u64 * 512 + k;
-    if start <= book.len() as u64 {
-        return start;
-    }
-    book.len() as u64
-}
-
 // The name's offset in the book and its length.
 #[no_mangle]
 pub extern "C" fn gateway_name(book: &[u8], block: u32, values: &mut [u64]) -> u8
     ensures { λ r. ⌜ PartGiven (now (book .entry)) (nameOf (now (book .entry)) block) (block * 512 + 54) (now (values .entry)) r (now (values .exit)) ⌝ }
 {
-    let name = typebook::block::name(book, block);
-    done_2(values, place_of(book, block, 54), name.len() as u64)
+    give_name(book, block, values)
 }
 
 // The type name's offset in the book and its length.
@@ -46,8 +35,7 @@ pub extern "C" fn gateway_name(book: &[u8], block: u32, values: &mut [u64]) -> u
 pub extern "C" fn gateway_type_name(book: &[u8], block: u32, values: &mut [u64]) -> u8
     ensures { λ r. ⌜ PartGiven (now (book .entry)) (typeNameOf (now (book .entry)) block) (block * 512 + 254) (now (values .entry)) r (now (values .exit)) ⌝ }
 {
-    let name = typebook::block::type_name(book, block);
-    done_2(values, place_of(book, block, 254), name.len() as u64)
+    give_type_name(book, block, values)
 }
 
 // The block's category, by its place in the list of categories.

@@ -6,7 +6,7 @@ ghost use Rattle.book_check.specs.Check.{ValidBook};
 ghost use Rattle.de.specs.Walk.{ctx};
 ghost use Rattle.de.specs.Read.{rootTrace, readTrace};
 ghost use Rattle.gateway.specs.Calls.{ReadGiven};
-use answers::values::give_read;
+use read_answers::give_read;
 
 // Reads the memory by the root's type: how many records and text bytes.
 #[no_mangle]

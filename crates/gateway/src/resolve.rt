@@ -7,11 +7,11 @@ ghost use Rattle.book_check.specs.Check.{ValidBook};
 ghost use Rattle.resolvers.specs.Resolve.{resolveAlias, resolveIndirection};
 ghost use Rattle.resolvers.specs.Calls.{rootAlias, rootIndirection};
 ghost use Rattle.field_types.specs.Calls.{rootFields, rootRecords};
-ghost use Rattle.answers.specs.Values.{ResolutionAs};
+ghost use Rattle.resolver_answers.specs.Answers.{ResolutionAs};
 ghost use Rattle.gateway.specs.Calls.{ChainGiven, FieldsGiven};
-use answers::values::give_fields;
-use answers::values::give_resolution;
-use answers::values::give_resolved;
+use resolver_answers::give_fields;
+use resolver_answers::give_resolution;
+use resolver_answers::give_resolved;
 
 // The block that the root comes to with its aliases resolved.
 #[no_mangle]

@@ -4,17 +4,10 @@ ghost use mathlib.Core.Bool.{true, _&&_};
 ghost use Rattle.typebook.specs.Book.{isType};
 ghost use Rattle.book_check.specs.Check.{ValidBook};
 ghost use Rattle.links.specs.Links.{LinksOf, LinksMade};
-ghost use Rattle.walks.specs.Calls.{scratchFits, listFits, RmwIn, MissingIn};
+ghost use Rattle.walks.specs.Calls.{scratchFits, listFits};
 ghost use Rattle.gateway.specs.Calls.{RmwGiven, RmwInGiven, MissingGiven, MissingInGiven};
-use answers::values::give_missing;
-use answers::values::give_rmw;
-use walks::Missing;
-use walks::Rmw;
-
-// The numbers that a walk needs of the scratch, and of the list.
-const SCRATCH: usize = 16384;
-
-const LIST: usize = 4096;
+use walk_answers::give_missing;
+use walk_answers::give_rmw;
 
 // The type that each block's type name finds, looked up once for the two calls by a checked book.
 #[no_mangle]
@@ -43,24 +36,6 @@ pub extern "C" fn gateway_requires_read_modify_write(
     )
 }
 
-// 6 for a short scratch, then the walk.
-fn rmw_in(
-    book: &[u8],
-    index: &[u32],
-    links: &[u32],
-    width: u8,
-    root: u32,
-    scratch: &mut [u32],
-) -> Rmw
-    requires { ⌜ ValidBook (now book) × LinksOf (now book) (now links) × (isType (now book) root ≡ true) ⌝ }
-    ensures { λ r. ⌜ RmwIn (scratchFits (now (scratch .entry))) (now (book .entry)) width root (now (scratch .entry)) r (now (scratch .exit)) ⌝ }
-{
-    if scratch.len() < SCRATCH {
-        return Rmw::Refused(6);
-    }
-    walks::requires_read_modify_write_in(book, index, links, width, root, scratch)
-}
-
 #[no_mangle]
 pub extern "C" fn gateway_requires_read_modify_write_in(
     book: &[u8],
@@ -74,7 +49,10 @@ pub extern "C" fn gateway_requires_read_modify_write_in(
     requires { ⌜ ValidBook (now book) × LinksOf (now book) (now links) × (isType (now book) root ≡ true) ⌝ }
     ensures { λ r. ⌜ RmwInGiven (scratchFits (now (scratch .entry))) (now (book .entry)) width root (now (scratch .entry)) (now (values .entry)) r (now (scratch .exit)) (now (values .exit)) ⌝ }
 {
-    give_rmw(rmw_in(book, index, links, width, root, scratch), values)
+    give_rmw(
+        once_checked::rmw_in(book, index, links, width, root, scratch),
+        values,
+    )
 }
 
 // How many blocks are listed, 1 where the walk is whole, else 0, and how many names were met.
@@ -96,28 +74,6 @@ pub extern "C" fn gateway_missing_types(
     )
 }
 
-// 6 for a short scratch or a short list, then the walk.
-fn missing_in(
-    book: &[u8],
-    index: &[u32],
-    links: &[u32],
-    width: u8,
-    root: u32,
-    scratch: &mut [u32],
-    list: &mut [u32],
-) -> Missing
-    requires { ⌜ ValidBook (now book) × LinksOf (now book) (now links) × (isType (now book) root ≡ true) ⌝ }
-    ensures { λ r. ⌜ MissingIn (scratchFits (now (scratch .entry)) && listFits (now (list .entry))) (now (book .entry)) width root (now (scratch .entry)) (now (list .entry)) r (now (scratch .exit)) (now (list .exit)) ⌝ }
-{
-    if scratch.len() < SCRATCH {
-        return Missing::Refused(6);
-    }
-    if list.len() < LIST {
-        return Missing::Refused(6);
-    }
-    walks::missing_types_in(book, index, links, width, root, scratch, list)
-}
-
 #[no_mangle]
 pub extern "C" fn gateway_missing_types_in(
     book: &[u8],
@@ -133,7 +89,7 @@ pub extern "C" fn gateway_missing_types_in(
     ensures { λ r. ⌜ MissingInGiven (scratchFits (now (scratch .entry)) && listFits (now (list .entry))) (now (book .entry)) width root (now (scratch .entry)) (now (list .entry)) (now (values .entry)) r (now (scratch .exit)) (now (list .exit)) (now (values .exit)) ⌝ }
 {
     give_missing(
-        missing_in(book, index, links, width, root, scratch, list),
+        once_checked::missing_in(book, index, links, width, root, scratch, list),
         values,
     )
 }

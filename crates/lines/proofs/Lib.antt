@@ -1,4 +1,3 @@
-pub mod Joins
-pub mod Numerals
-pub mod Prints
+-- Laws that the functions' proofs cite, and how long the lines are.
+mod Prints
 pub mod Lengths

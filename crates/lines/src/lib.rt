@@ -1,15 +1,53 @@
 // The lines that a walk prints: a head, a line for each record of the tape, or the number of a refusal.
-mod figures;
-mod line;
-mod put;
-
-ghost use Rattle.lines.specs.Puts.{Printed};
-ghost use Rattle.lines.specs.Lines.{walkLines, refusedLine};
-use line::counted;
-use line::head;
-use line::record_lines;
-use put::finish;
+ghost use Rattle.utf_8.specs.declared.Put.the-variants.{Next};
+ghost use Rattle.figures.specs.Puts.{Puts, Printed};
+ghost use Rattle.lines.specs.Lines.{recordsAt, linesOf, headLine, walkLines, refusedLine};
+use figures::put::finish;
+use figures::put::put_bytes;
+use record_line::counted;
+use record_line::line;
+use tape::cursor::Cursor;
+use tape::cursor::Step;
 use utf_8::Put;
+
+// The head: the root's name and the memory's length.
+fn head(book: &[u8], root: u32, memory: usize, out: &mut [u8]) -> Put
+    ensures { λ r. ⌜ Puts (headLine (now (book .entry)) root memory) (now (out .entry)) (Next 0) r (now (out .exit)) ⌝ }
+{
+    let a = put_bytes(Put::Next(0), b"walk ", out);
+    let b = put_bytes(a, typebook::block::name(book, root), out);
+    counted(b, b" ", memory as u64, out)
+}
+
+// The lines of the first `records` records of the tape, or of as many as it has.
+fn record_lines<'a>(
+    p: Put,
+    book: &'a [u8],
+    tape: &[u8],
+    records: usize,
+    text: &'a [u8],
+    out: &mut [u8],
+) -> Put
+    ensures { λ q. ⌜ Puts (linesOf (now (book .entry)) (now (text .entry)) (recordsAt (now (tape .entry)) records 0)) (now (out .entry)) p q (now (out .exit)) ⌝ }
+{
+    let mut next = p;
+    let mut at: usize = 0;
+    let mut left = records;
+    while left > 0 {
+        let step = Cursor { at }.next(tape);
+        match step {
+            Step::Record(r, after) => {
+                next = line(next, book, text, r, out);
+                at = after.at;
+                left -= 1;
+            }
+            Step::End => {
+                return next;
+            }
+        }
+    }
+    next
+}
 
 // The lines of a read: the root's name and the memory's length, then the first `records` records of the tape. They stand
 // from the start of `out` on; where they do not fit, `out` is all zeros.

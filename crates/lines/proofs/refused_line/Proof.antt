@@ -4,8 +4,8 @@ use Rattle.lines.proofs.refused_line.Statement.{statement}
 use Rattle.lines.proofs.refused_line.Tie as tie
 use Rattle.lines.proofs.refused_line.Reads as reads
 use Rattle.lines.proofs.refused_line.Lts as lts
-use Rattle.lines.proofs.line.counted.Reads as counted-reads
-use Rattle.lines.proofs.put.finish.Reads as finish-reads
+use Rattle.record_line.proofs.counted.Reads as counted-reads
+use Rattle.figures.proofs.put.finish.Reads as finish-reads
 
 ruleset printing = (refused-printed, needs)
 

@@ -4,9 +4,9 @@ use Rattle.lines.proofs.walk_lines.Statement.{statement}
 use Rattle.lines.proofs.walk_lines.Tie as tie
 use Rattle.lines.proofs.walk_lines.Reads as reads
 use Rattle.lines.proofs.walk_lines.Lts as lts
-use Rattle.lines.proofs.line.head.Reads as head-reads
-use Rattle.lines.proofs.line.record_lines.Reads as record-lines-reads
-use Rattle.lines.proofs.put.finish.Reads as finish-reads
+use Rattle.lines.proofs.head.Reads as head-reads
+use Rattle.lines.proofs.record_lines.Reads as record-lines-reads
+use Rattle.figures.proofs.put.finish.Reads as finish-reads
 
 ruleset printing = (walk-printed, needs)
 

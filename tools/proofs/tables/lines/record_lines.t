@@ -2,7 +2,7 @@ use borrow.Author.Needs.{needs}
 use mathlib.Core.Path.{_≡_, refl}
 use lib.ListN.{length}
 use Rattle.lines.specs.Lines.{linesOf, recordsAt}
-use Rattle.lines.proofs.Joins.{Rest, rest-all}
+use Rattle.figures.proofs.Joins.{Rest, rest-all}
 use Rattle.lines.proofs.Prints.{lines-again, lines-over, lines-done}
 def Inv-loop => (length out ≡ length out₀) × Rest (linesOf book text (recordsAt tape records 0)) out₀ next₀ (linesOf book text (recordsAt tape left at)) out next
 def μ-loop => left

@@ -1,5 +1,5 @@
 -- `gateway_determine` meets its contract. Assumes nothing.
-use Rattle.gateway.proofs.Parts.{category-given}
+use Rattle.gateway.proofs.Equal.{category-given}
 use borrow.Author.Needs.{needs}
 use Rattle.gateway.proofs.book.gateway_determine.Statement.{statement}
 use Rattle.gateway.proofs.book.gateway_determine.Tie as tie

@@ -1,5 +1,5 @@
 -- `gateway_resolve_alias` meets its contract. Assumes nothing.
-use Rattle.gateway.proofs.Parts.{resolution-given}
+use Rattle.gateway.proofs.Equal.{resolution-given}
 use borrow.Author.Needs.{needs}
 use Rattle.gateway.proofs.resolve.gateway_resolve_alias.Statement.{statement}
 use Rattle.gateway.proofs.resolve.gateway_resolve_alias.Tie as tie

@@ -1,0 +1,2 @@
+-- Laws that the functions' proofs cite, and those of the answers.
+pub mod Lays

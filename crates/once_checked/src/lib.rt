@@ -1,0 +1,54 @@
+// The two walks for a book that was checked once, where scratch and list are lent: 6 is answered, not required.
+ghost use mathlib.Core.Path.{_≡_};
+ghost use mathlib.Core.Bool.{true, _&&_};
+ghost use Rattle.typebook.specs.Book.{isType};
+ghost use Rattle.book_check.specs.Check.{ValidBook};
+ghost use Rattle.links.specs.Links.{LinksOf};
+ghost use Rattle.walks.specs.Calls.{scratchFits, listFits, RmwIn, MissingIn};
+use walks::Missing;
+use walks::Rmw;
+
+// The numbers that a walk needs of the scratch, and of the list.
+const SCRATCH: usize = 16384;
+
+const LIST: usize = 4096;
+
+// 6 for a short scratch, then the walk.
+pub fn rmw_in(
+    book: &[u8],
+    index: &[u32],
+    links: &[u32],
+    width: u8,
+    root: u32,
+    scratch: &mut [u32],
+) -> Rmw
+    requires { ⌜ ValidBook (now book) × LinksOf (now book) (now links) × (isType (now book) root ≡ true) ⌝ }
+    ensures { λ r. ⌜ RmwIn (scratchFits (now (scratch .entry))) (now (book .entry)) width root (now (scratch .entry)) r (now (scratch .exit)) ⌝ }
+{
+    if scratch.len() < SCRATCH {
+        return Rmw::Refused(6);
+    }
+    walks::requires_read_modify_write_in(book, index, links, width, root, scratch)
+}
+
+// 6 for a short scratch or a short list, then the walk.
+pub fn missing_in(
+    book: &[u8],
+    index: &[u32],
+    links: &[u32],
+    width: u8,
+    root: u32,
+    scratch: &mut [u32],
+    list: &mut [u32],
+) -> Missing
+    requires { ⌜ ValidBook (now book) × LinksOf (now book) (now links) × (isType (now book) root ≡ true) ⌝ }
+    ensures { λ r. ⌜ MissingIn (scratchFits (now (scratch .entry)) && listFits (now (list .entry))) (now (book .entry)) width root (now (scratch .entry)) (now (list .entry)) r (now (scratch .exit)) (now (list .exit)) ⌝ }
+{
+    if scratch.len() < SCRATCH {
+        return Missing::Refused(6);
+    }
+    if list.len() < LIST {
+        return Missing::Refused(6);
+    }
+    walks::missing_types_in(book, index, links, width, root, scratch, list)
+}

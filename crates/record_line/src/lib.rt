@@ -1,0 +1,111 @@
+// The line of each kind of record.
+ghost use Rattle.figures.specs.Puts.{Puts};
+ghost use Rattle.record_line.specs.Line.{countedLine, namedLine, sizedStart, intLine, natLine, realLine, textLine, numberLine, lineOf};
+use figures::decimal::put_decimal;
+use figures::decimal::put_signed;
+use figures::hexadecimal::put_hex;
+use figures::hexadecimal::put_hex_text;
+use figures::put::put_byte;
+use figures::put::put_bytes;
+use tape::record::Record;
+use tape::text::record_text;
+use utf_8::Put;
+
+// A word with its blank, and a number.
+pub fn counted(p: Put, word: &[u8], n: u64, out: &mut [u8]) -> Put
+    ensures { λ r. ⌜ Puts (countedLine (now (word .entry)) n) (now (out .entry)) p r (now (out .exit)) ⌝ }
+{
+    let a = put_bytes(p, word, out);
+    let b = put_decimal(a, n, out);
+    put_byte(b, b'\n', out)
+}
+
+// A word with its blank, and a name.
+fn named(p: Put, word: &[u8], name: &[u8], out: &mut [u8]) -> Put
+    ensures { λ r. ⌜ Puts (namedLine (now (word .entry)) (now (name .entry))) (now (out .entry)) p r (now (out .exit)) ⌝ }
+{
+    let a = put_bytes(p, word, out);
+    let b = put_bytes(a, name, out);
+    put_byte(b, b'\n', out)
+}
+
+// What an integer's line begins with: a word with its blank, the width in bits, a blank.
+fn sized(p: Put, word: &[u8], width: u8, out: &mut [u8]) -> Put
+    ensures { λ r. ⌜ Puts (sizedStart (now (word .entry)) width) (now (out .entry)) p r (now (out .exit)) ⌝ }
+{
+    let a = put_bytes(p, word, out);
+    let b = put_decimal(a, width as u64 * 8, out);
+    put_byte(b, b' ', out)
+}
+
+// A signed integer: its width in bits and its value.
+fn int_line(p: Put, width: u8, n: u64, out: &mut [u8]) -> Put
+    ensures { λ r. ⌜ Puts (intLine width n) (now (out .entry)) p r (now (out .exit)) ⌝ }
+{
+    let a = sized(p, b"int ", width, out);
+    let b = put_signed(a, n, out);
+    put_byte(b, b'\n', out)
+}
+
+// An integer without a sign: its width in bits and its value.
+fn nat_line(p: Put, width: u8, n: u64, out: &mut [u8]) -> Put
+    ensures { λ r. ⌜ Puts (natLine width n) (now (out .entry)) p r (now (out .exit)) ⌝ }
+{
+    let a = sized(p, b"nat ", width, out);
+    let b = put_decimal(a, n, out);
+    put_byte(b, b'\n', out)
+}
+
+// A real's bits, all their k hexadecimal digits.
+fn real_line(p: Put, word: &[u8], k: u8, n: u64, out: &mut [u8]) -> Put
+    ensures { λ r. ⌜ Puts (realLine (now (word .entry)) k n) (now (out .entry)) p r (now (out .exit)) ⌝ }
+{
+    let a = put_bytes(p, word, out);
+    let b = put_hex(a, k, n, out);
+    put_byte(b, b'\n', out)
+}
+
+// A text's bytes; the empty text has no blank after its word.
+fn text_line(p: Put, text: &[u8], out: &mut [u8]) -> Put
+    ensures { λ r. ⌜ Puts (textLine (now (text .entry))) (now (out .entry)) p r (now (out .exit)) ⌝ }
+{
+    if text.len() == 0 {
+        return put_bytes(p, b"text\n", out);
+    }
+    let a = put_bytes(p, b"text ", out);
+    let b = put_hex_text(a, text, out);
+    put_byte(b, b'\n', out)
+}
+
+// The line of a bool, an integer or a real; another kind has none.
+fn number_line(p: Put, r: Record, out: &mut [u8]) -> Put
+    ensures { λ q. ⌜ Puts (numberLine r) (now (out .entry)) p q (now (out .exit)) ⌝ }
+{
+    let kind = r.kind;
+    match kind {
+        6 => counted(p, b"bool ", r.b, out),
+        7 => int_line(p, r.width, r.b, out),
+        8 => nat_line(p, r.width, r.b, out),
+        9 => real_line(p, b"real 4 ", 8, r.b, out),
+        10 => real_line(p, b"real 8 ", 16, r.b, out),
+        _ => p,
+    }
+}
+
+// The line of a record; a kind that no record has gives none.
+pub fn line<'a>(p: Put, book: &'a [u8], text: &'a [u8], r: Record, out: &mut [u8]) -> Put
+    ensures { λ q. ⌜ Puts (lineOf (now (book .entry)) (now (text .entry)) r) (now (out .entry)) p q (now (out .exit)) ⌝ }
+{
+    let kind = r.kind;
+    match kind {
+        1 => counted(p, b"array ", r.a, out),
+        2 => put_bytes(p, b"end\n", out),
+        3 => counted(p, b"map ", r.a, out),
+        4 => named(p, b"key ", record_text(book, text, r), out),
+        5 => put_bytes(p, b"end\n", out),
+        11 => text_line(p, record_text(book, text, r), out),
+        12 => named(p, b"enum ", record_text(book, text, r), out),
+        13 => put_bytes(p, b"unit\n", out),
+        _ => number_line(p, r, out),
+    }
+}

@@ -1,0 +1,33 @@
+// What the walks answer, as a number and values.
+ghost use Rattle.walk_answers.specs.Answers.{RmwAs, MissingAs};
+use codes::truth;
+use lent_values::done_1;
+use lent_values::done_3;
+use lent_values::lacks;
+use walks::Missing;
+use walks::Rmw;
+
+// 1 for yes and 0 for no, 7 with its block, or another refusal.
+pub fn give_rmw(answer: Rmw, values: &mut [u64]) -> u8
+    ensures { λ r. ⌜ RmwAs answer (now (values .entry)) r (now (values .exit)) ⌝ }
+{
+    match answer {
+        Rmw::Yes => done_1(values, 1),
+        Rmw::No => done_1(values, 0),
+        Rmw::NotFound(b) => lacks(values, b),
+        Rmw::Refused(n) => n,
+    }
+}
+
+// How many blocks are listed, 1 where the walk is whole, else 0, and how many names were met; or the refusal.
+pub fn give_missing(answer: Missing, values: &mut [u64]) -> u8
+    ensures { λ r. ⌜ MissingAs answer (now (values .entry)) r (now (values .exit)) ⌝ }
+{
+    match answer {
+        Missing::Listed(n, whole, count) => {
+            let mark = truth(whole) as u64;
+            done_3(values, n as u64, mark, count as u64)
+        }
+        Missing::Refused(n) => n,
+    }
+}

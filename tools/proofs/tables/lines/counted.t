@@ -1,2 +1,0 @@
-use Rattle.lines.proofs.Prints.{counted-put}
-returns => search counted-put

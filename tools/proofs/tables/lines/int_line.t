@@ -1,2 +1,0 @@
-use Rattle.lines.proofs.Prints.{int-put}
-returns => search int-put

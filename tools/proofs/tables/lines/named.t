@@ -1,2 +1,0 @@
-use Rattle.lines.proofs.Prints.{named-put}
-returns => search named-put

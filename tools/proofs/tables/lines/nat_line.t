@@ -1,2 +1,0 @@
-use Rattle.lines.proofs.Prints.{nat-put}
-returns => search nat-put

@@ -1,2 +1,0 @@
-use Rattle.lines.proofs.Prints.{real-put}
-returns => search real-put

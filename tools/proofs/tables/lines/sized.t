@@ -1,2 +1,0 @@
-use Rattle.lines.proofs.Prints.{sized-put}
-returns => search sized-put
