@@ -19,6 +19,7 @@ abbrev pub appendedValues : Appended → List ℕ
 appendedValues (appended.Done n) = n ∷ []
 appendedValues (appended.Refused n) = []
 
+-- r is the number of what appending answers, and `after` is the array `before` with its values laid over it
 abbrev pub AppendedAs : Appended → List ℕ → ℕ → List ℕ → Type 0
 AppendedAs x before r after = Gives (appendedRefusal x) (appendedValues x) before r after
 

@@ -17,5 +17,6 @@ readValues (reading.Done n m) = n ∷ m ∷ []
 readValues (reading.NotFound b) = b ∷ []
 readValues (reading.Refused n) = []
 
+-- r is the number of what a read answers, and `after` is the array `before` with its values laid over it
 abbrev pub ReadAs : ReadAnswer → List ℕ → ℕ → List ℕ → Type 0
 ReadAs x before r after = Gives (readRefusal x) (readValues x) before r after

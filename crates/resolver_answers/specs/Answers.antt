@@ -18,6 +18,7 @@ resolvedValues (resolved.Base b) = b ∷ []
 resolvedValues (resolved.Lacks b) = b ∷ []
 resolvedValues resolved.Endless = []
 
+-- r is the number of what a chain comes to, and `after` is the array `before` with its values laid over it
 abbrev pub ResolvedAs : Resolved → List ℕ → ℕ → List ℕ → Type 0
 ResolvedAs x before r after = Gives (resolvedRefusal x) (resolvedValues x) before r after
 
@@ -27,6 +28,7 @@ resolutionValues (resolution.Block b) = b ∷ []
 resolutionValues (resolution.NotFound b) = b ∷ []
 resolutionValues (resolution.Refused n) = []
 
+-- r is the number of what `resolve_alias` or `resolve_indirection` answers, and `after` is the array `before` with its values laid over it
 abbrev pub ResolutionAs : Resolution → List ℕ → ℕ → List ℕ → Type 0
 ResolutionAs x before r after = Gives (resolutionRefusal x) (resolutionValues x) before r after
 
@@ -36,5 +38,6 @@ fieldsValues (fields.Done n) = n ∷ []
 fieldsValues (fields.NotFound b) = b ∷ []
 fieldsValues (fields.Refused n) = []
 
+-- r is the number of what `resolve_fields` answers, and `after` is the array `before` with its values laid over it
 abbrev pub FieldsAs : FieldsAnswer → List ℕ → ℕ → List ℕ → Type 0
 FieldsAs x before r after = Gives (fieldsRefusal x) (fieldsValues x) before r after

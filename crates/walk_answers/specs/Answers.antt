@@ -16,6 +16,7 @@ rmwValues rmw.No = 0 ∷ []
 rmwValues (rmw.NotFound b) = b ∷ []
 rmwValues (rmw.Refused n) = []
 
+-- r is the number of what read-modify-write answers, and `after` is the array `before` with its values laid over it
 abbrev pub RmwAs : Rmw → List ℕ → ℕ → List ℕ → Type 0
 RmwAs x before r after = Gives (rmwRefusal x) (rmwValues x) before r after
 
@@ -24,5 +25,6 @@ abbrev pub missingValues : Missing → List ℕ
 missingValues (missing.Listed n whole count) = n ∷ truthNumber whole ∷ count ∷ []
 missingValues (missing.Refused n) = []
 
+-- r is the number of what `missing_types` answers, and `after` is the array `before` with its values laid over it
 abbrev pub MissingAs : Missing → List ℕ → ℕ → List ℕ → Type 0
 MissingAs x before r after = Gives (missingRefusal x) (missingValues x) before r after
