@@ -11,10 +11,10 @@ use Rattle.resolvers.specs.declared.Resolution.{Resolution}
 use Rattle.resolvers.specs.declared.Resolution.the-variants as resolution
 use Rattle.field_types.specs.declared.FieldsAnswer.{FieldsAnswer}
 use Rattle.field_types.specs.declared.FieldsAnswer.the-variants as fields
-use Rattle.walks.specs.declared.Rmw.{Rmw}
-use Rattle.walks.specs.declared.Rmw.the-variants as rmw
-use Rattle.walks.specs.declared.Missing.{Missing}
-use Rattle.walks.specs.declared.Missing.the-variants as missing
+use Rattle.read_modify_write.specs.declared.Rmw.{Rmw}
+use Rattle.read_modify_write.specs.declared.Rmw.the-variants as rmw
+use Rattle.missing_types.specs.declared.Missing.{Missing}
+use Rattle.missing_types.specs.declared.Missing.the-variants as missing
 use Rattle.steps.specs.declared.ReadAnswer.{ReadAnswer}
 use Rattle.steps.specs.declared.ReadAnswer.the-variants as reading
 use Rattle.codes.specs.Numbers.{truthNumber}

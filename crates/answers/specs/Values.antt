@@ -14,11 +14,12 @@ use Rattle.field_types.specs.declared.FieldsAnswer.the-variants as fields
 use Rattle.resolvers.specs.Resolve.{resolvedRefusal}
 use Rattle.resolvers.specs.Calls.{resolutionRefusal}
 use Rattle.field_types.specs.Calls.{fieldsRefusal}
-use Rattle.walks.specs.declared.Rmw.{Rmw}
-use Rattle.walks.specs.declared.Rmw.the-variants as rmw
-use Rattle.walks.specs.declared.Missing.{Missing}
-use Rattle.walks.specs.declared.Missing.the-variants as missing
-use Rattle.walks.specs.Calls.{rmwRefusal, missingRefusal}
+use Rattle.read_modify_write.specs.declared.Rmw.{Rmw}
+use Rattle.read_modify_write.specs.declared.Rmw.the-variants as rmw
+use Rattle.missing_types.specs.declared.Missing.{Missing}
+use Rattle.missing_types.specs.declared.Missing.the-variants as missing
+use Rattle.read_modify_write.specs.Calls.{rmwRefusal}
+use Rattle.missing_types.specs.Calls.{missingRefusal}
 use Rattle.steps.specs.declared.ReadAnswer.{ReadAnswer}
 use Rattle.steps.specs.declared.ReadAnswer.the-variants as reading
 use Rattle.codes.specs.Numbers.{truthNumber}

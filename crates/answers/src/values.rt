@@ -5,12 +5,12 @@ ghost use lib.ListN.{set};
 ghost use Rattle.answers.specs.Values.{Gives, AppendedAs, ResolvedAs, ResolutionAs, FieldsAs, RmwAs, MissingAs, ReadAs};
 use codes::truth;
 use field_types::FieldsAnswer;
+use missing_types::Missing;
+use read_modify_write::Rmw;
 use resolvers::Resolution;
 use resolvers::Resolved;
 use steps::ReadAnswer;
 use type_cache::Appended;
-use walks::Missing;
-use walks::Rmw;
 
 // The number at a place of the array, where it has one.
 fn put(values: &mut [u64], i: usize, a: u64)

@@ -4,12 +4,14 @@ ghost use mathlib.Core.Bool.{true, _&&_};
 ghost use Rattle.typebook.specs.Book.{isType};
 ghost use Rattle.book_check.specs.Check.{ValidBook};
 ghost use Rattle.links.specs.Links.{LinksOf, LinksMade};
-ghost use Rattle.walks.specs.Calls.{scratchFits, listFits, RmwIn, MissingIn};
+ghost use Rattle.walks.specs.Scratch.{scratchFits};
+ghost use Rattle.missing_types.specs.Calls.{listFits, MissingIn};
+ghost use Rattle.read_modify_write.specs.Calls.{RmwIn};
 ghost use Rattle.gateway.specs.Calls.{RmwGiven, RmwInGiven, MissingGiven, MissingInGiven};
 use answers::values::give_missing;
 use answers::values::give_rmw;
-use walks::Missing;
-use walks::Rmw;
+use missing_types::Missing;
+use read_modify_write::Rmw;
 
 // The numbers that a walk needs of the scratch, and of the list.
 const SCRATCH: usize = 16384;
@@ -38,7 +40,7 @@ pub extern "C" fn gateway_requires_read_modify_write(
     ensures { λ r. ⌜ RmwGiven (now (buffer .entry)) len width root (now (scratch .entry)) (now (values .entry)) r (now (scratch .exit)) (now (values .exit)) ⌝ }
 {
     give_rmw(
-        walks::requires_read_modify_write(buffer, len, width, root, scratch),
+        read_modify_write::requires_read_modify_write(buffer, len, width, root, scratch),
         values,
     )
 }
@@ -58,7 +60,7 @@ fn rmw_in(
     if scratch.len() < SCRATCH {
         return Rmw::Refused(6);
     }
-    walks::requires_read_modify_write_in(book, index, links, width, root, scratch)
+    read_modify_write::requires_read_modify_write_in(book, index, links, width, root, scratch)
 }
 
 #[no_mangle]
@@ -91,7 +93,7 @@ pub extern "C" fn gateway_missing_types(
     ensures { λ r. ⌜ MissingGiven (now (buffer .entry)) len width root (now (scratch .entry)) (now (list .entry)) (now (values .entry)) r (now (scratch .exit)) (now (list .exit)) (now (values .exit)) ⌝ }
 {
     give_missing(
-        walks::missing_types(buffer, len, width, root, scratch, list),
+        missing_types::missing_types(buffer, len, width, root, scratch, list),
         values,
     )
 }
@@ -115,7 +117,7 @@ fn missing_in(
     if list.len() < LIST {
         return Missing::Refused(6);
     }
-    walks::missing_types_in(book, index, links, width, root, scratch, list)
+    missing_types::missing_types_in(book, index, links, width, root, scratch, list)
 }
 
 #[no_mangle]
