@@ -19,7 +19,7 @@ abbrev pub missingRefusal : Missing → ℕ
 missingRefusal (missing.Listed n w c) = 0
 missingRefusal (missing.Refused n) = n
 
--- 6 where the call takes a list: that has at least 4,096 numbers
+-- 6: the list has at least 4,096 numbers
 abbrev pub listFits : List ℕ → Bool
 listFits list = leb 4096 (length list)
 

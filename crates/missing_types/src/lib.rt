@@ -102,6 +102,7 @@ pub fn missing_types_in(
     answer
 }
 
+// `missing_types` for type block `root` of a valid book: 6 where scratch or list is too short.
 fn missing_at(book: &[u8], width: u8, root: u32, scratch: &mut [u32], list: &mut [u32]) -> Missing
     requires { ⌜ ValidBook (now book) × (isType (now book) root ≡ true) ⌝ }
     ensures { λ r. ⌜ MissingIn (scratchFits (now (scratch .entry)) && listFits (now (list .entry))) (now (book .entry)) width root (now (scratch .entry)) (now (list .entry)) r (now (scratch .exit)) (now (list .exit)) ⌝ }

@@ -131,6 +131,7 @@ pub fn requires_read_modify_write_in(
     answer
 }
 
+// `requires_read_modify_write` for type block `root` of a valid book: 6 where the scratch is too short.
 fn rmw_at(book: &[u8], width: u8, root: u32, scratch: &mut [u32]) -> Rmw
     requires { ⌜ ValidBook (now book) × (isType (now book) root ≡ true) ⌝ }
     ensures { λ r. ⌜ RmwIn (scratchFits (now (scratch .entry))) (now (book .entry)) width root (now (scratch .entry)) r (now (scratch .exit)) ⌝ }
