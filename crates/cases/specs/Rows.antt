@@ -20,9 +20,10 @@ use Rattle.resolvers.specs.Resolve.{resolveAlias}
 use Rattle.resolvers.specs.declared.Resolved.{Resolved}
 use Rattle.resolvers.specs.declared.Resolved.the-variants.{Base, Lacks, Endless}
 use Rattle.walks.specs.Walk.{walkOf}
-use Rattle.walks.specs.Reads.{listed, rmwOf}
-use Rattle.walks.specs.declared.Rmw.{Rmw}
-use Rattle.walks.specs.declared.Rmw.the-variants as rmw
+use Rattle.walks.specs.Reads.{listed}
+use Rattle.read_modify_write.specs.Reads.{rmwOf}
+use Rattle.read_modify_write.specs.declared.Rmw.{Rmw}
+use Rattle.read_modify_write.specs.declared.Rmw.the-variants as rmw
 use Rattle.cases.specs.Blocks.{typeBlock, fieldBlock}
 
 -- a row of the table: what the definitions give, and what document 01 says, each as numbers

@@ -10,9 +10,10 @@ use Rattle.resolvers.specs.declared.Resolved.{Resolved}
 use Rattle.resolvers.specs.declared.Resolved.the-variants.{Base}
 use Rattle.field_types.specs.declared.FieldsAnswer.{FieldsAnswer}
 use Rattle.field_types.specs.Calls.{Filled}
-use Rattle.walks.specs.declared.Rmw.{Rmw}
-use Rattle.walks.specs.declared.Missing.{Missing}
-use Rattle.walks.specs.Calls.{RmwIn, RmwIs, MissingIn, MissingIs}
+use Rattle.read_modify_write.specs.declared.Rmw.{Rmw}
+use Rattle.missing_types.specs.declared.Missing.{Missing}
+use Rattle.read_modify_write.specs.Calls.{RmwIn, RmwIs}
+use Rattle.missing_types.specs.Calls.{MissingIn, MissingIs}
 use Rattle.steps.specs.declared.ReadAnswer.{ReadAnswer}
 use Rattle.steps.specs.Trace.{Trace}
 use Rattle.de.specs.Read.{ReadIs}

@@ -4,7 +4,8 @@ ghost use mathlib.Core.Bool.{true, _&&_};
 ghost use Rattle.typebook.specs.Book.{isType};
 ghost use Rattle.book_check.specs.Check.{ValidBook};
 ghost use Rattle.links.specs.Links.{LinksOf, LinksMade};
-ghost use Rattle.walks.specs.Calls.{scratchFits, listFits};
+ghost use Rattle.walks.specs.Scratch.{scratchFits};
+ghost use Rattle.missing_types.specs.Calls.{listFits};
 ghost use Rattle.gateway.specs.Calls.{RmwGiven, RmwInGiven, MissingGiven, MissingInGiven};
 use walk_answers::give_missing;
 use walk_answers::give_rmw;
@@ -31,7 +32,7 @@ pub extern "C" fn gateway_requires_read_modify_write(
     ensures { λ r. ⌜ RmwGiven (now (buffer .entry)) len width root (now (scratch .entry)) (now (values .entry)) r (now (scratch .exit)) (now (values .exit)) ⌝ }
 {
     give_rmw(
-        walks::requires_read_modify_write(buffer, len, width, root, scratch),
+        read_modify_write::requires_read_modify_write(buffer, len, width, root, scratch),
         values,
     )
 }
@@ -69,7 +70,7 @@ pub extern "C" fn gateway_missing_types(
     ensures { λ r. ⌜ MissingGiven (now (buffer .entry)) len width root (now (scratch .entry)) (now (list .entry)) (now (values .entry)) r (now (scratch .exit)) (now (list .exit)) (now (values .exit)) ⌝ }
 {
     give_missing(
-        walks::missing_types(buffer, len, width, root, scratch, list),
+        missing_types::missing_types(buffer, len, width, root, scratch, list),
         values,
     )
 }

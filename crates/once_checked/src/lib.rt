@@ -4,9 +4,11 @@ ghost use mathlib.Core.Bool.{true, _&&_};
 ghost use Rattle.typebook.specs.Book.{isType};
 ghost use Rattle.book_check.specs.Check.{ValidBook};
 ghost use Rattle.links.specs.Links.{LinksOf};
-ghost use Rattle.walks.specs.Calls.{scratchFits, listFits, RmwIn, MissingIn};
-use walks::Missing;
-use walks::Rmw;
+ghost use Rattle.walks.specs.Scratch.{scratchFits};
+ghost use Rattle.missing_types.specs.Calls.{listFits, MissingIn};
+ghost use Rattle.read_modify_write.specs.Calls.{RmwIn};
+use missing_types::Missing;
+use read_modify_write::Rmw;
 
 // The numbers that a walk needs of the scratch, and of the list.
 const SCRATCH: usize = 16384;
@@ -28,7 +30,7 @@ pub fn rmw_in(
     if scratch.len() < SCRATCH {
         return Rmw::Refused(6);
     }
-    walks::requires_read_modify_write_in(book, index, links, width, root, scratch)
+    read_modify_write::requires_read_modify_write_in(book, index, links, width, root, scratch)
 }
 
 // 6 for a short scratch or a short list, then the walk.
@@ -50,5 +52,5 @@ pub fn missing_in(
     if list.len() < LIST {
         return Missing::Refused(6);
     }
-    walks::missing_types_in(book, index, links, width, root, scratch, list)
+    missing_types::missing_types_in(book, index, links, width, root, scratch, list)
 }

@@ -1,4 +1,4 @@
-// The operations of the crates resolvers and walks, on the book that is kept.
+// The operations of the resolvers and of the two walks, on the book that is kept.
 use crate::answer::put_byte;
 use crate::answer::put_not_found;
 use crate::answer::put_u32;
@@ -10,9 +10,9 @@ use crate::lent::FILL_NUMBER;
 use crate::lent::put_numbers;
 use crate::lent::put_numbers_are;
 use field_types::FieldsAnswer;
+use missing_types::Missing;
+use read_modify_write::Rmw;
 use resolvers::Resolution;
-use walks::Missing;
-use walks::Rmw;
 
 fn put_resolution(answer: &mut [u8], resolution: Resolution) -> usize {
     match resolution {
@@ -81,7 +81,13 @@ fn rmw_with(
     answer: &mut [u8],
 ) -> usize {
     let root = u32_at(input, 1) as u64;
-    let rmw = walks::requires_read_modify_write(book, len, byte_at(input, 0), root, scratch);
+    let rmw = read_modify_write::requires_read_modify_write(
+        book,
+        len,
+        byte_at(input, 0),
+        root,
+        scratch,
+    );
     let at = put_rmw(answer, rmw);
     put_scratch(answer, at, scratch)
 }
@@ -131,7 +137,7 @@ fn missing_with(
     answer: &mut [u8],
 ) -> usize {
     let root = u32_at(input, 1) as u64;
-    let missing = walks::missing_types(book, len, byte_at(input, 0), root, scratch, list);
+    let missing = missing_types::missing_types(book, len, byte_at(input, 0), root, scratch, list);
     let at = put_missing(answer, missing, list);
     put_scratch(answer, at, scratch)
 }

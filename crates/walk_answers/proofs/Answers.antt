@@ -3,10 +3,10 @@ use mathlib.Core.Path.{_≡_}
 use mathlib.Core.Bool.{Bool}
 use mathlib.Core.List.{List, [], _∷_}
 use Prim.Native.Nat.{ℕ}
-use Rattle.walks.specs.declared.Rmw.{Rmw}
-use Rattle.walks.specs.declared.Rmw.the-variants as rmw
-use Rattle.walks.specs.declared.Missing.{Missing}
-use Rattle.walks.specs.declared.Missing.the-variants as missing
+use Rattle.read_modify_write.specs.declared.Rmw.{Rmw}
+use Rattle.read_modify_write.specs.declared.Rmw.the-variants as rmw
+use Rattle.missing_types.specs.declared.Missing.{Missing}
+use Rattle.missing_types.specs.declared.Missing.the-variants as missing
 use Rattle.codes.specs.Numbers.{truthNumber}
 use Rattle.lent_values.specs.Values.{Gives}
 use Rattle.lent_values.proofs.Lays.{none}

@@ -1,11 +1,12 @@
 -- What the walks answer, as a number and values: 7 comes with the block whose type name is not in the book, any other refusal with nothing. Assumes nothing.
 use mathlib.Core.List.{List, [], _∷_}
 use Prim.Native.Nat.{ℕ}
-use Rattle.walks.specs.declared.Rmw.{Rmw}
-use Rattle.walks.specs.declared.Rmw.the-variants as rmw
-use Rattle.walks.specs.declared.Missing.{Missing}
-use Rattle.walks.specs.declared.Missing.the-variants as missing
-use Rattle.walks.specs.Calls.{rmwRefusal, missingRefusal}
+use Rattle.read_modify_write.specs.declared.Rmw.{Rmw}
+use Rattle.read_modify_write.specs.declared.Rmw.the-variants as rmw
+use Rattle.missing_types.specs.declared.Missing.{Missing}
+use Rattle.missing_types.specs.declared.Missing.the-variants as missing
+use Rattle.missing_types.specs.Calls.{missingRefusal}
+use Rattle.read_modify_write.specs.Calls.{rmwRefusal}
 use Rattle.codes.specs.Numbers.{truthNumber}
 use Rattle.lent_values.specs.Values.{Gives}
 

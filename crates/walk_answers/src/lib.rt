@@ -4,8 +4,8 @@ use codes::truth;
 use lent_values::done_1;
 use lent_values::done_3;
 use lent_values::lacks;
-use walks::Missing;
-use walks::Rmw;
+use missing_types::Missing;
+use read_modify_write::Rmw;
 
 // 1 for yes and 0 for no, 7 with its block, or another refusal.
 pub fn give_rmw(answer: Rmw, values: &mut [u64]) -> u8

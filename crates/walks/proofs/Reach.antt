@@ -21,7 +21,7 @@ use Rattle.walks.specs.Reads.{names, count, listed, whole}
 use Rattle.walks.specs.Reached.{Reached, start, part, Distinct, none as nothing, more, Resolves}
 use Rattle.walks.proofs.Goes.{Goes, none, old, fresh, stop, goes}
 
-true-false : {X : Type 0} → true ≡ false → X
+pub true-false : {X : Type 0} → true ≡ false → X
 true-false e = absurd (let z : _≡_ {A = ℕ} 0 1 = cc in omega arith)
 
 has-cases : (y x : List ℕ) (v : List (List ℕ)) → has (y ∷ v) x ≡ true → (x ≡ y) ⊎ (has v x ≡ true)

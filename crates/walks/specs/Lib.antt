@@ -1,5 +1,5 @@
 pub mod Walk
 pub mod Reads
 pub mod Reached
-pub mod Calls
+pub mod Scratch
 pub mod State

@@ -1,5 +1,5 @@
 -- `missing_in` meets its contract. Assumes nothing.
-use Rattle.walks.proofs.Ends.{missing-scratch, missing-list, missing-fits}
+use Rattle.missing_types.proofs.Ends.{missing-scratch, missing-list, missing-fits}
 use borrow.Author.Needs.{needs}
 use Rattle.once_checked.proofs.missing_in.Statement.{statement}
 use Rattle.once_checked.proofs.missing_in.Tie as tie

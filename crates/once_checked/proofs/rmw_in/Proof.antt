@@ -1,5 +1,5 @@
 -- `rmw_in` meets its contract. Assumes nothing.
-use Rattle.walks.proofs.Ends.{rmw-scratch, rmw-fits}
+use Rattle.read_modify_write.proofs.Ends.{rmw-scratch, rmw-fits}
 use borrow.Author.Needs.{needs}
 use Rattle.once_checked.proofs.rmw_in.Statement.{statement}
 use Rattle.once_checked.proofs.rmw_in.Tie as tie

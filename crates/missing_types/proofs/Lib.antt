@@ -1,0 +1,4 @@
+-- Laws that the functions' proofs cite, and those on the list that the crates above cite.
+mod Lists
+pub mod Ends
+pub mod Missings

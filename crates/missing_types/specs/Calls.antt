@@ -1,0 +1,52 @@
+-- `missing_types`, over a book that fills the first `len` bytes of a buffer: refusals 1 to 5, then 6, else what is read in the walk.
+-- Assumes nothing.
+use mathlib.Core.Path.{_≡_}
+use mathlib.Core.Bool.{Bool, true, false, cond, _&&_}
+use mathlib.Core.List.{List, _++_}
+use Prim.Native.Nat.{ℕ}
+use lib.ListN.{length, take, drop}
+use lib.Dec.{leb}
+use Rattle.book_check.specs.Check.{checkRoot}
+use Rattle.resolvers.specs.Calls.{atRoot}
+use Rattle.walks.specs.Walk.{walkOf}
+use Rattle.walks.specs.Reads.{count, listed, whole}
+use Rattle.walks.specs.Scratch.{scratchFits, zeroed}
+use Rattle.missing_types.specs.declared.Missing.{Missing}
+use Rattle.missing_types.specs.declared.Missing.the-variants as missing
+
+-- document 01's number of what `missing_types` answers, 0 where nothing is refused
+abbrev pub missingRefusal : Missing → ℕ
+missingRefusal (missing.Listed n w c) = 0
+missingRefusal (missing.Refused n) = n
+
+-- 6: the list has at least 4,096 numbers
+abbrev pub listFits : List ℕ → Bool
+listFits list = leb 4096 (length list)
+
+-- how many blocks are listed, the mark "whole", and the number of distinct names met
+unfoldable pub missingAnswer : Bool → List ℕ → ℕ → ℕ → Missing
+missingAnswer true book width t =
+    missing.Listed (length (listed (walkOf book width t))) (whole (walkOf book width t)) (count (walkOf book width t))
+missingAnswer false book width t = missing.Refused 6
+
+-- the blocks listed, and after them the list as it was
+unfoldable pub missingList : Bool → List ℕ → ℕ → ℕ → List ℕ → List ℕ
+missingList true book width t list = listed (walkOf book width t) ++ drop (length (listed (walkOf book width t))) list
+missingList false book width t list = list
+
+-- what the walk of type block t answers, and what the list holds then
+pub record Walked (book : List ℕ) (width t : ℕ) (list : List ℕ) (r : Missing) (list′ : List ℕ) : Type 0 where
+  pub answer : r ≡ missingAnswer true book width t
+  pub blocks : list′ ≡ missingList true book width t list
+
+-- what is answered, and what scratch and list hold then, for type block t of a valid book
+pub record MissingIn (fits : Bool) (book : List ℕ) (width t : ℕ) (sc list : List ℕ) (r : Missing) (sc′ list′ : List ℕ) : Type 0 where
+  pub answer : r ≡ missingAnswer fits book width t
+  pub scratch : sc′ ≡ cond fits (zeroed sc) sc
+  pub blocks : list′ ≡ missingList fits book width t list
+
+-- the same for a book in a buffer and a root: 1 to 6 leave scratch and list as they were
+pub record MissingIs (buffer : List ℕ) (len width root : ℕ) (sc list : List ℕ) (r : Missing) (sc′ list′ : List ℕ) : Type 0 where
+  pub answer : r ≡ atRoot missing.Refused (λ t. missingAnswer (scratchFits sc && listFits list) (take len buffer) width t) (checkRoot buffer len root)
+  pub scratch : sc′ ≡ atRoot (λ n. sc) (λ t. cond (scratchFits sc && listFits list) (zeroed sc) sc) (checkRoot buffer len root)
+  pub blocks : list′ ≡ atRoot (λ n. list) (λ t. missingList (scratchFits sc && listFits list) (take len buffer) width t list) (checkRoot buffer len root)
