@@ -16,7 +16,7 @@ use Rattle.utf_8.proofs.Encodes.{utf8-short, len-one, len-two, len-three}
 use Rattle.utf_16.specs.Unit16.{unitOf, isLeading, isTrailing, fromSurrogates}
 use Rattle.utf_16.specs.Decode.{unitAlone, unitAfter, decodeFrom, decodeItems, decodeScalars, decodeText}
 use Rattle.utf_16.specs.Step.{ScalarAt}
-use Rattle.utf_16_decoder.specs.Step.{UnitAt, SurrogateAt}
+use Rattle.utf_16_scalar.specs.Units.{UnitAt, SurrogateAt}
 use Rattle.utf_16.proofs.Ends.{drop-two}
 
 -- ---- the surrogates

@@ -1,11 +1,11 @@
--- `utf_16_decoder::ascii::copy_units` meets its contract. The loop's invariant: the low bytes that are left, written from here on, make the buffer that all of them make. Assumes nothing.
+-- `utf_16_ascii::copy_units` meets its contract. The loop's invariant: the low bytes that are left, written from here on, make the buffer that all of them make. Assumes nothing.
 use Prim.Native.Nat.{_+_, _*_, _-_, _≤_}
 use Rattle.utf_16.specs.Step.{Left}
-use Rattle.utf_16_decoder.specs.Step.{lows}
-use Rattle.utf_16_decoder.proofs.Blocks.{copy-start, copy-room, copy-again, copy-end}
+use Rattle.utf_16_ascii.specs.Ascii16.{lows}
+use Rattle.utf_16_ascii.proofs.Blocks.{copy-start, copy-room, copy-again, copy-end}
 use borrow.Author.Needs.{needs}
-use Rattle.utf_16_decoder.proofs.ascii.copy_units.Statement.{statement}
-use Rattle.utf_16_decoder.proofs.ascii.copy_units.Tie as tie
+use Rattle.utf_16_ascii.proofs.copy_units.Statement.{statement}
+use Rattle.utf_16_ascii.proofs.copy_units.Tie as tie
 
 abbrev Inv-loop : tie.InvT-loop
 Inv-loop bytes at out₀ to i₀ out i =

@@ -1,8 +1,8 @@
--- `utf_16_decoder::scalar_16` meets its contract: each exit is a law of the decoder. Assumes nothing.
-use Rattle.utf_16_decoder.proofs.Decodes.{scalar-odd, scalar-low, scalar-high}
+-- `utf_16_scalar::scalar_16` meets its contract: each exit is a law of the decoder. Assumes nothing.
+use Rattle.utf_16_scalar.proofs.Decodes.{scalar-odd, scalar-low, scalar-high}
 use borrow.Author.Needs.{needs}
-use Rattle.utf_16_decoder.proofs.scalar_16.Statement.{statement}
-use Rattle.utf_16_decoder.proofs.scalar_16.Tie as tie
+use Rattle.utf_16_scalar.proofs.scalar_16.Statement.{statement}
+use Rattle.utf_16_scalar.proofs.scalar_16.Tie as tie
 
 sub-if1 : tie.Need-sub-if1
 sub-if1 c = search needs

@@ -1,14 +1,14 @@
--- `utf_16_decoder::ascii::ascii_block` meets its contract: where no whole block begins, nothing is promised. Assumes nothing.
-use Rattle.utf_16_decoder.proofs.Blocks.{not-told}
+-- `utf_16_ascii::ascii_block` meets its contract: where no whole block begins, none is ASCII. Assumes nothing.
+use Rattle.utf_16_ascii.proofs.Blocks.{not-told, none-whole}
 use borrow.Author.Needs.{needs}
-use Rattle.utf_16_decoder.proofs.ascii.ascii_block.Statement.{statement}
-use Rattle.utf_16_decoder.proofs.ascii.ascii_block.Tie as tie
+use Rattle.utf_16_ascii.proofs.ascii_block.Statement.{statement}
+use Rattle.utf_16_ascii.proofs.ascii_block.Tie as tie
 
 sub-if1 : tie.Need-sub-if1
 sub-if1 c = search needs
 
 returns : tie.Need-returns
-returns c = search not-told
+returns c = (search not-told, search none-whole)
 
 ascii-units-requires : tie.Need-ascii-units-requires
 ascii-units-requires c κs = search needs

@@ -1,22 +1,22 @@
--- `utf_16_decoder::ascii::ascii_units` meets its contract. The loop's invariant: where nothing is added up so far, the code units so far are ASCII. Assumes nothing.
-use mathlib.Core.Path.{_≡_}
+-- `utf_16_ascii::ascii_units` meets its contract. The loop's invariant: where nothing is added up so far, the code units so far are ASCII, and of ASCII nothing is. Assumes nothing.
+use mathlib.Core.Path.{_≡_, refl}
 use Prim.Native.Nat.{_*_, _-_, _≤_}
-use Rattle.utf_16_decoder.specs.Step.{AsciiUnits}
-use Rattle.utf_16_decoder.proofs.Blocks.{units-none, units-again, units-all}
+use Rattle.utf_16_ascii.specs.Ascii16.{AsciiUnits}
+use Rattle.utf_16_ascii.proofs.Blocks.{units-none, units-again, units-all, nothing-again, nothing-all}
 use borrow.Author.Needs.{needs}
-use Rattle.utf_16_decoder.proofs.ascii.ascii_units.Statement.{statement}
-use Rattle.utf_16_decoder.proofs.ascii.ascii_units.Tie as tie
+use Rattle.utf_16_ascii.proofs.ascii_units.Statement.{statement}
+use Rattle.utf_16_ascii.proofs.ascii_units.Tie as tie
 
 abbrev Inv-loop : tie.InvT-loop
 Inv-loop bytes at above₀ i₀ above i =
-    (i ≤ 32) × (above ≤ 256 * i) × (above ≡ 0 → AsciiUnits bytes at i)
+    (i ≤ 32) × (above ≤ 256 * i) × (above ≡ 0 → AsciiUnits bytes at i) × (AsciiUnits bytes at 32 → above ≡ 0)
 
 abbrev μ-loop : tie.MeasureT-loop
 μ-loop bytes at above₀ i₀ above i =
     32 - i
 
 loop-holds : tie.Need-loop-holds Inv-loop μ-loop
-loop-holds c = (search needs, search needs, λ z. search units-none)
+loop-holds c = (search needs, search needs, λ z. search units-none, λ a. refl)
 
 mul-widened : tie.Need-mul-widened Inv-loop μ-loop
 mul-widened c = search needs
@@ -58,10 +58,10 @@ loop-less : tie.Need-loop-less Inv-loop μ-loop
 loop-less c = search needs
 
 loop-again : tie.Need-loop-again Inv-loop μ-loop
-loop-again c = (search needs, search needs, search units-again)
+loop-again c = (search needs, search needs, search units-again, search nothing-again)
 
 returns : tie.Need-returns Inv-loop μ-loop
-returns c = search units-all
+returns c = (search units-all, search nothing-all)
 
 pub ascii-units-spec : {M : Type 1} → statement M
 ascii-units-spec =

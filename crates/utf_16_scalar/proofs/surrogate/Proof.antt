@@ -1,8 +1,8 @@
--- `utf_16_decoder::surrogate` meets its contract: each exit is a law of the decoder. Assumes nothing.
-use Rattle.utf_16_decoder.proofs.Decodes.{scalar-trailing, scalar-cut, scalar-low-after, scalar-high-after, scalar-pair}
+-- `utf_16_scalar::surrogate` meets its contract: each exit is a law of the decoder. Assumes nothing.
+use Rattle.utf_16_scalar.proofs.Decodes.{scalar-trailing, scalar-cut, scalar-low-after, scalar-high-after, scalar-pair}
 use borrow.Author.Needs.{needs}
-use Rattle.utf_16_decoder.proofs.surrogate.Statement.{statement}
-use Rattle.utf_16_decoder.proofs.surrogate.Tie as tie
+use Rattle.utf_16_scalar.proofs.surrogate.Statement.{statement}
+use Rattle.utf_16_scalar.proofs.surrogate.Tie as tie
 
 add-t7 : tie.Need-add-t7
 add-t7 c = search needs
