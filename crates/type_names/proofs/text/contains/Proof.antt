@@ -2,10 +2,10 @@ use borrow.Author.Needs.{needs}
 use mathlib.Core.Path.{_≡_, refl}
 use Prim.Native.Nat.{_≤_, _-_}
 use lib.ListN.{length, drop}
-use Rattle.type_category.specs.Text.{contains}
-use Rattle.type_category.proofs.Texts.{contains-here, contains-again, contains-end}
-use Rattle.type_category.proofs.text.contains.Statement.{statement}
-use Rattle.type_category.proofs.text.contains.Tie as tie
+use Rattle.type_names.specs.Text.{contains}
+use Rattle.type_names.proofs.Texts.{contains-here, contains-again, contains-end}
+use Rattle.type_names.proofs.text.contains.Statement.{statement}
+use Rattle.type_names.proofs.text.contains.Tie as tie
 
 abbrev Inv-loop : tie.InvT-loop
 Inv-loop name part i₀ i = (i ≤ length name) × (contains name part ≡ contains (drop i name) part)

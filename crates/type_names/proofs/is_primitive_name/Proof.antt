@@ -1,7 +1,7 @@
-use Rattle.type_category.proofs.Steps.{primitive-time, primitive-sized}
+use Rattle.type_names.proofs.Names.{primitive-time, primitive-sized}
 use borrow.Author.Needs.{needs}
-use Rattle.type_category.proofs.type_category.is_primitive_name.Statement.{statement}
-use Rattle.type_category.proofs.type_category.is_primitive_name.Tie as tie
+use Rattle.type_names.proofs.is_primitive_name.Statement.{statement}
+use Rattle.type_names.proofs.is_primitive_name.Tie as tie
 
 ruleset exits = (primitive-time, primitive-sized)
 

@@ -3,10 +3,10 @@ use mathlib.Core.Path.{_≡_, refl}
 use mathlib.Core.List.{_∷_, []}
 use Prim.Native.Nat.{_≤_, _-_}
 use lib.ListN.{length, drop}
-use Rattle.type_category.specs.Text.{contains}
-use Rattle.type_category.proofs.Texts.{byte-here, byte-again, byte-end}
-use Rattle.type_category.proofs.text.contains_byte.Statement.{statement}
-use Rattle.type_category.proofs.text.contains_byte.Tie as tie
+use Rattle.type_names.specs.Text.{contains}
+use Rattle.type_names.proofs.Texts.{byte-here, byte-again, byte-end}
+use Rattle.type_names.proofs.text.contains_byte.Statement.{statement}
+use Rattle.type_names.proofs.text.contains_byte.Tie as tie
 
 abbrev Inv-loop : tie.InvT-loop
 Inv-loop name byte i₀ i = (i ≤ length name) × (contains name (byte ∷ []) ≡ contains (drop i name) (byte ∷ []))

@@ -1,7 +1,7 @@
-use Rattle.type_category.proofs.Steps.{pointer-first, pointer-second, pointer-start}
+use Rattle.type_names.proofs.Names.{pointer-first, pointer-second, pointer-start}
 use borrow.Author.Needs.{needs}
-use Rattle.type_category.proofs.type_category.is_pointer_name.Statement.{statement}
-use Rattle.type_category.proofs.type_category.is_pointer_name.Tie as tie
+use Rattle.type_names.proofs.is_pointer_name.Statement.{statement}
+use Rattle.type_names.proofs.is_pointer_name.Tie as tie
 
 ruleset exits = (pointer-first, pointer-second, pointer-start)
 

@@ -11,7 +11,7 @@ use lib.Seq.{drop-cons, take-all}
 use lib.Dec.{eqb}
 use borrow.Author.Tests.{eq-eqb, ne-eqb}
 use Rattle.typebook.specs.Book.{sameName}
-use Rattle.type_category.specs.Text.{startsWith, contains}
+use Rattle.type_names.specs.Text.{startsWith, contains}
 use Rattle.typebook.proofs.Names.{same-lengths}
 
 pub starts-short : (name start : List ℕ) → length name < length start → false ≡ startsWith name start
@@ -22,11 +22,16 @@ pub starts-whole : (name start : List ℕ) (t : Bool) → t ≡ sameName (take (
 unfolding startsWith
 starts-whole name start t e = e ∙ rw sub-zero
 
--- one byte is compared as such
-and-true : (t : Bool) → t && true ≡ t
+-- a test joined with one that is known
+pub and-true : (t : Bool) → t && true ≡ t
 and-true true = refl
 and-true false = refl
 
+pub and-false : (t : Bool) → t && false ≡ false
+and-false true = refl
+and-false false = refl
+
+-- one byte is compared as such
 starts-byte : (x b : ℕ) (xs : List ℕ) → startsWith (x ∷ xs) (b ∷ []) ≡ eqb x b
 unfolding startsWith sameName
 starts-byte x b xs = and-true (eqb x b)

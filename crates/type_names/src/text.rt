@@ -1,7 +1,7 @@
 // Tests on a type's name.
 ghost use mathlib.Core.Path.{_≡_};
 ghost use mathlib.Core.List.{_∷_, []};
-ghost use Rattle.type_category.specs.Text.{startsWith, contains as containsIn};
+ghost use Rattle.type_names.specs.Text.{startsWith, contains as containsIn};
 use typebook::block::same_name;
 
 // Whether a name begins with these bytes.

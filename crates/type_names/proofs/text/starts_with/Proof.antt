@@ -1,7 +1,7 @@
-use Rattle.type_category.proofs.Texts.{starts-short, starts-whole}
+use Rattle.type_names.proofs.Texts.{starts-short, starts-whole}
 use borrow.Author.Needs.{needs}
-use Rattle.type_category.proofs.text.starts_with.Statement.{statement}
-use Rattle.type_category.proofs.text.starts_with.Tie as tie
+use Rattle.type_names.proofs.text.starts_with.Statement.{statement}
+use Rattle.type_names.proofs.text.starts_with.Tie as tie
 
 returns : tie.Need-returns
 returns c = search starts-short

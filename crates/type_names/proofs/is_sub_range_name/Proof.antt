@@ -1,7 +1,7 @@
-use Rattle.type_category.proofs.Steps.{range-not-open, range-not-closed, range-dots}
+use Rattle.type_names.proofs.Names.{range-not-open, range-not-closed, range-dots}
 use borrow.Author.Needs.{needs}
-use Rattle.type_category.proofs.type_category.is_sub_range_name.Statement.{statement}
-use Rattle.type_category.proofs.type_category.is_sub_range_name.Tie as tie
+use Rattle.type_names.proofs.is_sub_range_name.Statement.{statement}
+use Rattle.type_names.proofs.is_sub_range_name.Tie as tie
 
 ruleset exits = (range-not-open, range-not-closed, range-dots)
 
