@@ -1,15 +1,15 @@
--- Laws of `ascii`: the only place that opens it. Assumes nothing.
+-- Laws of `ascii`: the only place that opens it; and the ends of blocks. Assumes nothing.
 use mathlib.Core.Path.{_≡_, refl, sym, _∙_}
 use mathlib.Core.Bool.{Bool, true, false, cond}
 use mathlib.Core.List.{List, [], _∷_, _++_}
-use Prim.Native.Nat.{ℕ, zero, suc, _+_, _≤_, _<_}
+use Prim.Native.Nat.{ℕ, zero, suc, _+_, _-_, _≤_, _<_}
 use native.Mathlib.Omega.{arith}
 use native.Mathlib.Numerals.{add-one}
 use lib.ListN.{length, getD, drop, drop-of-length-le}
 use lib.Seq.{drop-cons}
 use lib.Dec.{ltb}
 use borrow.Author.Tests.{lt-ltb, le-ltb, ltb-true, ltb-false}
-use Rattle.ascii.specs.Ascii.{ascii}
+use Rattle.ascii.specs.Ascii.{ascii, blockEnd}
 
 -- ---- its bytes
 
@@ -43,6 +43,15 @@ ascii-append (x ∷ xs) ys h k = by (ltb x 0x80) h (λ q. ascii-append xs ys q k
     by : (t : Bool) → cond t (ascii xs) false ≡ true → (ascii xs ≡ true → ascii (xs ++ ys) ≡ true) → cond t (ascii (xs ++ ys)) false ≡ true
     by true h rest = rest h
     by false h rest = h
+
+-- ---- the exits of `block_end`
+
+module _ (at len : ℕ) where
+  pub end-last : len - at < 64 → len ≡ blockEnd at len
+  end-last h = rw (lt-ltb (len - at) 64 h)
+
+  pub end-whole : 64 ≤ len - at → at + 64 ≡ blockEnd at len
+  end-whole h = rw (le-ltb (len - at) 64 h)
 
 -- ---- the exits of `higher`
 

@@ -1,10 +1,23 @@
-// ASCII, which is the same in UTF-8 and Windows-1252: told without a branch for each byte, and copied.
+// ASCII, which is the same in UTF-8 and Windows-1252: told without a branch for each byte, and copied. The decoders go by blocks of at most 64 bytes, of
+// which one that is ASCII throughout is only copied.
 ghost use mathlib.Core.Path.{_≡_};
 ghost use mathlib.Core.Bool.{cond};
+ghost use Prim.Native.Nat.{_+_, _<_, _≤_};
 ghost use lib.Dec.{ltb};
 ghost use Rattle.utf_8.specs.Buffer.{Wrote};
-ghost use Rattle.ascii.specs.Ascii.{ascii};
+ghost use Rattle.ascii.specs.Ascii.{ascii, blockEnd};
 use utf_8::Put;
+
+// The end of the block that starts at a place, in `len` bytes.
+pub fn block_end(at: usize, len: usize) -> usize
+    requires { ⌜ at < len ⌝ }
+    ensures { λ r. ⌜ (r ≡ blockEnd at len) × (at < r) × (r ≤ len) × (r ≤ at + 64) ⌝ }
+{
+    if len - at < 64 {
+        return len;
+    }
+    at + 64
+}
 
 // The higher of two bytes.
 fn higher(a: u8, b: u8) -> u8

@@ -12,10 +12,11 @@ use Rattle.type_id.specs.declared.AdsTypeId.the-variants as id
 use Rattle.type_id.specs.TypeId.{idOf}
 use Rattle.typebook.specs.Book.{blockOf, byteAt, flagOf, dimensionsOf, typeIdOf, offsetOf, sizeOf, fieldsOf, nameOf, typeNameOf, sameName}
 use Rattle.typebook.proofs.Blocks.{same-byte, same-u32, same-counted}
+use Rattle.type_names.specs.Text.{ascii}
+use Rattle.type_names.specs.Names.{isSubRangeName, isPrimitiveName}
 use Rattle.type_category.specs.declared.type_category.AdsTypeCategory.{AdsTypeCategory}
 use Rattle.type_category.specs.declared.type_category.AdsTypeCategory.the-variants.{None, Primitive, Alias, Enum, Array, Struct, FunctionBlock, Program, Function, SubRange, String, Bitset, Pointer, Union, Reference, Interface}
-use Rattle.type_category.specs.Text.{ascii}
-use Rattle.type_category.specs.Category.{hasFields, hasMethods, hasTypeName, implements, isPointer, isReference, isArray, isEnum, isSubRangeName, isAlias, idStep, orElse, isPrimitiveName, isUnion, methodsCategory, fieldsCategory, isEmptyStruct, bareCategory, sizeCategory, complexCategory, simpleCategory, categoryOf}
+use Rattle.type_category.specs.Category.{hasFields, hasMethods, hasTypeName, implements, isPointer, isReference, isArray, isEnum, isAlias, idStep, orElse, isUnion, methodsCategory, fieldsCategory, isEmptyStruct, bareCategory, sizeCategory, complexCategory, simpleCategory, categoryOf}
 
 -- what is known of an alias
 pub record AliasType (book : List ℕ) (n : ℕ) : Type 0 where

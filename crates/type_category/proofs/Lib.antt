@@ -1,4 +1,3 @@
--- Laws that the functions' proofs cite.
-mod Texts
+-- Laws that the functions' proofs cite. Steps: what each return answers. Categories: what a category tells, for the crates above.
 mod Steps
 pub mod Categories

@@ -1,7 +1,7 @@
 -- What each return of type_category.rt answers, where the tests have led, one law for each. Assumes nothing.
-use mathlib.Core.Path.{_≡_, refl, sym, _∙_}
-use mathlib.Core.Bool.{Bool, true, false, _&&_, _||_}
-use mathlib.Core.List.{List, [], _∷_}
+use mathlib.Core.Path.{_≡_, sym, _∙_}
+use mathlib.Core.Bool.{Bool, true, false}
+use mathlib.Core.List.{List}
 use Prim.Native.Nat.{ℕ, _+_, _*_, _%_, _≤_, _<_}
 use native.Mathlib.Omega.{arith}
 use lib.ListN.{length}
@@ -10,78 +10,14 @@ use borrow.Author.Tests.{eq-eqb, ne-eqb, lt-ltb, le-ltb}
 use Rattle.type_id.specs.declared.AdsTypeId.{AdsTypeId}
 use Rattle.type_id.specs.TypeId.{idOf}
 use Rattle.typebook.specs.Book.{u32At, flagOf, dimensionsOf, typeIdOf, offsetOf, sizeOf, fieldsOf, nameOf, typeNameOf, sameName}
+use Rattle.type_names.specs.Text.{ascii, startsWith}
+use Rattle.type_names.specs.Names.{isPointerName, isSubRangeName, isPrimitiveName}
+use Rattle.type_names.proofs.Texts.{and-false}
 use Rattle.type_category.specs.declared.type_category.AdsTypeCategory.{AdsTypeCategory}
 use Rattle.type_category.specs.declared.type_category.AdsTypeCategory.the-variants.{None, Primitive, Alias, Enum, Array, Struct, FunctionBlock, SubRange, Pointer, Union, Reference, Interface}
 use Rattle.type_category.specs.declared.type_category.Step.{Step}
 use Rattle.type_category.specs.declared.type_category.Step.the-variants.{Is, Next}
-use Rattle.type_category.specs.Text.{ascii, isOneOf, startsWith, contains}
-use Rattle.type_category.specs.Category.{isPointerName, isPointer, isReference, isSubRangeName, isAlias, idStep, orElse, timeNames, pointerSizedNames, isPrimitiveName, isUnion, methodsCategory, fieldsCategory, isEmptyStruct, bareCategory, sizeCategory, complexCategory, simpleCategory, categoryOf}
-
-and-true : (t : Bool) → t && true ≡ t
-and-true true = refl
-and-true false = refl
-
-and-false : (t : Bool) → t && false ≡ false
-and-false true = refl
-and-false false = refl
-
--- a name compared with several, one after the other
-module _ (name t : List ℕ) (ts : List (List ℕ)) (r : Bool) (e : r ≡ sameName name t) where
-  pub one-first : r ≡ true → true ≡ isOneOf name (t ∷ ts)
-  unfolding isOneOf
-  one-first h = sym (rw (← e, h))
-
-  pub one-later : r ≡ false → (b : Bool) → b ≡ isOneOf name ts → b ≡ isOneOf name (t ∷ ts)
-  unfolding isOneOf
-  one-later h b q = q ∙ sym (rw (← e, h))
-
-pub one-last : (name t : List ℕ) (r : Bool) → r ≡ sameName name t → r ≡ isOneOf name (t ∷ [])
-unfolding isOneOf
-one-last name t r e = e ∙ or-false (sameName name t)
-  where
-    or-false : (b : Bool) → b ≡ b || false
-    or-false true = refl
-    or-false false = refl
-
--- is_pointer_name
-module _ (name : List ℕ) (r : Bool) (e : r ≡ sameName name (ascii "PVOID")) where
-  pub pointer-first : r ≡ true → true ≡ isPointerName name
-  unfolding isPointerName isOneOf
-  pointer-first h = sym (rw (← e, h))
-
-  module _ (h : r ≡ false) (s : Bool) (q : s ≡ sameName name (ascii "PCCH")) where
-    pub pointer-second : s ≡ true → true ≡ isPointerName name
-    unfolding isPointerName isOneOf
-    pointer-second k = sym (rw (← e, h, ← q, k))
-
-    pub pointer-start : s ≡ false → (t : Bool) → t ≡ startsWith name (ascii "POINTER TO") → t ≡ isPointerName name
-    unfolding isPointerName isOneOf
-    pointer-start k t p = p ∙ sym (rw (← e, h, ← q, k))
-
--- is_sub_range_name
-module _ (name : List ℕ) (r : Bool) (e : r ≡ contains name (ascii "(")) where
-  pub range-not-open : r ≡ false → false ≡ isSubRangeName name
-  unfolding isSubRangeName
-  range-not-open h = sym (rw (← e, h, and-false))
-
-  module _ (h : r ≡ true) (s : Bool) (q : s ≡ contains name (ascii ")")) where
-    pub range-not-closed : s ≡ false → false ≡ isSubRangeName name
-    unfolding isSubRangeName
-    range-not-closed k = sym (rw (← e, h, ← q, k, and-false))
-
-    pub range-dots : s ≡ true → (t : Bool) → t ≡ contains name (ascii "..") → t ≡ isSubRangeName name
-    unfolding isSubRangeName
-    range-dots k t p = p ∙ sym (rw (← e, h, ← q, k) (and-true _ ∙ and-true _))
-
--- is_primitive_name
-module _ (name : List ℕ) (r : Bool) (e : r ≡ isOneOf name timeNames) where
-  pub primitive-time : r ≡ true → true ≡ isPrimitiveName name
-  unfolding isPrimitiveName
-  primitive-time h = sym (rw (← e, h))
-
-  pub primitive-sized : r ≡ false → (s : Bool) → s ≡ isOneOf name pointerSizedNames → s ≡ isPrimitiveName name
-  unfolding isPrimitiveName
-  primitive-sized h s q = q ∙ sym (rw (← e, h))
+use Rattle.type_category.specs.Category.{isPointer, isReference, isAlias, idStep, orElse, isUnion, methodsCategory, fieldsCategory, isEmptyStruct, bareCategory, sizeCategory, complexCategory, simpleCategory, categoryOf}
 
 -- by_bare_size
 module _ (size : ℕ) where

@@ -1,7 +1,7 @@
 -- The category of a type: `AdsTypeCategory::determine` of the Rust, on block n of a type book. The first test that holds
 -- decides, in the Rust's order. Nothing here looks at the block's kind. Assumes nothing.
 use mathlib.Core.Bool.{Bool, cond, not, _&&_, _||_}
-use mathlib.Core.List.{List, [], _∷_}
+use mathlib.Core.List.{List}
 use Prim.Native.Nat.{ℕ, _+_, _%_}
 use lib.ListN.{length}
 use lib.Dec.{eqb, ltb}
@@ -9,11 +9,12 @@ use Rattle.type_id.specs.declared.AdsTypeId.{AdsTypeId}
 use Rattle.type_id.specs.declared.AdsTypeId.the-variants as id
 use Rattle.type_id.specs.TypeId.{idOf}
 use Rattle.typebook.specs.Book.{flagOf, dimensionsOf, typeIdOf, offsetOf, sizeOf, fieldsOf, nameOf, typeNameOf, sameName}
+use Rattle.type_names.specs.Text.{ascii, startsWith}
+use Rattle.type_names.specs.Names.{isPointerName, isSubRangeName, isPrimitiveName}
 use Rattle.type_category.specs.declared.type_category.AdsTypeCategory.{AdsTypeCategory}
 use Rattle.type_category.specs.declared.type_category.AdsTypeCategory.the-variants.{None, Primitive, Alias, Enum, Array, Struct, FunctionBlock, SubRange, String, Bitset, Pointer, Union, Reference, Interface}
 use Rattle.type_category.specs.declared.type_category.Step.{Step}
 use Rattle.type_category.specs.declared.type_category.Step.the-variants.{Is, Next}
-use Rattle.type_category.specs.Text.{ascii, isOneOf, startsWith, contains}
 
 -- the type has fields
 abbrev pub hasFields : List ℕ → ℕ → Bool
@@ -31,10 +32,6 @@ hasTypeName book n = ltb 0 (length (typeNameOf book n))
 abbrev pub implements : List ℕ → ℕ → Bool
 implements book n = flagOf book n 4
 
--- a pointer's name is PVOID or PCCH, or begins with POINTER TO
-unfoldable pub isPointerName : List ℕ → Bool
-isPointerName name = isOneOf name (ascii "PVOID" ∷ ascii "PCCH" ∷ []) || startsWith name (ascii "POINTER TO")
-
 -- a pointer, by its flag or by its name
 unfoldable pub isPointer : List ℕ → ℕ → Bool
 isPointer book n = flagOf book n 0 || isPointerName (nameOf book n)
@@ -50,10 +47,6 @@ isArray book n = ltb 0 (dimensionsOf book n)
 -- an enum, by its flag
 abbrev pub isEnum : List ℕ → ℕ → Bool
 isEnum book n = flagOf book n 2
-
--- a subrange's name has two dots and both parentheses, wherever they stand
-unfoldable pub isSubRangeName : List ℕ → Bool
-isSubRangeName name = contains name (ascii "..") && contains name (ascii "(") && contains name (ascii ")")
 
 -- an alias has a type name, and neither fields nor methods
 unfoldable pub isAlias : List ℕ → ℕ → Bool
@@ -84,18 +77,6 @@ idStep (id.Unknown k) = Next
 unfoldable pub orElse : Step → AdsTypeCategory → AdsTypeCategory
 orElse (Is c) next = c
 orElse Next next = next
-
--- the date and time types of IEC 61131-3
-abbrev pub timeNames : List (List ℕ)
-timeNames = ascii "TOD" ∷ ascii "DT" ∷ ascii "TIME" ∷ ascii "DATE" ∷ ascii "LTIME" ∷ ascii "TIME_OF_DAY" ∷ ascii "DATE_AND_TIME" ∷ []
-
--- the integers that are as wide as a pointer
-abbrev pub pointerSizedNames : List (List ℕ)
-pointerSizedNames = ascii "UXINT" ∷ ascii "XINT" ∷ ascii "XWORD" ∷ ascii "__UXINT" ∷ ascii "__XINT" ∷ ascii "__XWORD" ∷ []
-
--- a primitive by its name
-unfoldable pub isPrimitiveName : List ℕ → Bool
-isPrimitiveName name = isOneOf name timeNames || isOneOf name pointerSizedNames
 
 -- a union has two fields or more, the first two at one offset, and neither a type name nor methods
 unfoldable pub isUnion : List ℕ → ℕ → Bool

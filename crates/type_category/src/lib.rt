@@ -1,3 +1,2 @@
 // The category of a type in the book, and the tests that validators.rs makes on a type.
-mod text;
 pub mod type_category;

@@ -2,12 +2,12 @@
 ghost use mathlib.Core.Path.{_≡_};
 ghost use Prim.Native.Nat.{_+_};
 ghost use Rattle.typebook.specs.Book.{offsetOf};
-ghost use Rattle.type_category.specs.Text.{isOneOf};
-ghost use Rattle.type_category.specs.Category.{isPointerName, isSubRangeName, isAlias, idStep, timeNames, pointerSizedNames, isPrimitiveName, isUnion, isEmptyStruct, bareCategory, methodsCategory, fieldsCategory, sizeCategory, complexCategory, simpleCategory, categoryOf};
-use crate::text::contains;
-use crate::text::contains_byte;
-use crate::text::starts_with;
+ghost use Rattle.type_category.specs.Category.{isAlias, idStep, isUnion, isEmptyStruct, bareCategory, methodsCategory, fieldsCategory, sizeCategory, complexCategory, simpleCategory, categoryOf};
 use type_id::AdsTypeId;
+use type_names::is_pointer_name;
+use type_names::is_primitive_name;
+use type_names::is_sub_range_name;
+use type_names::text::starts_with;
 use typebook::block;
 use typebook::block::same_name;
 
@@ -84,32 +84,6 @@ impl AdsTypeCategory {
     }
 }
 
-// Pointers that no flag marks.
-fn is_pointer_name(name: &[u8]) -> bool
-    ensures { λ r. ⌜ r ≡ isPointerName (now (name .entry)) ⌝ }
-{
-    if same_name(name, b"PVOID") {
-        return true;
-    }
-    if same_name(name, b"PCCH") {
-        return true;
-    }
-    starts_with(name, b"POINTER TO")
-}
-
-// A parenthesis is looked for first: few names have one, and a byte is found faster than two.
-fn is_sub_range_name(name: &[u8]) -> bool
-    ensures { λ r. ⌜ r ≡ isSubRangeName (now (name .entry)) ⌝ }
-{
-    if contains_byte(name, b'(') {
-        if contains_byte(name, b')') {
-            return contains(name, b"..");
-        }
-        return false;
-    }
-    false
-}
-
 // Aliases, then primitives, bitsets and strings.
 fn simple(book: &[u8], width: u8, n: u32) -> AdsTypeCategory
     ensures { λ r. ⌜ r ≡ simpleCategory (now (book .entry)) width n ⌝ }
@@ -172,63 +146,6 @@ fn by_type_id(id: AdsTypeId) -> Step
         AdsTypeId::BigType => Step::Next,
         AdsTypeId::Unknown(_) => Step::Next,
     }
-}
-
-// Primitives whose type id does not tell it.
-fn is_primitive_name(name: &[u8]) -> bool
-    ensures { λ r. ⌜ r ≡ isPrimitiveName (now (name .entry)) ⌝ }
-{
-    if is_time_name(name) {
-        return true;
-    }
-    is_pointer_sized_name(name)
-}
-
-// The date and time types of IEC 61131-3.
-fn is_time_name(name: &[u8]) -> bool
-    ensures { λ r. ⌜ r ≡ isOneOf (now (name .entry)) timeNames ⌝ }
-{
-    if same_name(name, b"TOD") {
-        return true;
-    }
-    if same_name(name, b"DT") {
-        return true;
-    }
-    if same_name(name, b"TIME") {
-        return true;
-    }
-    if same_name(name, b"DATE") {
-        return true;
-    }
-    if same_name(name, b"LTIME") {
-        return true;
-    }
-    if same_name(name, b"TIME_OF_DAY") {
-        return true;
-    }
-    same_name(name, b"DATE_AND_TIME")
-}
-
-// The integers that are as wide as a pointer.
-fn is_pointer_sized_name(name: &[u8]) -> bool
-    ensures { λ r. ⌜ r ≡ isOneOf (now (name .entry)) pointerSizedNames ⌝ }
-{
-    if same_name(name, b"UXINT") {
-        return true;
-    }
-    if same_name(name, b"XINT") {
-        return true;
-    }
-    if same_name(name, b"XWORD") {
-        return true;
-    }
-    if same_name(name, b"__UXINT") {
-        return true;
-    }
-    if same_name(name, b"__XINT") {
-        return true;
-    }
-    same_name(name, b"__XWORD")
 }
 
 // Unions, interfaces, function blocks and structs.

@@ -1,12 +1,10 @@
--- Blocks of ASCII in UTF-16LE: their code units told, their low bytes copied, and what that is of a text. Assumes nothing.
+-- A text by its blocks: what a block of ASCII is of it, and its scalar values one by one, measured and written. Assumes nothing.
 use mathlib.Core.Path.{_≡_, refl, ap, _∙_}
-use mathlib.Core.Bool.{Bool, true, false}
-use mathlib.Core.List.{List, [], _∷_, _++_}
+use mathlib.Core.Bool.{Bool, true}
+use mathlib.Core.List.{List, _∷_, _++_}
 use Prim.Native.Nat.{ℕ, zero, suc, _+_, _*_, _-_, _/_, _%_, _≤_, _<_}
 use native.Mathlib.Omega.{arith}
 use lib.ListN.{length, getD, drop, set, length-append}
-use lib.Dec.{eqb}
-use borrow.Author.Tests.{eqb-true, eqb-false}
 use Rattle.utf_8.specs.declared.Put.{Put}
 use Rattle.utf_8.specs.declared.Put.the-variants.{Next, Full}
 use Rattle.utf_8.specs.declared.Room.the-variants.{Over}
@@ -17,68 +15,11 @@ use Rattle.utf_8.proofs.Splices.{wrote-as, wrote-full, stored-1, stored-2}
 use Rattle.utf_16.specs.Unit16.{unitOf}
 use Rattle.utf_16.specs.Decode.{decodeScalars, decodeText}
 use Rattle.utf_16.specs.Step.{ScalarAt, Left}
-use Rattle.utf_16_decoder.specs.Step.{TextAt, AsciiUnits, lows, PartWrote}
-use Rattle.utf_16_decoder.proofs.Decodes.{nothing-left, scalar-low}
-use Rattle.utf_16.proofs.Runs.{left-all, left-left, left-part, left-never, left-end, room-over, text-here}
-
--- ---- ascii_units
-
-module _ (bytes : List ℕ) (at : ℕ) where
-  pub units-none : at + 64 ≤ length bytes → AsciiUnits bytes at 0
-  units-none h = record { whole = omega arith; low = λ i l. absurd (omega arith) }
-
-  module _ (i above x y : ℕ) (inv : above ≡ 0 → AsciiUnits bytes at i) where
-    -- one unit more: nothing in it is above 7Fh
-    pub units-again : at + 64 ≤ length bytes → i < 32 → x ≡ getD bytes (at + 2 * i) 0 → y ≡ getD bytes (at + 2 * i + 1) 0
-        → above + (x / 128 + y) ≡ 0 → AsciiUnits bytes at (i + 1)
-    units-again h l p q z = record { whole = omega arith; low = below }
-      where
-        before : AsciiUnits bytes at i
-        before = inv (omega arith)
-
-        below : (k : ℕ) → k < i + 1 → unitOf (getD bytes (at + 2 * k) 0) (getD bytes (at + 2 * k + 1) 0) < 0x80
-        below k m = by (eqb k i) refl
-          where
-            by : (t : Bool) → eqb k i ≡ t → unitOf (getD bytes (at + 2 * k) 0) (getD bytes (at + 2 * k + 1) 0) < 0x80
-            by true e = rw (eqb-true k i e) (omega arith)
-            by false e = before .low k (omega (arith, eqb-false k i e))
-
-    pub units-all : 32 ≤ i → i ≤ 32 → eqb above 0 ≡ true → AsciiUnits bytes at 32
-    units-all l m z = let e : i ≡ 32 = omega arith in rw e at (inv (eqb-true above 0 z))
-
--- where no block is told, nothing is promised
-pub not-told : {X : Type 0} → false ≡ true → X
-not-told e = absurd (let z : _≡_ {A = ℕ} 0 1 = cc in omega arith)
-
--- ---- copy_units
-
-lows-length : (bytes : List ℕ) (n at : ℕ) → length (lows bytes at n) ≡ n
-unfolding lows
-lows-length bytes zero at = refl
-lows-length bytes (suc n) at = ap suc (lows-length bytes n (at + 2))
-
-module _ (bytes out out₁ : List ℕ) (at to i : ℕ) (q : Left (lows bytes at 32) out to (lows bytes (at + 2 * i) (32 - i)) out₁ (to + i)) where
-  pub copy-again : i < 32 → Left (lows bytes at 32) out to (lows bytes (at + 2 * (i + 1)) (32 - (i + 1))) (set out₁ (to + i) (getD bytes (at + 2 * i) 0)) (to + (i + 1))
-  unfolding lows
-  copy-again h =
-      let n : 32 - i ≡ suc (32 - (i + 1)) = omega arith in
-      let e : at + 2 * i + 2 ≡ at + 2 * (i + 1) = omega arith in
-      let f : to + i + 1 ≡ to + (i + 1) = omega arith in
-      let p : Left (lows bytes at 32) out to ((getD bytes (at + 2 * i) 0 ∷ []) ++ lows bytes (at + 2 * i + 2) (32 - (i + 1))) out₁ (to + i) = rw n at q in
-      rw (← e, ← f) (left-part (getD bytes (at + 2 * i) 0 ∷ []) _ p (stored-1 out₁ (to + i) (getD bytes (at + 2 * i) 0) (omega (arith, p .fits))) (to + i + 1) refl)
-
-  pub copy-room : i < 32 → to + i < length out₁
-  copy-room h = omega (arith, q .fits, lows-length bytes (32 - i) (at + 2 * i))
-
-  pub copy-end : 32 ≤ i → i ≤ 32 → Wrote (lows bytes at 32) out to (Next (to + i)) out₁
-  unfolding lows
-  copy-end l h = let n : 32 - i ≡ 0 = omega arith in left-end (rw n at q)
-
-pub copy-start : (bytes out : List ℕ) (at to : ℕ) → to + 32 ≤ length out → Left (lows bytes at 32) out to (lows bytes (at + 2 * 0) (32 - 0)) out (to + 0)
-copy-start bytes out at to h =
-    let e : at + 2 * 0 ≡ at = omega arith in
-    let f : to + 0 ≡ to = omega arith in
-    rw (e, f) (left-all (lows bytes at 32) out to (omega (arith, lows-length bytes 32 at)))
+use Rattle.utf_16_scalar.proofs.Decodes.{nothing-left, scalar-low}
+use Rattle.utf_16_ascii.specs.Ascii16.{AsciiUnits, lows}
+use Rattle.utf_16_ascii.proofs.Blocks.{lows-length}
+use Rattle.utf_16_decoder.specs.Step.{TextAt, PartWrote}
+use Rattle.utf_16.proofs.Runs.{left-all, left-left, left-part, left-never, room-over, text-here}
 
 -- ---- what a block is of a text
 

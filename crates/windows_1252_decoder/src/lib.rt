@@ -1,12 +1,13 @@
 // The Windows-1252 decoder: bytes to UTF-8. It goes by blocks of at most 64 bytes, of which one that is ASCII throughout is only copied.
 ghost use mathlib.Core.Path.{_≡_};
-ghost use Prim.Native.Nat.{_+_, _<_, _≤_};
+ghost use Prim.Native.Nat.{_+_, _≤_};
 ghost use lib.ListN.{length};
 ghost use lib.Dec.{leb};
 ghost use Rattle.utf_8.specs.Buffer.{Wrote, Laid, roomFor};
 ghost use Rattle.windows_1252.specs.Index.{codePoints};
 ghost use Rattle.windows_1252.specs.Text.{decodeByte, decodeText};
 ghost use Rattle.windows_1252_decoder.specs.Lengths.{utf8Lengths};
+use ascii::block_end;
 use ascii::copy;
 use ascii::is_ascii;
 use utf_8::Put;
@@ -15,17 +16,6 @@ use utf_8_encoder::put;
 use windows_1252::code_points;
 
 mod data;
-
-// The end of the block that starts at `from`, in `len` bytes.
-fn block_end(from: usize, len: usize) -> usize
-    requires { ⌜ from < len ⌝ }
-    ensures { λ r. ⌜ (from < r) × (r ≤ len) × (r ≤ from + 64) ⌝ }
-{
-    if len - from < 64 {
-        return len;
-    }
-    from + 64
-}
 
 // The table of the lengths of all bytes' code points in UTF-8. Whoever reads more than one of them takes it once.
 fn utf8_lengths() -> [u8; 256]

@@ -6,7 +6,7 @@ use lib.ListN.{length}
 use borrow.Author.Tests.{leb-true}
 use Rattle.utf_8.specs.Utf8.{utf8Of}
 use Rattle.utf_16.specs.Decode.{decodeScalars, decodeText}
-use Rattle.utf_16_decoder.proofs.Decodes.{nothing-left, text-some}
+use Rattle.utf_16_scalar.proofs.Decodes.{nothing-left, text-some}
 use Rattle.utf_16.proofs.Runs.{write-none, full-past, full-at}
 use borrow.Author.Needs.{needs}
 use Rattle.utf_16_decoder.proofs.decode.Statement.{statement}

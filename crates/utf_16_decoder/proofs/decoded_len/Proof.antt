@@ -5,7 +5,7 @@ use native.Mathlib.Omega.{arith}
 use lib.ListN.{length, drop}
 use Rattle.utf_8.specs.Utf8.{utf8Of}
 use Rattle.utf_16.specs.Decode.{decodeScalars, decodeText}
-use Rattle.utf_16_decoder.proofs.Decodes.{nothing-left}
+use Rattle.utf_16_scalar.proofs.Decodes.{nothing-left}
 use Rattle.utf_16.proofs.Runs.{size-end}
 use Rattle.utf_16_decoder.proofs.Blocks.{part-again, part-over}
 use borrow.Author.Needs.{needs}

@@ -1,5 +1,5 @@
 -- `utf_16_decoder::fits_in` meets its contract: a short text fits, and another is measured. Assumes nothing.
-use Rattle.utf_16_decoder.proofs.Decodes.{fits-short}
+use Rattle.utf_16_scalar.proofs.Decodes.{fits-short}
 use Rattle.utf_16.proofs.Runs.{test-fits, test-over}
 use borrow.Author.Needs.{needs}
 use Rattle.utf_16_decoder.proofs.fits_in.Statement.{statement}

@@ -4,7 +4,7 @@ use native.Mathlib.Omega.{arith}
 use lib.ListN.{length, drop}
 use Rattle.utf_8.specs.Utf8.{utf8Of}
 use Rattle.utf_16.specs.Decode.{decodeScalars, decodeText}
-use Rattle.utf_16_decoder.proofs.Decodes.{nothing-left}
+use Rattle.utf_16_scalar.proofs.Decodes.{nothing-left}
 use Rattle.utf_16.specs.Step.{Left}
 use Rattle.utf_16.proofs.Runs.{left-all, write-again}
 use Rattle.utf_16_decoder.proofs.Blocks.{units-written, units-never}
