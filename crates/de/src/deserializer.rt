@@ -187,7 +187,7 @@ pub fn read(
         RootCheck::Root(n) => {
             let book = &buffer[0..len];
             let mut index = [0u32; 16384];
-            type_provider::fill_index(book, &mut index);
+            type_index::fill_index(book, &mut index);
             read_in(book, &index, width, n, memory, tape, text)
         }
         RootCheck::Refused(k) => finish(Step::Stop(k, 0), tape, text),

@@ -9,7 +9,8 @@ use mir.Val.{Fits}
 use Rattle.type_provider.specs.declared.Found.{Found}
 use Rattle.type_provider.specs.declared.Found.the-variants.{At, Nothing}
 use Rattle.typebook.specs.Book.{isType, offsetOf, sizeOf, fieldsOf, typeNameOf}
-use Rattle.type_provider.specs.Find.{find, FoundBy}
+use Rattle.type_provider.specs.Find.{find}
+use Rattle.type_index.specs.Index.{FoundBy}
 use Rattle.book_check.specs.Check.{ValidBook}
 use Rattle.book_check.proofs.Valid.{valid-size, valid-type}
 use Rattle.resolvers.specs.declared.Resolved.{Resolved}

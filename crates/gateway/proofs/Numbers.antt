@@ -7,7 +7,7 @@ use lib.ListN.{length}
 use Rattle.utf_8.specs.Buffer.{fitsIn, Wrote}
 use Rattle.utf_8.specs.declared.Put.{Put}
 use Rattle.utf_8.specs.declared.Put.the-variants.{Next, Full}
-use Rattle.type_provider.specs.Find.{FoundBy}
+use Rattle.type_index.specs.Index.{FoundBy}
 use Rattle.type_provider.specs.declared.Found.{Found}
 use Rattle.codes.specs.Numbers.{placeNumber, foundNumber}
 use Rattle.gateway.specs.Numbers.{WroteAs, FoundAs}

@@ -5,7 +5,7 @@ use mathlib.Core.List.{List}
 use Prim.Native.Nat.{ℕ, _+_}
 use lib.ListN.{length}
 use Rattle.utf_8.specs.Buffer.{splice, fitsIn}
-use Rattle.type_provider.specs.Find.{FoundBy}
+use Rattle.type_index.specs.Index.{FoundBy}
 use Rattle.type_provider.specs.declared.Found.{Found}
 use Rattle.codes.specs.Numbers.{foundNumber}
 

@@ -4,7 +4,8 @@ ghost use mathlib.Core.Path.{_≡_};
 ghost use Rattle.windows_1252.specs.Text as windows1252;
 ghost use Rattle.utf_16.specs.Decode as utf16Decode;
 ghost use Rattle.utf_16.specs.Encode as utf16Encode;
-ghost use Rattle.type_provider.specs.Find.{find as findIn, IndexOf};
+ghost use Rattle.type_provider.specs.Find.{find as findIn};
+ghost use Rattle.type_index.specs.Index.{IndexOf};
 ghost use Rattle.utf_8.specs.Utf8.{wellFormed};
 ghost use Rattle.book_check.specs.Check.{checkBook, bookRefusal};
 ghost use Rattle.codes.specs.Numbers.{foundNumber, truthNumber};
@@ -54,14 +55,14 @@ pub extern "C" fn gateway_find(book: &[u8], name: &[u8]) -> u32
 pub extern "C" fn gateway_find_by(book: &[u8], index: &[u32], name: &[u8]) -> u32
     ensures { λ r. ⌜ FoundAs (now (book .entry)) (now (name .entry)) r ⌝ }
 {
-    codes::found(type_provider::find_by(book, index, name))
+    codes::found(type_index::find_by(book, index, name))
 }
 
 #[no_mangle]
 pub extern "C" fn gateway_fill_index(book: &[u8], index: &mut [u32])
     ensures { λ _. ⌜ IndexOf (now (book .entry)) (now (index .entry)) (now (index .exit)) ⌝ }
 {
-    type_provider::fill_index(book, index);
+    type_index::fill_index(book, index);
 }
 
 // 1 where the text is well-formed UTF-8, else 0.

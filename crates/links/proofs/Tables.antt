@@ -11,8 +11,9 @@ use borrow.Author.Tests.{eqb-true, eqb-false, ltb-true, ltb-false}
 use Rattle.type_provider.specs.declared.Found.{Found}
 use Rattle.type_provider.specs.declared.Found.the-variants.{At}
 use Rattle.typebook.specs.Book.{blocks, typeNameOf}
-use Rattle.type_provider.specs.Find.{find, FoundBy}
-use Rattle.type_provider.specs.Probe.{LookedUp}
+use Rattle.type_provider.specs.Find.{find}
+use Rattle.type_index.specs.Index.{FoundBy}
+use Rattle.type_index.specs.Probe.{LookedUp}
 use Rattle.type_provider.proofs.Finds.{unique-find}
 use Rattle.book_check.specs.Check.{ValidBook}
 use Rattle.book_check.proofs.Valid.{valid-unique}

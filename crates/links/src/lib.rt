@@ -21,7 +21,7 @@ fn link(book: &[u8], index: &[u32], b: usize) -> u32
     if MAX_BLOCKS <= b {
         return 0;
     }
-    let found = type_provider::look_up(book, index, block::type_name(book, b as u32), false);
+    let found = type_index::look_up(book, index, block::type_name(book, b as u32), false);
     match found {
         Found::At(t) => t + 1,
         Found::Nothing => 0,
@@ -58,7 +58,7 @@ pub fn type_of(book: &[u8], index: &[u32], links: &[u32], b: u32) -> Found
 {
     let link = link_at(links, b);
     if link == 0 {
-        return type_provider::find_by(book, index, block::type_name(book, b));
+        return type_index::find_by(book, index, block::type_name(book, b));
     }
     Found::At(link - 1)
 }

@@ -114,7 +114,7 @@ fn missing_at(book: &[u8], width: u8, root: u32, scratch: &mut [u32], list: &mut
         return Missing::Refused(6);
     }
     let mut index = [0u32; 16384];
-    type_provider::fill_index(book, &mut index);
+    type_index::fill_index(book, &mut index);
     // One walk doesn't make up for the links of a whole book.
     let unlinked: [u32; 1] = [0];
     missing_types_in(book, &index, &unlinked, width, root, scratch, list)

@@ -140,7 +140,7 @@ fn rmw_at(book: &[u8], width: u8, root: u32, scratch: &mut [u32]) -> Rmw
         return Rmw::Refused(6);
     }
     let mut index = [0u32; 16384];
-    type_provider::fill_index(book, &mut index);
+    type_index::fill_index(book, &mut index);
     // One walk doesn't make up for the links of a whole book.
     let unlinked: [u32; 1] = [0];
     requires_read_modify_write_in(book, &index, &unlinked, width, root, scratch)

@@ -8,7 +8,8 @@ use borrow.Author.Tests.{not-true, not-false}
 use Rattle.type_provider.specs.declared.Found.{Found}
 use Rattle.type_provider.specs.declared.Found.the-variants.{At, Nothing}
 use Rattle.typebook.specs.Book.{isType, typeNameOf}
-use Rattle.type_provider.specs.Find.{find, FoundBy}
+use Rattle.type_provider.specs.Find.{find}
+use Rattle.type_index.specs.Index.{FoundBy}
 use Rattle.type_provider.proofs.Finds.{find-named, named-kind}
 use Rattle.type_category.specs.declared.type_category.AdsTypeCategory.{AdsTypeCategory}
 use Rattle.type_category.specs.declared.type_category.AdsTypeCategory.the-variants as category

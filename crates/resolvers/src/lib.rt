@@ -77,7 +77,7 @@ fn follow(book: &[u8], index: &[u32], width: u8, t: u32, references: bool) -> Re
         if !is_followed(book, width, at, references) {
             return Resolved::Base(at);
         }
-        let found = type_provider::find_by(book, index, block::type_name(book, at));
+        let found = type_index::find_by(book, index, block::type_name(book, at));
         let Found::At(u) = found else {
             return Resolved::Lacks(at);
         };
@@ -108,7 +108,7 @@ pub fn look_up_in(book: &[u8], index: &[u32], width: u8, b: u32) -> Resolved
     requires { ⌜ ValidBook (now book) ⌝ }
     ensures { λ r. ⌜ LookedUp (now (book .entry)) width b r ⌝ }
 {
-    let found = type_provider::find_by(book, index, block::type_name(book, b));
+    let found = type_index::find_by(book, index, block::type_name(book, b));
     let Found::At(u) = found else {
         return Resolved::Lacks(b);
     };
@@ -122,7 +122,7 @@ fn resolve_root(book: &[u8], width: u8, t: u32, references: bool) -> Resolution
     ensures { λ r. ⌜ r ≡ resolution (resolveType references (now (book .entry)) width t) ⌝ }
 {
     let mut index = [0u32; 16384];
-    type_provider::fill_index(book, &mut index);
+    type_index::fill_index(book, &mut index);
     let resolved = follow(book, &index, width, t, references);
     match resolved {
         Resolved::Base(u) => Resolution::Block(u),

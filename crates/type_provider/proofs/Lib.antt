@@ -1,3 +1,2 @@
--- Laws that the functions' proofs cite, and those on look-up that the crates above cite.
-mod Slots
+-- The laws on look-up that the functions' proofs and the crates above cite.
 pub mod Finds

@@ -3,7 +3,6 @@ use mathlib.Core.Path.{_≡_}
 use mathlib.Core.Bool.{true, cond}
 use mathlib.Core.List.{List}
 use Prim.Native.Nat.{ℕ, zero, suc, _+_, _<_, min}
-use lib.ListN.{length, getD}
 use Rattle.typebook.specs.Book.{blocks, isType, nameOf, isNamed}
 use Rattle.type_provider.specs.declared.Found.{Found}
 use Rattle.type_provider.specs.declared.Found.the-variants.{At, Nothing}
@@ -34,18 +33,3 @@ pub record NamedBlock (book name : List ℕ) (n : ℕ) : Type 0 where
 -- no two type blocks have one name: the look-up of a type block's own name finds that block
 abbrev pub UniqueNames : List ℕ → Type 0
 UniqueNames book = (n : ℕ) → TypeBlock book n → find book (nameOf book n) ≡ At n
-
--- what the look-up by an index answers, whatever the index holds
-pub record FoundBy (book name : List ℕ) (r : Found) : Type 0 where
-  pub at : (n : ℕ) → r ≡ At n → NamedBlock book name n
-  pub nothing : r ≡ Nothing → find book name ≡ Nothing
-  pub unique : UniqueNames book → r ≡ find book name
-
--- every slot is 0, which is empty, or one more than the number of a type block
-abbrev pub Slots : List ℕ → List ℕ → Type 0
-Slots book index = (i m : ℕ) → getD index i 0 ≡ m + 1 → TypeBlock book m
-
--- an index made for the book; which slot holds which block is left free, since the look-up is right for any index
-pub record IndexOf (book before after : List ℕ) : Type 0 where
-  pub kept : length after ≡ length before
-  pub slots : Slots book after

@@ -9,7 +9,7 @@ use Rattle.type_category.proofs.type_category.AdsTypeCategory.determine.Reads a
 use Rattle.typebook.proofs.block.offset.Reads as offset-reads
 use Rattle.typebook.proofs.block.size.Reads as size-reads
 use Rattle.typebook.proofs.block.type_name.Reads as type-name-reads
-use Rattle.type_provider.proofs.find_by.Reads as find-by-reads
+use Rattle.type_index.proofs.find_by.Reads as find-by-reads
 
 ruleset exits = (plan-nothing, plan-plain)
 

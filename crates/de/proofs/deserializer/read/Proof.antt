@@ -7,7 +7,7 @@ use Rattle.de.proofs.deserializer.read.Lts as lts
 use Rattle.book_check.proofs.check_root.Reads as check-root-reads
 use Rattle.de.proofs.deserializer.finish.Reads as finish-reads
 use Rattle.de.proofs.deserializer.read_in.Reads as read-in-reads
-use Rattle.type_provider.proofs.fill_index.Reads as fill-index-reads
+use Rattle.type_index.proofs.fill_index.Reads as fill-index-reads
 
 check-root-requires : tie.Need-check-root-requires
 check-root-requires c κs = search needs

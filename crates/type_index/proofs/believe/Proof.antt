@@ -1,8 +1,8 @@
--- `type_provider::believe` meets its contract. Assumes nothing.
-use Rattle.type_provider.proofs.Slots.{probed-none, probed-at}
+-- `type_index::believe` meets its contract. Assumes nothing.
+use Rattle.type_index.proofs.Slots.{probed-none, probed-at}
 use borrow.Author.Needs.{needs}
-use Rattle.type_provider.proofs.believe.Statement.{statement}
-use Rattle.type_provider.proofs.believe.Tie as tie
+use Rattle.type_index.proofs.believe.Statement.{statement}
+use Rattle.type_index.proofs.believe.Tie as tie
 
 returns : tie.Need-returns
 returns c = search probed-none

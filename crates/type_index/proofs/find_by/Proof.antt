@@ -1,8 +1,8 @@
--- `type_provider::find_by` meets its contract. Assumes nothing.
-use Rattle.type_provider.proofs.Slots.{by-look-up}
+-- `type_index::find_by` meets its contract. Assumes nothing.
+use Rattle.type_index.proofs.Slots.{by-look-up}
 use borrow.Author.Needs.{needs}
-use Rattle.type_provider.proofs.find_by.Statement.{statement}
-use Rattle.type_provider.proofs.find_by.Tie as tie
+use Rattle.type_index.proofs.find_by.Statement.{statement}
+use Rattle.type_index.proofs.find_by.Tie as tie
 
 look-up-requires : tie.Need-look-up-requires
 look-up-requires c κs = search needs

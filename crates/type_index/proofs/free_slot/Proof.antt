@@ -1,9 +1,9 @@
--- `type_provider::free_slot` meets its contract. The loop keeps the slot within the index. Assumes nothing.
+-- `type_index::free_slot` meets its contract. The loop keeps the slot within the index. Assumes nothing.
 use borrow.Author.Needs.{needs}
 use Prim.Native.Nat.{_<_}
 use lib.ListN.{length}
-use Rattle.type_provider.proofs.free_slot.Statement.{statement}
-use Rattle.type_provider.proofs.free_slot.Tie as tie
+use Rattle.type_index.proofs.free_slot.Statement.{statement}
+use Rattle.type_index.proofs.free_slot.Tie as tie
 
 abbrev Inv-loop : tie.InvT-loop
 Inv-loop index name at₀ left₀ at left =

@@ -1,10 +1,10 @@
--- `type_provider::fill_index` meets its contract. The loop keeps an index of the book. Assumes nothing.
+-- `type_index::fill_index` meets its contract. The loop keeps an index of the book. Assumes nothing.
 use borrow.Author.Needs.{needs}
 use Prim.Native.Nat.{_≤_, _-_}
-use Rattle.type_provider.specs.Find.{IndexOf}
-use Rattle.type_provider.proofs.Slots.{fill-start, fill-again, fill-end}
-use Rattle.type_provider.proofs.fill_index.Statement.{statement}
-use Rattle.type_provider.proofs.fill_index.Tie as tie
+use Rattle.type_index.specs.Index.{IndexOf}
+use Rattle.type_index.proofs.Slots.{fill-start, fill-again, fill-end}
+use Rattle.type_index.proofs.fill_index.Statement.{statement}
+use Rattle.type_index.proofs.fill_index.Tie as tie
 
 abbrev Inv-loop : tie.InvT-loop
 Inv-loop book index₀ n i₀ index i =

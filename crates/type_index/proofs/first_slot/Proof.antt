@@ -1,10 +1,10 @@
--- `type_provider::first_slot` meets its contract. The loop keeps the hash below 2^32, so that the product fits. Assumes nothing.
+-- `type_index::first_slot` meets its contract. The loop keeps the hash below 2^32, so that the product fits. Assumes nothing.
 use native.Mathlib.Nat.{mod-lt}
 use borrow.Author.Needs.{needs}
 use Prim.Native.Nat.{_≤_, _<_, _-_}
 use lib.ListN.{length}
-use Rattle.type_provider.proofs.first_slot.Statement.{statement}
-use Rattle.type_provider.proofs.first_slot.Tie as tie
+use Rattle.type_index.proofs.first_slot.Statement.{statement}
+use Rattle.type_index.proofs.first_slot.Tie as tie
 
 abbrev Inv-loop : tie.InvT-loop
 Inv-loop name len h₀ i₀ h i =

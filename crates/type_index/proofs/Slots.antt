@@ -8,12 +8,13 @@ use lib.ListN.{length, getD, set, replicate, length-set, length-replicate, getD-
 use lib.Seq.{getD-set-same, getD-set-other}
 use lib.Dec.{eqb, ltb}
 use borrow.Author.Tests.{eq-eqb, eqb-true, eqb-false, ltb-true, ltb-false}
 use Rattle.type_provider.specs.declared.Found.{Found}
 use Rattle.type_provider.specs.declared.Found.the-variants.{At, Nothing}
 use Rattle.typebook.specs.Book.{isNamed, kindOf}
-use Rattle.type_provider.specs.Find.{searched, find, FoundBy, TypeBlock, Slots, IndexOf}
-use Rattle.type_provider.specs.Probe.{Probed, LookedUp, Entered}
+use Rattle.type_provider.specs.Find.{searched, find, TypeBlock}
 use Rattle.type_provider.proofs.Finds.{find-named, unique-find}
+use Rattle.type_index.specs.Index.{FoundBy, Slots, IndexOf}
+use Rattle.type_index.specs.Probe.{Probed, LookedUp, Entered}
 
 module _ (book name : List ℕ) where
   pub probed-none : Probed book name Nothing

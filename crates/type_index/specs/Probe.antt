@@ -4,9 +4,10 @@ use mathlib.Core.Bool.{Bool, true}
 use mathlib.Core.List.{List}
 use Prim.Native.Nat.{ℕ}
 use lib.ListN.{length}
-use Rattle.type_provider.specs.Find.{NamedBlock, FoundBy, Slots}
+use Rattle.type_provider.specs.Find.{NamedBlock}
+use Rattle.type_index.specs.Index.{FoundBy, Slots}
 use Rattle.type_provider.specs.declared.Found.{Found}
 use Rattle.type_provider.specs.declared.Found.the-variants.{At}
 
 -- a block that was found in a slot is a type block of that name
 pub record Probed (book name : List ℕ) (r : Found) : Type 0 where

@@ -1,8 +1,8 @@
--- `type_provider::enter` meets its contract. Assumes nothing.
-use Rattle.type_provider.proofs.Slots.{entered-at}
+-- `type_index::enter` meets its contract. Assumes nothing.
+use Rattle.type_index.proofs.Slots.{entered-at}
 use borrow.Author.Needs.{needs}
-use Rattle.type_provider.proofs.enter.Statement.{statement}
-use Rattle.type_provider.proofs.enter.Tie as tie
+use Rattle.type_index.proofs.enter.Statement.{statement}
+use Rattle.type_index.proofs.enter.Tie as tie
 
 kind-requires : tie.Need-kind-requires
 kind-requires c κs = search needs

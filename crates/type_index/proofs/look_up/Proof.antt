@@ -1,8 +1,8 @@
--- `type_provider::look_up` meets its contract. Assumes nothing.
-use Rattle.type_provider.proofs.Slots.{looked-search, looked-none, looked-at}
+-- `type_index::look_up` meets its contract. Assumes nothing.
+use Rattle.type_index.proofs.Slots.{looked-search, looked-none, looked-at}
 use borrow.Author.Needs.{needs}
-use Rattle.type_provider.proofs.look_up.Statement.{statement}
-use Rattle.type_provider.proofs.look_up.Tie as tie
+use Rattle.type_index.proofs.look_up.Statement.{statement}
+use Rattle.type_index.proofs.look_up.Tie as tie
 
 ruleset exits = (looked-search, looked-none, looked-at)
 

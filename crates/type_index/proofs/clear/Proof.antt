@@ -1,4 +1,4 @@
--- `type_provider::clear` meets its contract. The loop keeps: zeros up to `i`, and the rest as it was. Assumes nothing.
+-- `type_index::clear` meets its contract. The loop keeps: zeros up to `i`, and the rest as it was. Assumes nothing.
 use borrow.Author.Needs.{needs}
 use borrow.Author.Fill.{fill-more}
 use mathlib.Core.Path.{_≡_, refl, ap, _∙_}
@@ -7,8 +7,8 @@ use Prim.Native.Nat.{ℕ, _≤_, _-_}
 use native.Mathlib.Omega.{arith}
 use lib.ListN.{length, replicate, drop, set, length-set}
 use lib.Seq.{drop-length}
-use Rattle.type_provider.proofs.clear.Statement.{statement}
-use Rattle.type_provider.proofs.clear.Tie as tie
+use Rattle.type_index.proofs.clear.Statement.{statement}
+use Rattle.type_index.proofs.clear.Tie as tie
 
 abbrev Inv-loop : tie.InvT-loop
 Inv-loop index₀ i₀ index i =

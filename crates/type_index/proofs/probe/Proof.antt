@@ -1,10 +1,10 @@
--- `type_provider::probe` meets its contract. The loop keeps the slot within the index. Assumes nothing.
+-- `type_index::probe` meets its contract. The loop keeps the slot within the index. Assumes nothing.
 use borrow.Author.Needs.{needs}
 use Prim.Native.Nat.{_<_}
 use lib.ListN.{length}
-use Rattle.type_provider.proofs.Slots.{probed-none}
-use Rattle.type_provider.proofs.probe.Statement.{statement}
-use Rattle.type_provider.proofs.probe.Tie as tie
+use Rattle.type_index.proofs.Slots.{probed-none}
+use Rattle.type_index.proofs.probe.Statement.{statement}
+use Rattle.type_index.proofs.probe.Tie as tie
 
 abbrev Inv-loop : tie.InvT-loop
 Inv-loop book index name at₀ left₀ at left =
