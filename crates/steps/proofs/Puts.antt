@@ -17,10 +17,12 @@ use Rattle.leaves.specs.declared.leaf.LeafValue.{LeafValue}
 use Rattle.leaves.specs.declared.leaf.LeafValue.the-variants as leaf
 use Rattle.float.specs.Float.{realBits}
 use Rattle.float.specs.declared.Real.the-variants as real
+use Rattle.steps.specs.declared.LeafForm.{LeafForm}
+use Rattle.steps.specs.declared.LeafForm.the-variants as form
 use Rattle.steps.specs.declared.Step.{Step}
 use Rattle.steps.specs.declared.Step.the-variants.{Next, Stop}
 use Rattle.steps.specs.Trace.{rec, text, bytesOf, textBytes, tapeBytes, Trace, eventsOf, endOf, one, fits, stepOf, Ran, From, Halts}
-use Rattle.steps.specs.Leaves.{decodedBy, traceOf}
+use Rattle.steps.specs.Leaves.{decodedBy, formOf, traceOf}
 use Rattle.steps.proofs.Runs.{next-stop, from-next, halted}
 
 not-fits : (b : Bool) (xs out : List ℕ) (at : ℕ) → fitsIn xs at (length out) ≡ b → put.Full ≡ cond b (put.Next (at + length xs)) put.Full → b ≡ false
@@ -99,26 +101,27 @@ text-order h e = omega (arith, went h e .place)
 
 -- ---- a leaf
 
-pub leaf-known : (mem : List ℕ) {tape tape′ txt txt′ : List ℕ} {s r : Step} {v : LeafValue} (u : LeafValue) → v ≡ u → From (traceOf u mem) tape txt s r tape′ txt′ → From (traceOf v mem) tape txt s r tape′ txt′
-leaf-known mem u e h = rw e h
+pub form-known : {v : LeafValue} {f : LeafForm} (u : LeafValue) → v ≡ u → f ≡ formOf u → f ≡ formOf v
+form-known u e q = rw e q
 
-pub leaf-bool : (mem : List ℕ) {tape tape′ txt txt′ : List ℕ} {s r : Step} {v : LeafValue} (b : Bool) (n : ℕ) → v ≡ leaf.Bool b → n ≡ cond b 1 0 → From (one (rec 6 0 0 n)) tape txt s r tape′ txt′ → From (traceOf v mem) tape txt s r tape′ txt′
-leaf-bool mem b n e q h = rw (e, ← q) h
+pub form-bool : {v : LeafValue} (b : Bool) (n : ℕ) → v ≡ leaf.Bool b → n ≡ cond b 1 0 → form.Record 6 0 0 n ≡ formOf v
+form-bool b n e q = rw (e, q)
 
-pub leaf-text : (mem part : List ℕ) {tape tape′ txt txt′ : List ℕ} {s r : Step} {v : LeafValue} (n : ℕ) → v ≡ leaf.Text n → part ≡ take n mem → From (one (text (decodedBy false part))) tape txt s r tape′ txt′ → From (traceOf v mem) tape txt s r tape′ txt′
-leaf-text mem part n e q h = rw (e, ← q) h
+pub form-single : {v : LeafValue} (x : Float) (n : ℕ) → v ≡ leaf.Single x → n ≡ realBits (real.Single x) → form.Record 9 0 0 n ≡ formOf v
+form-single x n e q = rw (e, q)
 
-pub leaf-wide : (mem part : List ℕ) {tape tape′ txt txt′ : List ℕ} {s r : Step} {v : LeafValue} (n : ℕ) → v ≡ leaf.WideText n → part ≡ take n mem → From (one (text (decodedBy true part))) tape txt s r tape′ txt′ → From (traceOf v mem) tape txt s r tape′ txt′
-leaf-wide mem part n e q h = rw (e, ← q) h
+pub form-double : {v : LeafValue} (x : Float) (n : ℕ) → v ≡ leaf.Double x → n ≡ realBits (real.Double x) → form.Record 10 0 0 n ≡ formOf v
+form-double x n e q = rw (e, q)
 
-pub leaf-single : (mem : List ℕ) {tape tape′ txt txt′ : List ℕ} {s r : Step} {v : LeafValue} (x : Float) (n : ℕ) → v ≡ leaf.Single x → n ≡ realBits (real.Single x) → From (one (rec 9 0 0 n)) tape txt s r tape′ txt′ → From (traceOf v mem) tape txt s r tape′ txt′
-leaf-single mem x n e q h = rw (e, ← q) h
+module _ (mem : List ℕ) {tape tape′ txt txt′ : List ℕ} {s r : Step} (v : LeafValue) (f : LeafForm) (q : f ≡ formOf v) where
+  pub leaf-record : (kind width a b : ℕ) → f ≡ form.Record kind width a b → From (one (rec kind width a b)) tape txt s r tape′ txt′ → From (traceOf v mem) tape txt s r tape′ txt′
+  leaf-record kind width a b e h = rw (← q, e) h
 
-pub leaf-double : (mem : List ℕ) {tape tape′ txt txt′ : List ℕ} {s r : Step} {v : LeafValue} (x : Float) (n : ℕ) → v ≡ leaf.Double x → n ≡ realBits (real.Double x) → From (one (rec 10 0 0 n)) tape txt s r tape′ txt′ → From (traceOf v mem) tape txt s r tape′ txt′
-leaf-double mem x n e q h = rw (e, ← q) h
+  pub leaf-text : (wide : Bool) (n : ℕ) (part : List ℕ) → f ≡ form.Text wide n → part ≡ take n mem → From (one (text (decodedBy wide part))) tape txt s r tape′ txt′ → From (traceOf v mem) tape txt s r tape′ txt′
+  leaf-text wide n part e z h = rw (← q, e, ← z) h
 
-pub leaf-refused : (mem : List ℕ) {tape tape′ txt txt′ : List ℕ} {s r : Step} {v : LeafValue} (k : ℕ) → v ≡ leaf.Refused k → Halts s k 0 r → From (traceOf v mem) tape txt s r tape′ txt′
-leaf-refused mem k e h = rw e (halted h)
+  pub leaf-refused : (k : ℕ) → f ≡ form.Refused k → Halts s k 0 r → From (traceOf v mem) tape txt s r tape′ txt′
+  leaf-refused k e h = rw (← q, e) (halted h)
 
 -- ---- after a step
 

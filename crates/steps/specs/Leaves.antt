@@ -9,23 +9,35 @@ use Rattle.utf_16.specs.Decode as utf16
 use Rattle.windows_1252.specs.Text as windows1252
 use Rattle.leaves.specs.declared.leaf.LeafValue.{LeafValue}
 use Rattle.leaves.specs.declared.leaf.LeafValue.the-variants as leaf
+use Rattle.steps.specs.declared.LeafForm.{LeafForm}
+use Rattle.steps.specs.declared.LeafForm.the-variants as form
 use Rattle.steps.specs.Trace.{Trace, rec, text, one, refuse}
 
 -- a text's bytes in UTF-8: a WSTRING's or a STRING's
 unfoldable pub decodedBy : Bool → List ℕ → List ℕ
 decodedBy is-wide bytes = cond is-wide (utf16.decodeText bytes) (windows1252.decodeText bytes)
 
--- one record, one text, or a refusal
+-- a leaf's value as one record, one text, or a refusal
+abbrev pub formOf : LeafValue → LeafForm
+formOf (leaf.Signed w b) = form.Record 7 w 0 b
+formOf (leaf.Unsigned w n) = form.Record 8 w 0 n
+formOf (leaf.Bool b) = form.Record 6 0 0 (cond b 1 0)
+formOf (leaf.Single x) = form.Record 9 0 0 (realBits (real.Single x))
+formOf (leaf.Double x) = form.Record 10 0 0 (realBits (real.Double x))
+formOf (leaf.NanSingle n) = form.Record 9 0 0 n
+formOf (leaf.NanDouble n) = form.Record 10 0 0 n
+formOf (leaf.Text n) = form.Text false n
+formOf (leaf.WideText n) = form.Text true n
+formOf (leaf.Entry n) = form.Record 12 0 n 0
+formOf leaf.Unit = form.Record 13 0 0 0
+formOf (leaf.Refused k) = form.Refused k
+
+-- a text is the first n of the leaf's bytes, decoded
+abbrev pub formTrace : LeafForm → List ℕ → Trace
+formTrace (form.Record kind width a b) mem = one (rec kind width a b)
+formTrace (form.Text wide n) mem = one (text (decodedBy wide (take n mem)))
+formTrace (form.Refused k) mem = refuse k 0
+
+-- what a leaf's value emits
 abbrev pub traceOf : LeafValue → List ℕ → Trace
-traceOf (leaf.Signed w b) mem = one (rec 7 w 0 b)
-traceOf (leaf.Unsigned w n) mem = one (rec 8 w 0 n)
-traceOf (leaf.Bool b) mem = one (rec 6 0 0 (cond b 1 0))
-traceOf (leaf.Single x) mem = one (rec 9 0 0 (realBits (real.Single x)))
-traceOf (leaf.Double x) mem = one (rec 10 0 0 (realBits (real.Double x)))
-traceOf (leaf.NanSingle n) mem = one (rec 9 0 0 n)
-traceOf (leaf.NanDouble n) mem = one (rec 10 0 0 n)
-traceOf (leaf.Text n) mem = one (text (decodedBy false (take n mem)))
-traceOf (leaf.WideText n) mem = one (text (decodedBy true (take n mem)))
-traceOf (leaf.Entry n) mem = one (rec 12 0 n 0)
-traceOf leaf.Unit mem = one (rec 13 0 0 0)
-traceOf (leaf.Refused k) mem = refuse k 0
+traceOf v mem = formTrace (formOf v) mem

@@ -4,7 +4,7 @@ ghost use mathlib.Core.Bool.{cond};
 ghost use Prim.Native.Nat.{_-_, _≤_};
 ghost use lib.ListN.{take};
 ghost use Rattle.utf_8.specs.Buffer.{Wrote};
-ghost use Rattle.steps.specs.Leaves.{decodedBy, traceOf};
+ghost use Rattle.steps.specs.Leaves.{decodedBy, formOf, traceOf};
 ghost use Rattle.steps.specs.Trace.{From, Halts, one, rec, text as textEvent, bytesOf};
 use float::Real;
 use leaves::leaf::LeafValue;
@@ -119,22 +119,41 @@ fn bit(b: bool) -> u64
     0
 }
 
+// How a leaf's value goes on the tape: as one record (kind, width, A, B), as a text (wide or not, the number of its bytes), or not at all.
+pub enum LeafForm {
+    Record(u8, u8, u64, u64),
+    Text(bool, usize),
+    Refused(u8),
+}
+
+// The form of a leaf's value.
+fn form_of(value: LeafValue) -> LeafForm
+    ensures { λ r. ⌜ r ≡ formOf value ⌝ }
+{
+    match value {
+        LeafValue::Signed(w, b) => LeafForm::Record(7, w, 0, b),
+        LeafValue::Unsigned(w, n) => LeafForm::Record(8, w, 0, n),
+        LeafValue::Bool(b) => LeafForm::Record(6, 0, 0, bit(b)),
+        LeafValue::Single(x) => LeafForm::Record(9, 0, 0, Real::Single(x).bits()),
+        LeafValue::Double(x) => LeafForm::Record(10, 0, 0, Real::Double(x).bits()),
+        LeafValue::NanSingle(n) => LeafForm::Record(9, 0, 0, n as u64),
+        LeafValue::NanDouble(n) => LeafForm::Record(10, 0, 0, n),
+        LeafValue::Text(n) => LeafForm::Text(false, n),
+        LeafValue::WideText(n) => LeafForm::Text(true, n),
+        LeafValue::Entry(n) => LeafForm::Record(12, 0, n as u64, 0),
+        LeafValue::Unit => LeafForm::Record(13, 0, 0, 0),
+        LeafValue::Refused(k) => LeafForm::Refused(k),
+    }
+}
+
 // Writes what a leaf's bytes stand for, after a step.
 pub fn put_leaf(s: Step, value: LeafValue, bytes: &[u8], tape: &mut [u8], text: &mut [u8]) -> Step
     ensures { λ r. ⌜ From (traceOf value (now (bytes .entry))) (now (tape .entry)) (now (text .entry)) s r (now (tape .exit)) (now (text .exit)) ⌝ }
 {
-    match value {
-        LeafValue::Signed(w, b) => put(s, tape, text, 7, w, 0, b),
-        LeafValue::Unsigned(w, n) => put(s, tape, text, 8, w, 0, n),
-        LeafValue::Bool(b) => put(s, tape, text, 6, 0, 0, bit(b)),
-        LeafValue::Single(x) => put(s, tape, text, 9, 0, 0, Real::Single(x).bits()),
-        LeafValue::Double(x) => put(s, tape, text, 10, 0, 0, Real::Double(x).bits()),
-        LeafValue::NanSingle(n) => put(s, tape, text, 9, 0, 0, n as u64),
-        LeafValue::NanDouble(n) => put(s, tape, text, 10, 0, 0, n),
-        LeafValue::Text(n) => put_text(s, false, first(bytes, n), tape, text),
-        LeafValue::WideText(n) => put_text(s, true, first(bytes, n), tape, text),
-        LeafValue::Entry(n) => put(s, tape, text, 12, 0, n as u64, 0),
-        LeafValue::Unit => put(s, tape, text, 13, 0, 0, 0),
-        LeafValue::Refused(k) => stop(s, k, 0),
+    let form = form_of(value);
+    match form {
+        LeafForm::Record(kind, width, a, b) => put(s, tape, text, kind, width, a, b),
+        LeafForm::Text(wide, n) => put_text(s, wide, first(bytes, n), tape, text),
+        LeafForm::Refused(k) => stop(s, k, 0),
     }
 }
