@@ -16,7 +16,7 @@ use Rattle.walks.specs.declared.Missing.{Missing}
 use Rattle.walks.specs.Calls.{RmwIn, RmwIs, MissingIn, MissingIs}
 use Rattle.steps.specs.declared.ReadAnswer.{ReadAnswer}
 use Rattle.steps.specs.Trace.{Trace}
-use Rattle.de.specs.Read.{ReadIs}
+use Rattle.steps.specs.Answer.{ReadIs}
 use Rattle.answers.specs.Values.{Gives, AppendedAs, ResolvedAs, FieldsAs, RmwAs, MissingAs, ReadAs}
 
 -- a part that starts at byte `start` stands there, or at the book's end where the book is shorter

@@ -1,13 +1,11 @@
 // The steps of a read: where the next record and the next text byte go, or the refusal that ended it.
 ghost use mathlib.Core.Path.{_≡_};
-ghost use mathlib.Core.Bool.{cond};
 ghost use Prim.Native.Nat.{_-_, _≤_};
-ghost use lib.ListN.{take};
+ghost use lib.ListN.{length, replicate};
 ghost use Rattle.utf_8.specs.Buffer.{Wrote};
-ghost use Rattle.steps.specs.Leaves.{decodedBy, formOf, traceOf};
+ghost use Rattle.steps.specs.Answer.{refusalOf, Finished};
+ghost use Rattle.steps.specs.Text.{decodedBy};
 ghost use Rattle.steps.specs.Trace.{From, Halts, one, rec, text as textEvent, bytesOf};
-use float::Real;
-use leaves::leaf::LeafValue;
 use tape::record::Record;
 use utf_8::Put;
 
@@ -100,60 +98,37 @@ fn text_record(tape: &mut [u8], at: usize, from: usize, to: usize) -> Put
     )
 }
 
-// The first n bytes, or all where there are fewer.
-fn first(bytes: &[u8], n: usize) -> &[u8]
-    ensures { λ r. ⌜ now r ≡ take n (now (bytes .entry)) ⌝ }
+// Sets a whole buffer to 0.
+fn clear(buffer: &mut [u8])
+    ensures { λ _. ⌜ now (buffer .exit) ≡ replicate (length (now (buffer .entry))) 0 ⌝ }
 {
-    if n <= bytes.len() {
-        return &bytes[0..n];
-    }
-    bytes
-}
-
-fn bit(b: bool) -> u64
-    ensures { λ r. ⌜ r ≡ cond b 1 0 ⌝ }
-{
-    if b {
-        return 1;
-    }
-    0
-}
-
-// How a leaf's value goes on the tape: as one record (kind, width, A, B), as a text (wide or not, the number of its bytes), or not at all.
-pub enum LeafForm {
-    Record(u8, u8, u64, u64),
-    Text(bool, usize),
-    Refused(u8),
-}
-
-// The form of a leaf's value.
-fn form_of(value: LeafValue) -> LeafForm
-    ensures { λ r. ⌜ r ≡ formOf value ⌝ }
-{
-    match value {
-        LeafValue::Signed(w, b) => LeafForm::Record(7, w, 0, b),
-        LeafValue::Unsigned(w, n) => LeafForm::Record(8, w, 0, n),
-        LeafValue::Bool(b) => LeafForm::Record(6, 0, 0, bit(b)),
-        LeafValue::Single(x) => LeafForm::Record(9, 0, 0, Real::Single(x).bits()),
-        LeafValue::Double(x) => LeafForm::Record(10, 0, 0, Real::Double(x).bits()),
-        LeafValue::NanSingle(n) => LeafForm::Record(9, 0, 0, n as u64),
-        LeafValue::NanDouble(n) => LeafForm::Record(10, 0, 0, n),
-        LeafValue::Text(n) => LeafForm::Text(false, n),
-        LeafValue::WideText(n) => LeafForm::Text(true, n),
-        LeafValue::Entry(n) => LeafForm::Record(12, 0, n as u64, 0),
-        LeafValue::Unit => LeafForm::Record(13, 0, 0, 0),
-        LeafValue::Refused(k) => LeafForm::Refused(k),
+    let mut i = 0;
+    while i < buffer.len() {
+        buffer[i] = 0;
+        i += 1;
     }
 }
 
-// Writes what a leaf's bytes stand for, after a step.
-pub fn put_leaf(s: Step, value: LeafValue, bytes: &[u8], tape: &mut [u8], text: &mut [u8]) -> Step
-    ensures { λ r. ⌜ From (traceOf value (now (bytes .entry))) (now (tape .entry)) (now (text .entry)) s r (now (tape .exit)) (now (text .exit)) ⌝ }
+// A refusal as an answer.
+fn refusal_of(n: u8, b: u32) -> ReadAnswer
+    ensures { λ r. ⌜ r ≡ refusalOf n b ⌝ }
 {
-    let form = form_of(value);
-    match form {
-        LeafForm::Record(kind, width, a, b) => put(s, tape, text, kind, width, a, b),
-        LeafForm::Text(wide, n) => put_text(s, wide, first(bytes, n), tape, text),
-        LeafForm::Refused(k) => stop(s, k, 0),
+    if n == 7 {
+        return ReadAnswer::NotFound(b);
+    }
+    ReadAnswer::Refused(n)
+}
+
+// The answer after the last step: a refusal leaves both buffers zero.
+pub fn finish(s: Step, tape: &mut [u8], text: &mut [u8]) -> ReadAnswer
+    ensures { λ r. ⌜ Finished s (now (tape .entry)) (now (text .entry)) r (now (tape .exit)) (now (text .exit)) ⌝ }
+{
+    match s {
+        Step::Next(n, m) => ReadAnswer::Done(n / 24, m),
+        Step::Stop(k, b) => {
+            clear(tape);
+            clear(text);
+            refusal_of(k, b)
+        }
     }
 }
