@@ -21,11 +21,12 @@ use Rattle.book_check.specs.declared.RootCheck.the-variants as root
 use Rattle.leaves.specs.declared.leaf.LeafValue.{LeafValue}
 use Rattle.leaves.specs.declared.leaf.LeafValue.the-variants as leaf
 use Rattle.leaves.specs.Leaf.{leafAt}
-use Rattle.de.specs.declared.deserializer.Shape.{Shape}
-use Rattle.de.specs.declared.deserializer.Shape.the-variants as shape
-use Rattle.steps.specs.Leaves.{traceOf}
+use Rattle.shape.specs.declared.Shape.{Shape}
+use Rattle.shape.specs.declared.Shape.the-variants as shape
+use Rattle.leaf_steps.specs.Leaves.{traceOf}
 use Rattle.steps.specs.Trace.{Event, rec, text, Trace, done, stop, eventsOf, one, refuse, _then_}
-use Rattle.de.specs.Walk.{Ctx, ctx, Item, whole, further, Child, shapeAt, leafOf, checked, fieldValue, memberOf, membersFrom, membersOf, mapOf, strideOf, elementItem, elementCheck, elementsFrom, elementsOf, dimensionOf, bytesOf, arrayBy, arrayOf, shapeWalk, itemWalk, walk}
+use Rattle.de.specs.Walk.{Ctx, ctx, Item, whole, further, Child, shapeAt, leafOf, checked, fieldValue, memberOf, membersFrom, membersOf, mapOf, elementItem, elementCheck, elementsFrom, elementsOf, dimensionOf, arrayBy, arrayOf, shapeWalk, itemWalk, walk}
+use Rattle.shape.specs.Array.{strideOf, bytesOf}
 use Rattle.de.specs.Read.{rootBy, rootTrace, checkedTrace, readTrace}
 use Rattle.adswalk.proofs.Limits.{short, small, small-leaf, briefly, check-brief}
 

@@ -15,7 +15,8 @@ use Rattle.book_check.specs.declared.RootCheck.{RootCheck}
 use Rattle.book_check.specs.declared.RootCheck.the-variants as root
 use Rattle.steps.specs.declared.ReadAnswer.{ReadAnswer}
 use Rattle.steps.specs.declared.ReadAnswer.the-variants.{Done, NotFound, Refused}
-use Rattle.de.specs.Read.{readTrace, ReadIs}
+use Rattle.steps.specs.Answer.{ReadIs}
+use Rattle.de.specs.Read.{readTrace}
 use Rattle.figures.specs.Puts.{Printed}
 use Rattle.lines.specs.Lines.{walkLines, refusedLine}
 use Rattle.adswalk.specs.Answer.{linesBy, walked, checkedLines, printed, Shown}

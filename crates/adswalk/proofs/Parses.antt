@@ -24,7 +24,7 @@ use Rattle.steps.specs.declared.ReadAnswer.the-variants.{NotFound, Refused}
 use Rattle.steps.specs.declared.Step.{Step}
 use Rattle.steps.specs.declared.Step.the-variants.{Stop}
 use Rattle.steps.specs.Trace.{Event, rec, text, bytesOf, textBytes, tapeBytes, Trace, done, stop, eventsOf, endOf, fits, stepOf}
-use Rattle.de.specs.Read.{refusalOf, answerOf, bufferAfter, ReadIs}
+use Rattle.steps.specs.Answer.{refusalOf, answerOf, bufferAfter, ReadIs}
 use Rattle.adswalk.specs.Answer.{eventLine, eventLines, stepLines, readLines, linesBy}
 use Rattle.adswalk.proofs.Emits.{Plain, record-more, text-more, Emits}
 

@@ -2,16 +2,14 @@
 use mathlib.Core.Path.{_≡_, sym, ap, _∙_}
 use mathlib.Core.Bool.{Bool, true, false}
 use mathlib.Core.List.{List}
-use Prim.Native.Nat.{ℕ, zero, suc, _+_, _*_, _-_, _^_, _≤_, _<_}
+use Prim.Native.Nat.{ℕ, _+_, _-_, _≤_, _<_}
 use native.Mathlib.Omega.{arith}
-use native.Mathlib.Nat.{zero-add, add-mul, one-mul, zero-mul}
-use lib.ListN.{length, getD, take, drop, length-take, length-drop}
+use lib.ListN.{length, take, drop}
 use lib.Dec.{eqb}
-use borrow.Author.Tests.{leb-false}
-use Rattle.typebook.specs.Book.{isType, sizeOf, fieldsOf, entriesOf, countOf, dimensionsOf}
+use Rattle.typebook.specs.Book.{isType, sizeOf, fieldsOf, entriesOf, countOf}
 use Rattle.book_check.specs.Check.{ValidBook}
 use Rattle.book_check.proofs.Valid.{valid-size, valid-type}
-use mir.Syntax.{w8, w32, w64}
+use mir.Syntax.{w32}
 use mir.Val.{Fits}
 use Rattle.type_category.specs.Category.{categoryOf}
 use Rattle.type_category.specs.declared.type_category.AdsTypeCategory.{AdsTypeCategory}
@@ -27,11 +25,16 @@ use Rattle.field_plan.specs.Plan.{PlannedIs, Entries, Ready, PlanIs}
 use Rattle.field_plan.proofs.Plans.{ready-none}
 use Rattle.steps.specs.declared.Step.{Step}
 use Rattle.steps.specs.declared.Step.the-variants.{Stop}
-use Rattle.de.specs.declared.deserializer.Shape.{Shape}
-use Rattle.de.specs.declared.deserializer.Shape.the-variants as shape
+use Rattle.shape.specs.declared.Shape.{Shape}
+use Rattle.shape.specs.declared.Shape.the-variants as shape
 use Rattle.steps.specs.Trace.{rec, one, From, Halts}
 use Rattle.de.specs.Plans.{Given, GivenElement, ElementChecked}
-use Rattle.de.specs.Walk.{Ctx, ctx, whole, Child, shapeOf, shapeAt, shapeCheck, leafOf, checked, memberOf, membersFrom, membersOf, mapOf, strideOf, isLast, elementItem, elementCheck, elementsFrom, elementsOf, dimensionOf, bytesOf, arrayBy, arrayOf, shapeWalk, walk, Fills, FillsNext, StrideIs}
+use Rattle.de.specs.Walk.{Ctx, ctx, whole, Child, shapeAt, shapeCheck, leafOf, checked, memberOf, membersFrom, membersOf, mapOf, elementItem, elementCheck, elementsFrom, elementsOf, dimensionOf, arrayBy, arrayOf, shapeWalk, walk}
+use Rattle.leaves.specs.Leaf.{leafAt}
+use Rattle.leaf_steps.specs.Leaves.{traceOf}
+use Rattle.shape.specs.Value.{shapeOf}
+use Rattle.shape.specs.Array.{strideOf, isLast, bytesOf}
+use Rattle.shape.proofs.Strides.{Along}
 use Rattle.steps.proofs.Runs.{Rest, from-as, from-held, halted, chain, rest-all, rest-next}
 use Rattle.de.proofs.Walks as walks
 
@@ -63,8 +66,8 @@ module _ (c : Ctx) (left t : ℕ) (mem : List ℕ) {tape tape′ txt txt′ : Li
     unfolding shapeWalk
     value-array q h = from-as (walks.walk-shape c left mem t shape.Array n (sym q ∙ shape-is c t k y ey ek)) h
 
-    pub value-leaf : k ≡ shape.Leaf → From (leafOf c t mem) tape txt s r tape′ txt′ → From (walk c left (whole t) mem) tape txt s r tape′ txt′
-    unfolding shapeWalk
+    pub value-leaf : k ≡ shape.Leaf → From (traceOf (leafAt (c .book) (c .width) t mem) mem) tape txt s r tape′ txt′ → From (walk c left (whole t) mem) tape txt s r tape′ txt′
+    unfolding shapeWalk leafOf
     value-leaf q h = from-as (walks.walk-shape c left mem t shape.Leaf n (sym q ∙ shape-is c t k y ey ek)) h
 
 -- ---- member
@@ -172,11 +175,6 @@ module _ (child : Child) (c : Ctx) (d t e : ℕ) (mem : List ℕ) {tape tape′ 
 
 -- ---- elements
 
--- how far the loop over n elements of `stride` bytes has come
-pub record Along (book : List ℕ) (d t e n stride from i len : ℕ) : Type 0 where
-  pub step : 0 < n → stride ≡ strideOf book d t e
-  pub upto : from + (n - i) * stride ≡ len
-
 module _ (child : Child) (c : Ctx) (d t e n : ℕ) (mem : List ℕ) where
   pub elements-start : {tape txt : List ℕ} {s : Step} → Rest (elementsFrom child (elementItem c d t e) (strideOf (c .book) d t e) mem 0 n) tape txt s (elementsFrom child (elementItem c d t e) (strideOf (c .book) d t e) mem 0 (n - 0)) tape txt s
   elements-start = rest-all (walks.elements-all child (elementItem c d t e) mem (strideOf (c .book) d t e) n)
@@ -200,28 +198,6 @@ module _ (child : Child) (c : Ctx) (d t e n : ℕ) (mem : List ℕ) where
     pub elements-stop : (k b : ℕ) → here ≡ Stop k b → From (elementsOf child c d t e mem) tape txt s here tape₂ txt₂
     elements-stop k b y = from-as (walks.elements-of child c mem d t e n z) (chain h (q .finish here tape₂ txt₂ (from-held k b y)))
 
--- what the stride's function ensures
-pub along-start : {book : List ℕ} {d t e n stride len : ℕ} → n ≡ countOf book t d → Fills book d t e len → StrideIs n len stride → Along book d t e n stride 0 0 len
-along-start {book} {d} {t} {e} {n} {stride} {len} z f s =
-    let k : n * strideOf book d t e ≡ len = rw z (f .fills) in
-    record { step = λ l. s .is (strideOf book d t e) l k; upto = by n stride k s }
-  where
-    by : (n stride : ℕ) → n * strideOf book d t e ≡ len → StrideIs n len stride → 0 + (n - 0) * stride ≡ len
-    by zero stride k s = rw (zero-mul) (sym (zero-mul (strideOf book d t e)) ∙ k)
-    by (suc n) stride k s = let y : stride ≡ strideOf book d t e = s .is (strideOf book d t e) (omega arith) k in let z : suc n - 0 ≡ suc n = omega arith in rw (y, zero-add, z) k
-
-bytes-split : (n stride i : ℕ) → i < n → (n - i) * stride ≡ stride + (n - (i + 1)) * stride
-bytes-split n stride i l = let q : n - i ≡ 1 + (n - (i + 1)) = omega arith in rw (q, add-mul, one-mul)
-
-pub along-again : {book : List ℕ} {d t e n stride from i len : ℕ} → i < n → Along book d t e n stride from i len → Along book d t e n stride (from + stride) (i + 1) len
-along-again {book} {d} {t} {e} {n} {stride} {from} {i} {len} l a = record { step = a .step; upto = omega (arith, bytes-split n stride i l, a .upto) }
-
-pub along-end : (book : List ℕ) (d t e n stride from i len : ℕ) → i < n → Along book d t e n stride from i len → from + stride ≤ len
-along-end book d t e n stride from i len l a = omega (arith, bytes-split n stride i l, a .upto)
-
-pub along-fits : (book : List ℕ) (d t e n stride from i len : ℕ) → i < n → Along book d t e n stride from i len → len < 2 ^ 64 → Fits w64 (from + stride)
-along-fits book d t e n stride from i len l a h = record { fits = omega (arith, along-end book d t e n stride from i len l a) }
-
 -- ---- element
 
 module _ (c : Ctx) (left d t e : ℕ) (mem : List ℕ) {tape tape′ txt txt′ : List ℕ} {s r : Step} (b : Bool) (q : b ≡ isLast (c .book) d t) where
@@ -236,11 +212,6 @@ module _ (c : Ctx) (left d t e : ℕ) (mem : List ℕ) {tape tape′ txt txt′ 
   element-further h n x = rw (walks.item-further c d t e b q h) (from-as (walks.walk-further c left mem (d + 1) t e n) x)
 
 -- ---- what calls ask
-
-pub element-fills : {book : List ℕ} {d t e n stride from i : ℕ} (mem : List ℕ) → i < n → Along book d t e n stride from i (length mem) → FillsNext book d t e (length (take (from + stride - from) (drop from mem)))
-element-fills {book} {d} {t} {e} {n} {stride} {from} {i} mem l a =
-    let y : stride ≡ strideOf book d t e = a .step (omega arith) in
-    record { fills = sym y ∙ sym (simp (length-take, length-drop) (omega (arith, along-end book d t e n stride from i (length mem) l a))) }
 
 -- a type's fields and entries have numbers below 65,536
 pub leaf-inside : (book : List ℕ) (t : ℕ) → ValidBook book → isType book t ≡ true → t + fieldsOf book t + entriesOf book t < 65536
@@ -277,10 +248,3 @@ own-elements c d t e k after p z =
 -- in the last dimension what is given is given for the element
 pub last-given : (c : Ctx) (d t e : ℕ) (plan : List ℕ) (b : Bool) → b ≡ isLast (c .book) d t → b ≡ true → GivenElement c d t e plan → Given c e plan
 last-given c d t e plan b q h g = g .given (sym q ∙ h)
-
--- a dimension that is not the last has a next one
-pub next-dimension : (book : List ℕ) (d t : ℕ) (b : Bool) → b ≡ isLast book d t → b ≡ false → ((i : ℕ) → Fits w8 (getD book i 0)) → Fits w8 (d + 1)
-unfolding isLast
-next-dimension book d t b q h k =
-    let l : d + 1 < dimensionsOf book t = leb-false (dimensionsOf book t) (d + 1) (sym q ∙ h) in
-    record { fits = omega (arith, k (t * 512 + 2) .fits) }

@@ -2,13 +2,11 @@
 use mathlib.Core.Path.{_≡_, sym, ap, _∙_}
 use mathlib.Core.Bool.{Bool, true, false}
 use mathlib.Core.List.{List}
-use Prim.Native.Nat.{ℕ, suc, _+_, _*_, _-_, _≤_, _<_}
+use Prim.Native.Nat.{ℕ, suc, _+_, _-_, _≤_, _<_}
 use native.Mathlib.Omega.{arith}
-use native.Mathlib.Nat.{mul-comm, mul-assoc}
 use lib.ListN.{length}
-use lib.Dec.{eqb}
-use borrow.Author.Tests.{le-leb, lt-leb, eq-eqb, ne-eqb, eqb-true, leb-false}
-use Rattle.typebook.specs.Book.{sizeOf, fieldsOf, countOf, dimensionsOf}
+use borrow.Author.Tests.{le-leb, lt-leb, eq-eqb, ne-eqb}
+use Rattle.typebook.specs.Book.{sizeOf, fieldsOf, countOf}
 use Rattle.resolvers.specs.Resolve.{lookUp}
 use Rattle.field_types.specs.Fields.{resolveField, fieldsCheck}
 use Rattle.resolvers.specs.declared.Resolved.{Resolved}
@@ -21,10 +19,12 @@ use Rattle.type_category.specs.declared.type_category.AdsTypeCategory.{AdsTypeC
 use Rattle.field_plan.specs.declared.PlannedField.{PlannedField}
 use Rattle.field_plan.specs.Plan.{FieldIs, PlanIs}
 use Rattle.de.specs.Plans.{ElementChecked}
-use Rattle.de.specs.declared.deserializer.Shape.{Shape}
-use Rattle.de.specs.declared.deserializer.Shape.the-variants as shape
+use Rattle.shape.specs.declared.Shape.{Shape}
+use Rattle.shape.specs.declared.Shape.the-variants as shape
 use Rattle.steps.specs.Trace.{rec, one, refuse, _then_}
-use Rattle.de.specs.Walk.{Ctx, Item, whole, further, Child, cut, shapeOf, shapeAt, checked, fieldValue, memberOf, membersFrom, membersOf, mapOf, productFrom, strideOf, isLast, elementItem, shapeCheck, elementCheck, elementsFrom, elementsOf, dimensionOf, bytesOf, arrayBy, arrayOf, shapeWalk, itemWalk, walk, Fills, FillsNext}
+use Rattle.de.specs.Walk.{Ctx, Item, whole, further, Child, cut, shapeAt, checked, fieldValue, memberOf, membersFrom, membersOf, mapOf, elementItem, shapeCheck, elementCheck, elementsFrom, elementsOf, dimensionOf, arrayBy, arrayOf, shapeWalk, itemWalk, walk}
+use Rattle.shape.specs.Value.{shapeOf}
+use Rattle.shape.specs.Array.{strideOf, isLast}
 
 -- ---- a value
 
@@ -160,25 +160,3 @@ module _ (c : Ctx) (d t e : ℕ) (b : Bool) (q : b ≡ isLast (c .book) d t) whe
     pub check-leaf : k ≡ shape.Leaf → ElementChecked c d t e check.Fine plan
     unfolding elementCheck shapeCheck
     check-leaf z = record { is = rw (← q, h, ← s, z); entries = λ f l m. absurd (let o : k ≡ shape.Map = s ∙ m in let w : _≡_ {A = ℕ} 0 1 = cc in omega arith) }
-
--- ---- the bytes of an array's elements
-
-swap : (a b p : ℕ) → a * (b * p) ≡ b * (a * p)
-swap a b p = sym (mul-assoc a b p) ∙ ap (λ (x : ℕ). x * p) (mul-comm a b) ∙ mul-assoc b a p
-
--- the whole array is its first dimension
-pub fills-first : (book : List ℕ) (t e len : ℕ) (b : Bool) → b ≡ eqb (bytesOf book t e) len → b ≡ true → Fills book 0 t e len
-unfolding bytesOf
-fills-first book t e len b q h = record { fills = eqb-true _ _ (sym q ∙ h) }
-
--- one index of a dimension that is not the last is the next dimension
-pub fills-further : (book : List ℕ) (d t e len : ℕ) (b : Bool) → b ≡ isLast book d t → b ≡ false → FillsNext book d t e len → Fills book (d + 1) t e len
-unfolding isLast strideOf productFrom
-fills-further book d t e len b q h f =
-    let l : d + 1 < dimensionsOf book t = leb-false (dimensionsOf book t) (d + 1) (sym q ∙ h) in
-    let k : dimensionsOf book t - (d + 1) ≡ suc (dimensionsOf book t - (d + 1 + 1)) = omega arith in
-    record {
-      fills =
-          swap (countOf book t (d + 1)) (sizeOf book e) (productFrom book t (d + 1 + 1) (dimensionsOf book t - (d + 1 + 1)))
-          ∙ (rw k at (f .fills));
-    }

@@ -6,8 +6,9 @@ use Prim.Native.Nat.{ℕ}
 use Rattle.field_plan.specs.Plan.{Entries, Ready}
 use Rattle.field_types.specs.declared.FieldsCheck.{FieldsCheck}
 use Rattle.field_types.specs.declared.FieldsCheck.the-variants as check
-use Rattle.de.specs.declared.deserializer.Shape.the-variants as shape
-use Rattle.de.specs.Walk.{Ctx, shapeAt, isLast, elementCheck}
+use Rattle.shape.specs.declared.Shape.the-variants as shape
+use Rattle.de.specs.Walk.{Ctx, shapeAt, elementCheck}
+use Rattle.shape.specs.Array.{isLast}
 
 -- the plan of a type that has fields is empty, or none of them is refused
 pub record Given (c : Ctx) (t : ℕ) (plan : List ℕ) : Type 0 where

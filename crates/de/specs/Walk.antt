@@ -1,14 +1,11 @@
 -- What a read emits, type by type (document 01: "The tape", the access files, deserializer.rs). Assumes nothing.
-use mathlib.Core.Path.{_≡_}
-use mathlib.Core.Bool.{Bool, cond}
+use mathlib.Core.Bool.{cond}
 use mathlib.Core.List.{List}
-use Prim.Native.Nat.{ℕ, zero, suc, _+_, _*_, _-_, _<_}
+use Prim.Native.Nat.{ℕ, zero, suc, _+_}
 use lib.ListN.{length, take, drop}
 use lib.Dec.{leb, eqb}
-use Rattle.typebook.specs.Book.{sizeOf, fieldsOf, countOf, dimensionsOf}
+use Rattle.typebook.specs.Book.{sizeOf, fieldsOf, countOf}
 use Rattle.type_category.specs.Category.{categoryOf}
-use Rattle.type_category.specs.declared.type_category.AdsTypeCategory.{AdsTypeCategory}
-use Rattle.type_category.specs.declared.type_category.AdsTypeCategory.the-variants as category
 use Rattle.resolvers.specs.Resolve.{lookUp}
 use Rattle.field_types.specs.Fields.{resolveField, fieldsCheck}
 use Rattle.resolvers.specs.declared.Resolved.{Resolved}
@@ -17,10 +14,12 @@ use Rattle.field_types.specs.declared.FieldAnswer.{FieldAnswer}
 use Rattle.field_types.specs.declared.FieldAnswer.the-variants as answer
 use Rattle.field_types.specs.declared.FieldsCheck.{FieldsCheck}
 use Rattle.field_types.specs.declared.FieldsCheck.the-variants as check
-use Rattle.de.specs.declared.deserializer.Shape.{Shape}
-use Rattle.de.specs.declared.deserializer.Shape.the-variants as shape
+use Rattle.shape.specs.declared.Shape.{Shape}
+use Rattle.shape.specs.declared.Shape.the-variants as shape
+use Rattle.shape.specs.Value.{shapeOf}
+use Rattle.shape.specs.Array.{strideOf, isLast, bytesOf}
 use Rattle.leaves.specs.Leaf.{leafAt}
-use Rattle.steps.specs.Leaves.{traceOf}
+use Rattle.leaf_steps.specs.Leaves.{traceOf}
 use Rattle.steps.specs.Trace.{Trace, rec, one, refuse, _then_}
 
 -- what is read and never written
@@ -44,25 +43,6 @@ Child = Item → List ℕ → Trace
 -- the `size` bytes from `from` on
 abbrev pub cut : ℕ → ℕ → List ℕ → List ℕ
 cut from size mem = take size (drop from mem)
-
--- by its fields, by its elements, or as a whole
-abbrev pub shapeOf : AdsTypeCategory → Shape
-shapeOf category.None = shape.Leaf
-shapeOf category.Primitive = shape.Leaf
-shapeOf category.Alias = shape.Leaf
-shapeOf category.Enum = shape.Leaf
-shapeOf category.Array = shape.Array
-shapeOf category.Struct = shape.Map
-shapeOf category.FunctionBlock = shape.Map
-shapeOf category.Program = shape.Leaf
-shapeOf category.Function = shape.Leaf
-shapeOf category.SubRange = shape.Leaf
-shapeOf category.String = shape.Leaf
-shapeOf category.Bitset = shape.Leaf
-shapeOf category.Pointer = shape.Leaf
-shapeOf category.Union = shape.Map
-shapeOf category.Reference = shape.Leaf
-shapeOf category.Interface = shape.Leaf
 
 -- how a value of type block t is read, by its category
 unfoldable pub shapeAt : Ctx → ℕ → Shape
@@ -106,19 +86,6 @@ mapOf child c t mem =
 
 -- ---- an array
 
--- the product of the element counts of the k dimensions from the d-th on
-unfoldable pub productFrom : List ℕ → ℕ → ℕ → ℕ → ℕ
-productFrom book t d zero = 1
-productFrom book t d (suc k) = countOf book t d * productFrom book t (d + 1) k
-
--- the number of bytes of array t's elements, of type e, that one index of dimension d covers
-unfoldable pub strideOf : List ℕ → ℕ → ℕ → ℕ → ℕ
-strideOf book d t e = sizeOf book e * productFrom book t (d + 1) (dimensionsOf book t - (d + 1))
-
--- dimension d of array t is its last
-unfoldable pub isLast : List ℕ → ℕ → ℕ → Bool
-isLast book d t = leb (dimensionsOf book t) (d + 1)
-
 -- what one index of dimension d holds
 unfoldable pub elementItem : Ctx → ℕ → ℕ → ℕ → Item
 elementItem c d t e = cond (isLast (c .book) d t) (whole e) (further (d + 1) t e)
@@ -146,10 +113,6 @@ elementsOf child c d t e mem =
 -- one dimension: in the last one the element's fields are resolved before the array record
 unfoldable pub dimensionOf : Child → Ctx → ℕ → ℕ → ℕ → List ℕ → Trace
 dimensionOf child c d t e mem = checked (elementCheck c d t e) (elementsOf child c d t e mem)
-
--- the bytes of the whole array: its element's size times all its counts
-unfoldable pub bytesOf : List ℕ → ℕ → ℕ → ℕ
-bytesOf book t e = countOf book t 0 * strideOf book 0 t e
 
 -- with its element's type: 10 unless the whole array's bytes are as many as there are
 unfoldable pub arrayBy : Child → Ctx → ℕ → List ℕ → Resolved → Trace
@@ -180,15 +143,3 @@ itemWalk child c (further d t e) mem = dimensionOf child c d t e mem
 unfoldable pub walk : Ctx → ℕ → Child
 walk c zero i mem = refuse 14 0
 walk c (suc left) i mem = itemWalk (walk c left) c i mem
-
--- array t's dimensions from the d-th on, with elements of type e, fill `len` bytes
-pub record Fills (book : List ℕ) (d t e len : ℕ) : Type 0 where
-  pub fills : countOf book t d * strideOf book d t e ≡ len
-
--- one index of dimension d covers `len` bytes
-pub record FillsNext (book : List ℕ) (d t e len : ℕ) : Type 0 where
-  pub fills : strideOf book d t e ≡ len
-
--- what n equal parts of `len` bytes are long
-pub record StrideIs (n len r : ℕ) : Type 0 where
-  pub is : (k : ℕ) → 0 < n → n * k ≡ len → r ≡ k

@@ -1,65 +1,26 @@
 // An array: its dimensions in order, the last one's elements by their type.
 ghost use mathlib.Core.Path.{_≡_};
 ghost use mathlib.Core.Bool.{true};
-ghost use Prim.Native.Nat.{_*_, _≤_, min};
-ghost use lib.Dec.{eqb};
 ghost use lib.ListN.{length};
 ghost use Rattle.book_check.specs.Check.{ValidBook};
 ghost use Rattle.typebook.specs.Book.{isType};
 ghost use Rattle.type_category.specs.Category.{categoryOf};
 ghost use Rattle.de.specs.Plans.{GivenElement, ElementChecked};
 ghost use Rattle.steps.specs.Trace.{From};
-ghost use Rattle.de.specs.Walk.{ctx, walk, arrayOf, dimensionOf, elementsOf, elementItem, isLast, bytesOf, Fills, FillsNext, StrideIs};
-use crate::deserializer::Shape;
-use crate::deserializer::shape_of;
+ghost use Rattle.shape.specs.Array.{Fills, FillsNext};
+ghost use Rattle.de.specs.Walk.{ctx, walk, arrayOf, dimensionOf, elementsOf, elementItem};
 use crate::deserializer::value;
 use field_types::FieldsCheck;
 use resolvers::Resolved;
+use shape::Shape;
+use shape::array::is_last;
+use shape::array::product_is;
+use shape::array::stride_of;
+use shape::shape_of;
 use steps::Step;
 use steps::put;
 use steps::stop;
 use type_category::type_category::AdsTypeCategory;
-
-// No length reaches this, so a product that does needs not be known.
-const TOP: u64 = 0x8000_0000_0000_0000;
-
-// The product, or TOP where it is more.
-fn times(p: u64, b: u32) -> u64
-    requires { ⌜ p ≤ 0x8000_0000_0000_0000 ⌝ }
-    ensures { λ r. ⌜ r ≡ min (p * b) 0x8000_0000_0000_0000 ⌝ }
-{
-    if b == 0 {
-        return 0;
-    }
-    let m = b as u64;
-    if TOP / m < p {
-        return TOP;
-    }
-    p * m
-}
-
-// Whether the element's size times all counts is the number of bytes, exactly.
-pub(crate) fn product_is(book: &[u8], t: u32, e: u32, bytes: &[u8]) -> bool
-    ensures { λ r. ⌜ r ≡ eqb (bytesOf (now (book .entry)) t e) (length (now (bytes .entry))) ⌝ }
-{
-    let dims = typebook::block::dimensions(book, t);
-    let mut p = times(
-        typebook::block::count(book, t, 0) as u64,
-        typebook::block::size(book, e),
-    );
-    let mut d: u8 = 1;
-    while d < dims {
-        p = times(p, typebook::block::count(book, t, d));
-        d += 1;
-    }
-    p == bytes.len() as u64
-}
-
-pub(crate) fn is_last(book: &[u8], d: u8, t: u32) -> bool
-    ensures { λ r. ⌜ r ≡ isLast (now (book .entry)) d t ⌝ }
-{
-    typebook::block::dimensions(book, t) as u32 <= d as u32 + 1
-}
 
 // Array t, after its element's type was looked up.
 pub(crate) fn array(
@@ -221,16 +182,6 @@ pub(crate) fn elements(
         i += 1;
     }
     put(here, tape, text, 2, 0, 0, 0)
-}
-
-// The bytes of one of n equal parts of `len`.
-fn stride_of(n: usize, len: usize) -> usize
-    ensures { λ r. ⌜ StrideIs n len r ⌝ }
-{
-    if n == 0 {
-        return 0;
-    }
-    len / n
 }
 
 // What one index of dimension d holds: an element, or the next dimension one level deeper.

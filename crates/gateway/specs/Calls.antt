@@ -16,7 +16,7 @@ use Rattle.read_modify_write.specs.Calls.{RmwIn, RmwIs}
 use Rattle.missing_types.specs.Calls.{MissingIn, MissingIs}
 use Rattle.steps.specs.declared.ReadAnswer.{ReadAnswer}
 use Rattle.steps.specs.Trace.{Trace}
-use Rattle.de.specs.Read.{ReadIs}
+use Rattle.steps.specs.Answer.{ReadIs}
 use Rattle.book_answers.specs.Answers.{AppendedAs}
 use Rattle.resolver_answers.specs.Answers.{ResolvedAs, FieldsAs}
 use Rattle.walk_answers.specs.Answers.{RmwAs, MissingAs}

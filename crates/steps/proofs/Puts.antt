@@ -2,26 +2,20 @@
 use mathlib.Core.Path.{_≡_, refl, sym, _∙_}
 use mathlib.Core.Bool.{Bool, true, false, cond, _&&_}
 use mathlib.Core.List.{List, [], _++_, append-nil}
-use Prim.Native.Nat.{ℕ, _+_, _-_, _≤_, _<_}
+use Prim.Native.Nat.{ℕ, _+_, _-_, _≤_}
 use native.Mathlib.Omega.{arith}
-use lib.ListN.{length, take, drop}
-use lib.Seq.{take-all}
-use lib.Ieee.{Float}
+use lib.ListN.{length}
 use Rattle.utf_16.specs.Decode as utf16
 use Rattle.windows_1252.specs.Text as windows1252
 use Rattle.utf_8.specs.Buffer.{fitsIn, Wrote}
 use Rattle.utf_8.specs.declared.Put.{Put}
 use Rattle.utf_8.specs.declared.Put.the-variants as put
 use Rattle.utf_8.proofs.Splices.{splice-none, next-full, Went, went}
-use Rattle.leaves.specs.declared.leaf.LeafValue.{LeafValue}
-use Rattle.leaves.specs.declared.leaf.LeafValue.the-variants as leaf
-use Rattle.float.specs.Float.{realBits}
-use Rattle.float.specs.declared.Real.the-variants as real
 use Rattle.steps.specs.declared.Step.{Step}
 use Rattle.steps.specs.declared.Step.the-variants.{Next, Stop}
-use Rattle.steps.specs.Trace.{rec, text, bytesOf, textBytes, tapeBytes, Trace, eventsOf, endOf, one, fits, stepOf, Ran, From, Halts}
-use Rattle.steps.specs.Leaves.{decodedBy, traceOf}
-use Rattle.steps.proofs.Runs.{next-stop, from-next, halted}
+use Rattle.steps.specs.Trace.{rec, text, bytesOf, textBytes, tapeBytes, Trace, eventsOf, endOf, one, fits, stepOf, Ran, From}
+use Rattle.steps.specs.Text.{decodedBy}
+use Rattle.steps.proofs.Runs.{next-stop, from-next}
 
 not-fits : (b : Bool) (xs out : List ℕ) (at : ℕ) → fitsIn xs at (length out) ≡ b → put.Full ≡ cond b (put.Next (at + length xs)) put.Full → b ≡ false
 not-fits true xs out at e a = next-full (sym a)
@@ -97,35 +91,12 @@ module _ (xs tape txt : List ℕ) (at from : ℕ) {p : Put} {txt′ : List ℕ} 
 pub text-order : {xs txt txt′ : List ℕ} {from to : ℕ} {p : Put} → Wrote xs txt from p txt′ → p ≡ put.Next to → from ≤ to
 text-order h e = omega (arith, went h e .place)
 
--- ---- a leaf
-
-pub leaf-known : (mem : List ℕ) {tape tape′ txt txt′ : List ℕ} {s r : Step} {v : LeafValue} (u : LeafValue) → v ≡ u → From (traceOf u mem) tape txt s r tape′ txt′ → From (traceOf v mem) tape txt s r tape′ txt′
-leaf-known mem u e h = rw e h
-
-pub leaf-bool : (mem : List ℕ) {tape tape′ txt txt′ : List ℕ} {s r : Step} {v : LeafValue} (b : Bool) (n : ℕ) → v ≡ leaf.Bool b → n ≡ cond b 1 0 → From (one (rec 6 0 0 n)) tape txt s r tape′ txt′ → From (traceOf v mem) tape txt s r tape′ txt′
-leaf-bool mem b n e q h = rw (e, ← q) h
-
-pub leaf-text : (mem part : List ℕ) {tape tape′ txt txt′ : List ℕ} {s r : Step} {v : LeafValue} (n : ℕ) → v ≡ leaf.Text n → part ≡ take n mem → From (one (text (decodedBy false part))) tape txt s r tape′ txt′ → From (traceOf v mem) tape txt s r tape′ txt′
-leaf-text mem part n e q h = rw (e, ← q) h
-
-pub leaf-wide : (mem part : List ℕ) {tape tape′ txt txt′ : List ℕ} {s r : Step} {v : LeafValue} (n : ℕ) → v ≡ leaf.WideText n → part ≡ take n mem → From (one (text (decodedBy true part))) tape txt s r tape′ txt′ → From (traceOf v mem) tape txt s r tape′ txt′
-leaf-wide mem part n e q h = rw (e, ← q) h
-
-pub leaf-single : (mem : List ℕ) {tape tape′ txt txt′ : List ℕ} {s r : Step} {v : LeafValue} (x : Float) (n : ℕ) → v ≡ leaf.Single x → n ≡ realBits (real.Single x) → From (one (rec 9 0 0 n)) tape txt s r tape′ txt′ → From (traceOf v mem) tape txt s r tape′ txt′
-leaf-single mem x n e q h = rw (e, ← q) h
-
-pub leaf-double : (mem : List ℕ) {tape tape′ txt txt′ : List ℕ} {s r : Step} {v : LeafValue} (x : Float) (n : ℕ) → v ≡ leaf.Double x → n ≡ realBits (real.Double x) → From (one (rec 10 0 0 n)) tape txt s r tape′ txt′ → From (traceOf v mem) tape txt s r tape′ txt′
-leaf-double mem x n e q h = rw (e, ← q) h
-
-pub leaf-refused : (mem : List ℕ) {tape tape′ txt txt′ : List ℕ} {s r : Step} {v : LeafValue} (k : ℕ) → v ≡ leaf.Refused k → Halts s k 0 r → From (traceOf v mem) tape txt s r tape′ txt′
-leaf-refused mem k e h = rw e (halted h)
-
 -- ---- after a step
 
 pub put-next : {t : Trace} {tape tape′ txt txt′ : List ℕ} {s r : Step} (at from : ℕ) → s ≡ Next at from → Ran t tape txt at from r tape′ txt′ → From t tape txt s r tape′ txt′
 put-next at from e h = from-next at from e h
 
--- ---- which decoder, and which bytes
+-- ---- which decoder
 
 pub decoded-wide : {b : Bool} (bytes : List ℕ) {out out′ : List ℕ} {at : ℕ} {p : Put} → b ≡ true → Wrote (utf16.decodeText bytes) out at p out′ → Wrote (decodedBy b bytes) out at p out′
 unfolding decodedBy
@@ -134,9 +105,3 @@ decoded-wide bytes e h = rw e h
 pub decoded-narrow : {b : Bool} (bytes : List ℕ) {out out′ : List ℕ} {at : ℕ} {p : Put} → b ≡ false → Wrote (windows1252.decodeText bytes) out at p out′ → Wrote (decodedBy b bytes) out at p out′
 unfolding decodedBy
 decoded-narrow bytes e h = rw e h
-
-pub first-part : (s : List ℕ) (n : ℕ) → n ≤ length s → take (n - 0) (drop 0 s) ≡ take n s
-first-part s n h = let e : n - 0 ≡ n = omega arith in rw e
-
-pub first-all : (s : List ℕ) (n : ℕ) → length s < n → s ≡ take n s
-first-all s n h = sym (take-all n s (omega arith))

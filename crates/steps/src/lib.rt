@@ -1,13 +1,11 @@
 // The steps of a read: where the next record and the next text byte go, or the refusal that ended it.
 ghost use mathlib.Core.Path.{_≡_};
-ghost use mathlib.Core.Bool.{cond};
 ghost use Prim.Native.Nat.{_-_, _≤_};
-ghost use lib.ListN.{take};
+ghost use lib.ListN.{length, replicate};
 ghost use Rattle.utf_8.specs.Buffer.{Wrote};
-ghost use Rattle.steps.specs.Leaves.{decodedBy, traceOf};
+ghost use Rattle.steps.specs.Answer.{refusalOf, Finished};
+ghost use Rattle.steps.specs.Text.{decodedBy};
 ghost use Rattle.steps.specs.Trace.{From, Halts, one, rec, text as textEvent, bytesOf};
-use float::Real;
-use leaves::leaf::LeafValue;
 use tape::record::Record;
 use utf_8::Put;
 
@@ -100,41 +98,37 @@ fn text_record(tape: &mut [u8], at: usize, from: usize, to: usize) -> Put
     )
 }
 
-// The first n bytes, or all where there are fewer.
-fn first(bytes: &[u8], n: usize) -> &[u8]
-    ensures { λ r. ⌜ now r ≡ take n (now (bytes .entry)) ⌝ }
+// Sets a whole buffer to 0.
+fn clear(buffer: &mut [u8])
+    ensures { λ _. ⌜ now (buffer .exit) ≡ replicate (length (now (buffer .entry))) 0 ⌝ }
 {
-    if n <= bytes.len() {
-        return &bytes[0..n];
+    let mut i = 0;
+    while i < buffer.len() {
+        buffer[i] = 0;
+        i += 1;
     }
-    bytes
 }
 
-fn bit(b: bool) -> u64
-    ensures { λ r. ⌜ r ≡ cond b 1 0 ⌝ }
+// A refusal as an answer.
+fn refusal_of(n: u8, b: u32) -> ReadAnswer
+    ensures { λ r. ⌜ r ≡ refusalOf n b ⌝ }
 {
-    if b {
-        return 1;
+    if n == 7 {
+        return ReadAnswer::NotFound(b);
     }
-    0
+    ReadAnswer::Refused(n)
 }
 
-// Writes what a leaf's bytes stand for, after a step.
-pub fn put_leaf(s: Step, value: LeafValue, bytes: &[u8], tape: &mut [u8], text: &mut [u8]) -> Step
-    ensures { λ r. ⌜ From (traceOf value (now (bytes .entry))) (now (tape .entry)) (now (text .entry)) s r (now (tape .exit)) (now (text .exit)) ⌝ }
+// The answer after the last step: a refusal leaves both buffers zero.
+pub fn finish(s: Step, tape: &mut [u8], text: &mut [u8]) -> ReadAnswer
+    ensures { λ r. ⌜ Finished s (now (tape .entry)) (now (text .entry)) r (now (tape .exit)) (now (text .exit)) ⌝ }
 {
-    match value {
-        LeafValue::Signed(w, b) => put(s, tape, text, 7, w, 0, b),
-        LeafValue::Unsigned(w, n) => put(s, tape, text, 8, w, 0, n),
-        LeafValue::Bool(b) => put(s, tape, text, 6, 0, 0, bit(b)),
-        LeafValue::Single(x) => put(s, tape, text, 9, 0, 0, Real::Single(x).bits()),
-        LeafValue::Double(x) => put(s, tape, text, 10, 0, 0, Real::Double(x).bits()),
-        LeafValue::NanSingle(n) => put(s, tape, text, 9, 0, 0, n as u64),
-        LeafValue::NanDouble(n) => put(s, tape, text, 10, 0, 0, n),
-        LeafValue::Text(n) => put_text(s, false, first(bytes, n), tape, text),
-        LeafValue::WideText(n) => put_text(s, true, first(bytes, n), tape, text),
-        LeafValue::Entry(n) => put(s, tape, text, 12, 0, n as u64, 0),
-        LeafValue::Unit => put(s, tape, text, 13, 0, 0, 0),
-        LeafValue::Refused(k) => stop(s, k, 0),
+    match s {
+        Step::Next(n, m) => ReadAnswer::Done(n / 24, m),
+        Step::Stop(k, b) => {
+            clear(tape);
+            clear(text);
+            refusal_of(k, b)
+        }
     }
 }

@@ -2,10 +2,11 @@ use borrow.Author.Needs.{needs}
 use mathlib.Core.Path.{_≡_}
 use Prim.Native.Nat.{ℕ, _+_, _*_, _-_, _≤_, _<_}
 use lib.ListN.{length}
-use Rattle.de.specs.Walk.{ctx, walk, membersFrom, elementsFrom, elementItem, strideOf}
+use Rattle.de.specs.Walk.{ctx, walk, membersFrom, elementsFrom, elementItem}
 use Rattle.steps.proofs.Runs.{Rest}
-use Rattle.de.proofs.Walks.{fills-first, fills-further}
-use Rattle.de.proofs.Exits.{value-deep, value-map, value-array, value-leaf, member-lacks, member-endless, member-over, member-value, members-start, members-again, members-end, members-stop, map-odd, map-fine, map-lacks, map-endless, array-odd, array-lacks, array-endless, array-other, array-base, dimension-fine, dimension-lacks, dimension-endless, Along, along-start, along-again, along-end, elements-start, elements-again, elements-end, elements-stop, element-last, element-deep, element-further, element-fills, field-number, field-first, along-fits, typed-base, typed-field, category-field, next-dimension, leaf-inside, map-ready, given-none, map-given, own-entries, own-elements, last-given}
+use Rattle.shape.proofs.Strides.{Along, along-start, along-again, along-end, along-fits, element-fills, next-dimension, fills-first, fills-further}
+use Rattle.shape.specs.Array.{strideOf}
+use Rattle.de.proofs.Exits.{value-deep, value-map, value-array, value-leaf, member-lacks, member-endless, member-over, member-value, members-start, members-again, members-end, members-stop, map-odd, map-fine, map-lacks, map-endless, array-odd, array-lacks, array-endless, array-other, array-base, dimension-fine, dimension-lacks, dimension-endless, elements-start, elements-again, elements-end, elements-stop, element-last, element-deep, element-further, field-number, field-first, typed-base, typed-field, category-field, leaf-inside, map-ready, given-none, map-given, own-entries, own-elements, last-given}
 use Rattle.field_plan.proofs.Plans.{entry-of}
 use borrow.Fn.Kinds.{In}
 use borrow.Fn.PlainCycle.{Measures, is, falls, and}
@@ -34,11 +35,11 @@ use Rattle.de.proofs.map_access.members.Reads as map-access·members
 use Rattle.de.proofs.map_access.members.Kinds as map-access·members-kinds
 use Rattle.de.proofs.+array_access-array+array_access-dimension+array_access-element+array_access-elements+deserializer-value+map_access-map+map_access-member+map_access-members.Lts-map_access-members as map-access·members-lts
 use Rattle.de.proofs.array_access.element_check.Reads as element-check-reads
-use Rattle.de.proofs.array_access.is_last.Reads as is-last-reads
-use Rattle.de.proofs.array_access.product_is.Reads as product-is-reads
-use Rattle.de.proofs.array_access.stride_of.Reads as stride-of-reads
-use Rattle.de.proofs.deserializer.leaf.Reads as leaf-reads
-use Rattle.de.proofs.deserializer.shape_of.Reads as shape-of-reads
+use Rattle.shape.proofs.array.is_last.Reads as is-last-reads
+use Rattle.shape.proofs.array.product_is.Reads as product-is-reads
+use Rattle.shape.proofs.array.stride_of.Reads as stride-of-reads
+use Rattle.leaf_steps.proofs.leaf.Reads as leaf-reads
+use Rattle.shape.proofs.shape_of.Reads as shape-of-reads
 use Rattle.steps.proofs.put.Reads as put-reads
 use Rattle.steps.proofs.stop.Reads as stop-reads
 use Rattle.field_plan.proofs.entry_at.Reads as entry-at-reads

@@ -4,8 +4,8 @@ use Rattle.de.proofs.array_access.element_check.Statement.{statement}
 use Rattle.de.proofs.array_access.element_check.Tie as tie
 use Rattle.de.proofs.array_access.element_check.Reads as reads
 use Rattle.de.proofs.array_access.element_check.Lts as lts
-use Rattle.de.proofs.array_access.is_last.Reads as is-last-reads
-use Rattle.de.proofs.deserializer.shape_of.Reads as shape-of-reads
+use Rattle.shape.proofs.array.is_last.Reads as is-last-reads
+use Rattle.shape.proofs.shape_of.Reads as shape-of-reads
 use Rattle.field_plan.proofs.plan_fields_in.Reads as plan-fields-in-reads
 
 ruleset exits = (check-map, check-array, check-leaf, check-not-last)

@@ -5,7 +5,7 @@ use Rattle.de.proofs.deserializer.read.Tie as tie
 use Rattle.de.proofs.deserializer.read.Reads as reads
 use Rattle.de.proofs.deserializer.read.Lts as lts
 use Rattle.book_check.proofs.check_root.Reads as check-root-reads
-use Rattle.de.proofs.deserializer.finish.Reads as finish-reads
+use Rattle.steps.proofs.finish.Reads as finish-reads
 use Rattle.de.proofs.deserializer.read_in.Reads as read-in-reads
 use Rattle.type_index.proofs.fill_index.Reads as fill-index-reads
 

@@ -5,7 +5,7 @@ use Rattle.de.proofs.deserializer.read_in.Statement.{statement}
 use Rattle.de.proofs.deserializer.read_in.Tie as tie
 use Rattle.de.proofs.deserializer.read_in.Reads as reads
 use Rattle.de.proofs.deserializer.read_in.Lts as lts
-use Rattle.de.proofs.deserializer.finish.Reads as finish-reads
+use Rattle.steps.proofs.finish.Reads as finish-reads
 use Rattle.de.proofs.deserializer.value.Reads as value-reads
 use Rattle.resolvers.proofs.resolve_alias_in.Reads as resolve-alias-in-reads
 use Rattle.type_category.proofs.type_category.AdsTypeCategory.determine.Reads as determine-reads

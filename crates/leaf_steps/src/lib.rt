@@ -1,0 +1,98 @@
+// What a leaf puts on the tape: one record, one text, or a refusal.
+ghost use mathlib.Core.Path.{_≡_};
+ghost use mathlib.Core.Bool.{cond};
+ghost use Prim.Native.Nat.{_+_, _<_};
+ghost use lib.ListN.{take};
+ghost use Rattle.typebook.specs.Book.{fieldsOf, entriesOf};
+ghost use Rattle.type_category.specs.Category.{categoryOf};
+ghost use Rattle.leaves.specs.Leaf.{leafAt};
+ghost use Rattle.steps.specs.Trace.{From};
+ghost use Rattle.leaf_steps.specs.Leaves.{formOf, traceOf};
+use float::Real;
+use leaves::leaf::LeafValue;
+use steps::Step;
+use steps::put;
+use steps::put_text;
+use steps::stop;
+use type_category::type_category::AdsTypeCategory;
+
+// The first n bytes, or all where there are fewer.
+fn first(bytes: &[u8], n: usize) -> &[u8]
+    ensures { λ r. ⌜ now r ≡ take n (now (bytes .entry)) ⌝ }
+{
+    if n <= bytes.len() {
+        return &bytes[0..n];
+    }
+    bytes
+}
+
+fn bit(b: bool) -> u64
+    ensures { λ r. ⌜ r ≡ cond b 1 0 ⌝ }
+{
+    if b {
+        return 1;
+    }
+    0
+}
+
+// How a leaf's value goes on the tape: as one record (kind, width, A, B), as a text (wide or not, the number of its bytes), or not at all.
+pub enum LeafForm {
+    Record(u8, u8, u64, u64),
+    Text(bool, usize),
+    Refused(u8),
+}
+
+// The form of a leaf's value.
+fn form_of(value: LeafValue) -> LeafForm
+    ensures { λ r. ⌜ r ≡ formOf value ⌝ }
+{
+    match value {
+        LeafValue::Signed(w, b) => LeafForm::Record(7, w, 0, b),
+        LeafValue::Unsigned(w, n) => LeafForm::Record(8, w, 0, n),
+        LeafValue::Bool(b) => LeafForm::Record(6, 0, 0, bit(b)),
+        LeafValue::Single(x) => LeafForm::Record(9, 0, 0, Real::Single(x).bits()),
+        LeafValue::Double(x) => LeafForm::Record(10, 0, 0, Real::Double(x).bits()),
+        LeafValue::NanSingle(n) => LeafForm::Record(9, 0, 0, n as u64),
+        LeafValue::NanDouble(n) => LeafForm::Record(10, 0, 0, n),
+        LeafValue::Text(n) => LeafForm::Text(false, n),
+        LeafValue::WideText(n) => LeafForm::Text(true, n),
+        LeafValue::Entry(n) => LeafForm::Record(12, 0, n as u64, 0),
+        LeafValue::Unit => LeafForm::Record(13, 0, 0, 0),
+        LeafValue::Refused(k) => LeafForm::Refused(k),
+    }
+}
+
+// Writes what a leaf's bytes stand for, after a step.
+pub fn put_leaf(s: Step, value: LeafValue, bytes: &[u8], tape: &mut [u8], text: &mut [u8]) -> Step
+    ensures { λ r. ⌜ From (traceOf value (now (bytes .entry))) (now (tape .entry)) (now (text .entry)) s r (now (tape .exit)) (now (text .exit)) ⌝ }
+{
+    let form = form_of(value);
+    match form {
+        LeafForm::Record(kind, width, a, b) => put(s, tape, text, kind, width, a, b),
+        LeafForm::Text(wide, n) => put_text(s, wide, first(bytes, n), tape, text),
+        LeafForm::Refused(k) => stop(s, k, 0),
+    }
+}
+
+// The value of a type that is neither struct nor array.
+pub fn leaf(
+    s: Step,
+    book: &[u8],
+    width: u8,
+    t: u32,
+    category: AdsTypeCategory,
+    bytes: &[u8],
+    tape: &mut [u8],
+    text: &mut [u8],
+) -> Step
+    requires { ⌜ (t + fieldsOf (now book) t + entriesOf (now book) t < 65536) × (category ≡ categoryOf (now book) width t) ⌝ }
+    ensures { λ r. ⌜ From (traceOf (leafAt (now (book .entry)) width t (now (bytes .entry))) (now (bytes .entry))) (now (tape .entry)) (now (text .entry)) s r (now (tape .exit)) (now (text .exit)) ⌝ }
+{
+    put_leaf(
+        s,
+        leaves::leaf::leaf_by(book, width, t, category, bytes),
+        bytes,
+        tape,
+        text,
+    )
+}

@@ -1,0 +1,3 @@
+-- Laws that the functions' proofs cite; those on strides are for the reader too.
+mod Products
+pub mod Strides
