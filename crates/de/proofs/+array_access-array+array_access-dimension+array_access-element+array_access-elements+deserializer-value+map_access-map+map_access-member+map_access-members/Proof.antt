@@ -53,20 +53,6 @@ use Rattle.typebook.proofs.block.size.Reads as size-reads
 use Rattle.de.proofs.+array_access-array+array_access-dimension+array_access-element+array_access-elements+deserializer-value+map_access-map+map_access-member+map_access-members.{statement}
 use Rattle.de.proofs.+array_access-array+array_access-dimension+array_access-element+array_access-elements+deserializer-value+map_access-map+map_access-member+map_access-members.Tie.{close}
 
-ruleset value-exits = (value-deep, value-map, value-array, value-leaf)
-
-ruleset member-exits = (member-lacks, member-endless, member-over, member-value)
-
-ruleset map-exits = (map-odd, map-given, map-fine, map-lacks, map-endless)
-
-ruleset array-exits = (array-odd, array-lacks, array-endless, array-other, array-base)
-
-ruleset dimension-exits = (dimension-fine, dimension-lacks, dimension-endless)
-
-ruleset element-exits = (element-last, element-deep, element-further)
-
-ruleset asks = (needs, fills-first, fills-further, element-fills)
-
 abbrev μ-array-access·array : Measures 5 array-access·array-kinds.ps ℕ
 μ-array-access·array κs a =
     6 * a .1 .1 .1 .1 .1 .1 .0 + 4
@@ -261,7 +247,7 @@ array-access·array-stop-requires : (t : ℕ) → array-access·array-lts.Need-s
 array-access·array-stop-requires t c κs = search needs
 
 array-access·array-returns : (t : ℕ) → array-access·array-lts.Need-returns (array-access·array-calls t) (array-access·array-at t) array-access·array.Post
-array-access·array-returns t c = search array-exits
+array-access·array-returns t c = search array-odd
 
 array-access·array-look-up-in-requires : (t : ℕ) → array-access·array-lts.Need-look-up-in-requires (array-access·array-calls t) (array-access·array-at t) array-access·array.Post
 array-access·array-look-up-in-requires t c κs = search needs
@@ -285,7 +271,7 @@ array-access·array-same-length-2 : (t : ℕ) → array-access·array-lts.Need-s
 array-access·array-same-length-2 t c = search needs
 
 array-access·array-returns-2 : (t : ℕ) → array-access·array-lts.Need-returns-2 (array-access·array-calls t) (array-access·array-at t) array-access·array.Post
-array-access·array-returns-2 t c = search array-exits
+array-access·array-returns-2 t c = search array-base
 
 array-access·array-stop-requires-2 : (t : ℕ) → array-access·array-lts.Need-stop-requires-2 (array-access·array-calls t) (array-access·array-at t) array-access·array.Post
 array-access·array-stop-requires-2 t c κs = search needs
@@ -304,13 +290,13 @@ array-access·array-stop-requires-4 : (t : ℕ) → array-access·array-lts.Need
 array-access·array-stop-requires-4 t c κs = search needs
 
 array-access·array-returns-3 : (t : ℕ) → array-access·array-lts.Need-returns-3 (array-access·array-calls t) (array-access·array-at t) array-access·array.Post
-array-access·array-returns-3 t c = search array-exits
+array-access·array-returns-3 t c = search array-other
 
 array-access·array-returns-4 : (t : ℕ) → array-access·array-lts.Need-returns-4 (array-access·array-calls t) (array-access·array-at t) array-access·array.Post
-array-access·array-returns-4 t c = search array-exits
+array-access·array-returns-4 t c = search array-lacks
 
 array-access·array-returns-5 : (t : ℕ) → array-access·array-lts.Need-returns-5 (array-access·array-calls t) (array-access·array-at t) array-access·array.Post
-array-access·array-returns-5 t c = search array-exits
+array-access·array-returns-5 t c = search array-endless
 
 array-access·dimension-slice-aggregate-element-check :
     (t : ℕ) → array-access·dimension-lts.Need-slice-aggregate-element-check (array-access·dimension-calls t) (array-access·dimension-at t) array-access·dimension.Post
@@ -351,13 +337,13 @@ array-access·dimension-same-length-2 : (t : ℕ) → array-access·dimension-lt
 array-access·dimension-same-length-2 t c = search needs
 
 array-access·dimension-returns : (t : ℕ) → array-access·dimension-lts.Need-returns (array-access·dimension-calls t) (array-access·dimension-at t) array-access·dimension.Post
-array-access·dimension-returns t c = search dimension-exits
+array-access·dimension-returns t c = search dimension-fine
 
 array-access·dimension-returns-2 : (t : ℕ) → array-access·dimension-lts.Need-returns-2 (array-access·dimension-calls t) (array-access·dimension-at t) array-access·dimension.Post
-array-access·dimension-returns-2 t c = search dimension-exits
+array-access·dimension-returns-2 t c = search dimension-lacks
 
 array-access·dimension-returns-3 : (t : ℕ) → array-access·dimension-lts.Need-returns-3 (array-access·dimension-calls t) (array-access·dimension-at t) array-access·dimension.Post
-array-access·dimension-returns-3 t c = search dimension-exits
+array-access·dimension-returns-3 t c = search dimension-endless
 
 array-access·element-is-last-requires : (t : ℕ) → array-access·element-lts.Need-is-last-requires (array-access·element-calls t) (array-access·element-at t) array-access·element.Post
 array-access·element-is-last-requires t c κs = search needs
@@ -372,13 +358,13 @@ array-access·element-same-length-2 : (t : ℕ) → array-access·element-lts.Ne
 array-access·element-same-length-2 t c = search needs
 
 array-access·element-returns : (t : ℕ) → array-access·element-lts.Need-returns (array-access·element-calls t) (array-access·element-at t) array-access·element.Post
-array-access·element-returns t c = search element-exits
+array-access·element-returns t c = search element-last
 
 array-access·element-stop-requires : (t : ℕ) → array-access·element-lts.Need-stop-requires (array-access·element-calls t) (array-access·element-at t) array-access·element.Post
 array-access·element-stop-requires t c κs = search needs
 
 array-access·element-returns-2 : (t : ℕ) → array-access·element-lts.Need-returns-2 (array-access·element-calls t) (array-access·element-at t) array-access·element.Post
-array-access·element-returns-2 t c = search element-exits
+array-access·element-returns-2 t c = search element-deep
 
 array-access·element-add-dimension : (t : ℕ) → array-access·element-lts.Need-add-dimension (array-access·element-calls t) (array-access·element-at t) array-access·element.Post
 array-access·element-add-dimension t c = search next-dimension
@@ -388,7 +374,7 @@ array-access·element-sub-dimension t c = search needs
 
 array-access·element-dimension-requires :
     (t : ℕ) → array-access·element-lts.Need-dimension-requires (array-access·element-calls t) (array-access·element-at t) array-access·element.Post
-array-access·element-dimension-requires t c κs = search asks
+array-access·element-dimension-requires t c κs = (search needs, (search needs, search needs, search needs, search fills-further))
 
 array-access·element-same-length-3 : (t : ℕ) → array-access·element-lts.Need-same-length-3 (array-access·element-calls t) (array-access·element-at t) array-access·element.Post
 array-access·element-same-length-3 t c = search needs
@@ -397,7 +383,7 @@ array-access·element-same-length-4 : (t : ℕ) → array-access·element-lts.Ne
 array-access·element-same-length-4 t c = search needs
 
 array-access·element-returns-3 : (t : ℕ) → array-access·element-lts.Need-returns-3 (array-access·element-calls t) (array-access·element-at t) array-access·element.Post
-array-access·element-returns-3 t c = search element-exits
+array-access·element-returns-3 t c = search element-further
 
 abbrev array-access·elements-Inv-loop : array-access·elements-lts.InvT-loop
 array-access·elements-Inv-loop book index width d t e category plan bytes left tape₀ text₀ n here₀ stride from₀ i₀ tape text here from i =
@@ -452,7 +438,7 @@ array-access·elements-part-element-end : (t : ℕ) → array-access·elements-l
 array-access·elements-part-element-end t c = along-end _ _ _ _ _ _ _ _ _ (search needs) (c .before .before .before .loop .inv .1)
 
 array-access·elements-element-requires : (t : ℕ) → array-access·elements-lts.Need-element-requires (array-access·elements-calls t) (array-access·elements-at t) array-access·elements.Post array-access·elements-Inv-loop array-access·elements-μ-loop
-array-access·elements-element-requires t c κs = search asks
+array-access·elements-element-requires t c κs = (search needs, (search needs, search needs, search needs, search needs, search element-fills))
 
 array-access·elements-add-i : (t : ℕ) → array-access·elements-lts.Need-add-i (array-access·elements-calls t) (array-access·elements-at t) array-access·elements.Post array-access·elements-Inv-loop array-access·elements-μ-loop
 array-access·elements-add-i t c = search needs
@@ -479,7 +465,7 @@ deserializer·value-stop-requires : (t : ℕ) → deserializer·value-lts.Need-s
 deserializer·value-stop-requires t c κs = search needs
 
 deserializer·value-returns : (t : ℕ) → deserializer·value-lts.Need-returns (deserializer·value-calls t) (deserializer·value-at t) deserializer·value.Post
-deserializer·value-returns t c = search value-exits
+deserializer·value-returns t c = search value-deep
 
 deserializer·value-shape-of-requires : (t : ℕ) → deserializer·value-lts.Need-shape-of-requires (deserializer·value-calls t) (deserializer·value-at t) deserializer·value.Post
 deserializer·value-shape-of-requires t c κs = search needs
@@ -515,7 +501,7 @@ deserializer·value-same-length-2 : (t : ℕ) → deserializer·value-lts.Need-s
 deserializer·value-same-length-2 t c = search needs
 
 deserializer·value-returns-2 : (t : ℕ) → deserializer·value-lts.Need-returns-2 (deserializer·value-calls t) (deserializer·value-at t) deserializer·value.Post
-deserializer·value-returns-2 t c = search value-exits
+deserializer·value-returns-2 t c = search value-map
 
 deserializer·value-same-length-3 : (t : ℕ) → deserializer·value-lts.Need-same-length-3 (deserializer·value-calls t) (deserializer·value-at t) deserializer·value.Post
 deserializer·value-same-length-3 t c = search needs
@@ -524,7 +510,7 @@ deserializer·value-same-length-4 : (t : ℕ) → deserializer·value-lts.Need-s
 deserializer·value-same-length-4 t c = search needs
 
 deserializer·value-returns-3 : (t : ℕ) → deserializer·value-lts.Need-returns-3 (deserializer·value-calls t) (deserializer·value-at t) deserializer·value.Post
-deserializer·value-returns-3 t c = search value-exits
+deserializer·value-returns-3 t c = search value-array
 
 deserializer·value-same-length-5 : (t : ℕ) → deserializer·value-lts.Need-same-length-5 (deserializer·value-calls t) (deserializer·value-at t) deserializer·value.Post
 deserializer·value-same-length-5 t c = search needs
@@ -533,7 +519,7 @@ deserializer·value-same-length-6 : (t : ℕ) → deserializer·value-lts.Need-s
 deserializer·value-same-length-6 t c = search needs
 
 deserializer·value-returns-4 : (t : ℕ) → deserializer·value-lts.Need-returns-4 (deserializer·value-calls t) (deserializer·value-at t) deserializer·value.Post
-deserializer·value-returns-4 t c = search value-exits
+deserializer·value-returns-4 t c = search value-leaf
 
 map-access·map-size-requires : (t : ℕ) → map-access·map-lts.Need-size-requires (map-access·map-calls t) (map-access·map-at t) map-access·map.Post
 map-access·map-size-requires t c κs = search needs
@@ -545,7 +531,7 @@ map-access·map-stop-requires : (t : ℕ) → map-access·map-lts.Need-stop-requ
 map-access·map-stop-requires t c κs = search needs
 
 map-access·map-returns : (t : ℕ) → map-access·map-lts.Need-returns (map-access·map-calls t) (map-access·map-at t) map-access·map.Post
-map-access·map-returns t c = search map-exits
+map-access·map-returns t c = search map-odd
 
 map-access·map-members-requires : (t : ℕ) → map-access·map-lts.Need-members-requires (map-access·map-calls t) (map-access·map-at t) map-access·map.Post
 map-access·map-members-requires t c κs = search needs
@@ -557,7 +543,7 @@ map-access·map-same-length-2 : (t : ℕ) → map-access·map-lts.Need-same-leng
 map-access·map-same-length-2 t c = search needs
 
 map-access·map-returns-2 : (t : ℕ) → map-access·map-lts.Need-returns-2 (map-access·map-calls t) (map-access·map-at t) map-access·map.Post
-map-access·map-returns-2 t c = search map-exits
+map-access·map-returns-2 t c = search map-given
 
 map-access·map-slice-aggregate-plan-fields-in :
     (t : ℕ) → map-access·map-lts.Need-slice-aggregate-plan-fields-in (map-access·map-calls t) (map-access·map-at t) map-access·map.Post
@@ -594,13 +580,13 @@ map-access·map-same-length-4 : (t : ℕ) → map-access·map-lts.Need-same-leng
 map-access·map-same-length-4 t c = search needs
 
 map-access·map-returns-3 : (t : ℕ) → map-access·map-lts.Need-returns-3 (map-access·map-calls t) (map-access·map-at t) map-access·map.Post
-map-access·map-returns-3 t c = search map-exits
+map-access·map-returns-3 t c = search map-fine
 
 map-access·map-returns-4 : (t : ℕ) → map-access·map-lts.Need-returns-4 (map-access·map-calls t) (map-access·map-at t) map-access·map.Post
-map-access·map-returns-4 t c = search map-exits
+map-access·map-returns-4 t c = search map-lacks
 
 map-access·map-returns-5 : (t : ℕ) → map-access·map-lts.Need-returns-5 (map-access·map-calls t) (map-access·map-at t) map-access·map.Post
-map-access·map-returns-5 t c = search map-exits
+map-access·map-returns-5 t c = search map-endless
 
 map-access·member-put-requires : (t : ℕ) → map-access·member-lts.Need-put-requires (map-access·member-calls t) (map-access·member-at t) map-access·member.Post
 map-access·member-put-requires t c κs = search needs
@@ -631,7 +617,7 @@ map-access·member-same-length-2 : (t : ℕ) → map-access·member-lts.Need-sam
 map-access·member-same-length-2 t c = search needs
 
 map-access·member-returns : (t : ℕ) → map-access·member-lts.Need-returns (map-access·member-calls t) (map-access·member-at t) map-access·member.Post
-map-access·member-returns t c = search member-exits
+map-access·member-returns t c = search member-over
 
 map-access·member-sub-value : (t : ℕ) → map-access·member-lts.Need-sub-value (map-access·member-calls t) (map-access·member-at t) map-access·member.Post
 map-access·member-sub-value t c = search needs
@@ -673,7 +659,7 @@ map-access·member-same-length-4 : (t : ℕ) → map-access·member-lts.Need-sam
 map-access·member-same-length-4 t c = search needs
 
 map-access·member-returns-2 : (t : ℕ) → map-access·member-lts.Need-returns-2 (map-access·member-calls t) (map-access·member-at t) map-access·member.Post
-map-access·member-returns-2 t c = search member-exits
+map-access·member-returns-2 t c = search member-value
 
 map-access·member-same-length-5 : (t : ℕ) → map-access·member-lts.Need-same-length-5 (map-access·member-calls t) (map-access·member-at t) map-access·member.Post
 map-access·member-same-length-5 t c = search needs
@@ -682,7 +668,7 @@ map-access·member-same-length-6 : (t : ℕ) → map-access·member-lts.Need-sam
 map-access·member-same-length-6 t c = search needs
 
 map-access·member-returns-3 : (t : ℕ) → map-access·member-lts.Need-returns-3 (map-access·member-calls t) (map-access·member-at t) map-access·member.Post
-map-access·member-returns-3 t c = search member-exits
+map-access·member-returns-3 t c = search member-lacks
 
 map-access·member-same-length-7 : (t : ℕ) → map-access·member-lts.Need-same-length-7 (map-access·member-calls t) (map-access·member-at t) map-access·member.Post
 map-access·member-same-length-7 t c = search needs
@@ -691,7 +677,7 @@ map-access·member-same-length-8 : (t : ℕ) → map-access·member-lts.Need-sam
 map-access·member-same-length-8 t c = search needs
 
 map-access·member-returns-4 : (t : ℕ) → map-access·member-lts.Need-returns-4 (map-access·member-calls t) (map-access·member-at t) map-access·member.Post
-map-access·member-returns-4 t c = search member-exits
+map-access·member-returns-4 t c = search member-endless
 
 abbrev map-access·members-Inv-loop : map-access·members-lts.InvT-loop
 map-access·members-Inv-loop book index width t plan bytes left tape₀ text₀ n here₀ i₀ tape text here i =

@@ -2,18 +2,12 @@ use borrow.Author.Needs.{needs}
 use mathlib.Core.Path.{_≡_}
 use Prim.Native.Nat.{ℕ, _+_, _*_, _-_, _≤_, _<_}
 use lib.ListN.{length}
-use Rattle.de.specs.Walk.{ctx, walk, membersFrom, elementsFrom, elementItem, strideOf}
+use Rattle.de.specs.Walk.{ctx, walk, membersFrom, elementsFrom, elementItem}
 use Rattle.steps.proofs.Runs.{Rest}
-use Rattle.de.proofs.Walks.{fills-first, fills-further}
-use Rattle.de.proofs.Exits.{value-deep, value-map, value-array, value-leaf, member-lacks, member-endless, member-over, member-value, members-start, members-again, members-end, members-stop, map-odd, map-fine, map-lacks, map-endless, array-odd, array-lacks, array-endless, array-other, array-base, dimension-fine, dimension-lacks, dimension-endless, Along, along-start, along-again, along-end, elements-start, elements-again, elements-end, elements-stop, element-last, element-deep, element-further, element-fills, field-number, field-first, along-fits, typed-base, typed-field, category-field, next-dimension, leaf-inside, map-ready, given-none, map-given, own-entries, own-elements, last-given}
+use Rattle.shape.proofs.Strides.{Along, along-start, along-again, along-end, along-fits, element-fills, next-dimension, fills-first, fills-further}
+use Rattle.shape.specs.Array.{strideOf}
+use Rattle.de.proofs.Exits.{value-deep, value-map, value-array, value-leaf, member-lacks, member-endless, member-over, member-value, members-start, members-again, members-end, members-stop, map-odd, map-fine, map-lacks, map-endless, array-odd, array-lacks, array-endless, array-other, array-base, dimension-fine, dimension-lacks, dimension-endless, elements-start, elements-again, elements-end, elements-stop, element-last, element-deep, element-further, field-number, field-first, typed-base, typed-field, category-field, leaf-inside, map-ready, given-none, map-given, own-entries, own-elements, last-given}
 use Rattle.field_plan.proofs.Plans.{entry-of}
-ruleset value-exits = (value-deep, value-map, value-array, value-leaf)
-ruleset member-exits = (member-lacks, member-endless, member-over, member-value)
-ruleset map-exits = (map-odd, map-given, map-fine, map-lacks, map-endless)
-ruleset array-exits = (array-odd, array-lacks, array-endless, array-other, array-base)
-ruleset dimension-exits = (dimension-fine, dimension-lacks, dimension-endless)
-ruleset element-exits = (element-last, element-deep, element-further)
-ruleset asks = (needs, fills-first, fills-further, element-fills)
 def μ-array-access·array => 6 * a .1 .1 .1 .1 .1 .1 .0 + 4
 def μ-array-access·dimension => 6 * a .1 .1 .1 .1 .1 .1 .1 .1 .1 .0 + 3
 def μ-array-access·element => 6 * a .1 .1 .1 .1 .1 .1 .1 .1 .1 .1 .0 + 1
@@ -28,9 +22,15 @@ def array-access·elements-Inv-loop => (i ≤ n) × Along book d t e n stride fr
 def array-access·elements-μ-loop => n - i
 deserializer·value-leaf-requires => (search leaf-inside, search needs)
 deserializer·value-map-requires => (search needs, (search needs, search needs, search map-ready))
-deserializer·value-returns.* => search value-exits
+deserializer·value-returns => search value-deep
+deserializer·value-returns-2 => search value-map
+deserializer·value-returns-3 => search value-array
+deserializer·value-returns-4 => search value-leaf
 map-access·member-value-requires => let p = c .before .before .before .before .before .before .before .before .before .before .before .before .before .before .before .before .before .before .before .before .before .before .before .pre in let q = c .before .before .before .before .before .before .before .before .before .before .planned-field .ensures in let g = c .before .before .before .before .before .before .before .before .found .given in (search needs, (search needs, typed-field q (g .1), category-field q (g .1), search given-none))
-map-access·member-returns.* => search member-exits
+map-access·member-returns => search member-over
+map-access·member-returns-2 => search member-value
+map-access·member-returns-3 => search member-lacks
+map-access·member-returns-4 => search member-endless
 map-access·members-returns => search members-stop
 map-access·members-returns-2 => search members-end
 map-access·members-loop-holds => (search needs, search needs, search needs, search members-start)
@@ -39,20 +39,32 @@ map-access·members-add-member => search field-first
 map-access·members-add-member-2 => search field-number
 map-access·members-member-requires => (search needs, (search needs, search entry-of))
 map-access·map-members-requires-2 => (search needs, (search needs, search needs, own-entries _ _ _ _ _ (c .before .before .before .before .before .before .plan-fields-in .ensures) (search needs)))
-map-access·map-returns.* => search map-exits
-array-access·array-returns.* => search array-exits
+map-access·map-returns => search map-odd
+map-access·map-returns-2 => search map-given
+map-access·map-returns-3 => search map-fine
+map-access·map-returns-4 => search map-lacks
+map-access·map-returns-5 => search map-endless
+array-access·array-returns => search array-odd
+array-access·array-returns-2 => search array-base
+array-access·array-returns-3 => search array-other
+array-access·array-returns-4 => search array-lacks
+array-access·array-returns-5 => search array-endless
 array-access·array-dimension-requires => (search needs, (search needs, search typed-base, search needs, search fills-first))
 array-access·dimension-elements-requires => (search needs, (search needs, search needs, search needs, own-elements _ _ _ _ _ _ (c .before .before .before .before .before .before .element-check .ensures) (search needs), search needs))
 array-access·element-value-requires => (search needs, (search needs, search needs, search needs, search last-given))
-array-access·dimension-returns.* => search dimension-exits
+array-access·dimension-returns => search dimension-fine
+array-access·dimension-returns-2 => search dimension-lacks
+array-access·dimension-returns-3 => search dimension-endless
 array-access·element-add-dimension => search next-dimension
-array-access·element-returns.* => search element-exits
-array-access·element-dimension-requires => search asks
+array-access·element-returns => search element-last
+array-access·element-returns-2 => search element-deep
+array-access·element-returns-3 => search element-further
+array-access·element-dimension-requires => (search needs, (search needs, search needs, search needs, search fills-further))
 array-access·elements-returns => search elements-stop
 array-access·elements-returns-2 => search elements-end
 array-access·elements-loop-holds => (search needs, search along-start, search needs, search needs, search elements-start)
 array-access·elements-loop-again => (search needs, search along-again, search needs, search needs, search elements-again)
 array-access·elements-add-to => along-fits _ _ _ _ _ _ _ _ _ (search needs) (c .before .before .before .loop .inv .1) (search needs)
 array-access·elements-part-element-end => along-end _ _ _ _ _ _ _ _ _ (search needs) (c .before .before .before .loop .inv .1)
-array-access·elements-element-requires => search asks
+array-access·elements-element-requires => (search needs, (search needs, search needs, search needs, search needs, search element-fills))
 .* => search needs

@@ -1,4 +1,4 @@
-use Rattle.de.proofs.Products.{times-none, times-more, times-fits, times-is}
+use Rattle.shape.proofs.Products.{times-none, times-more, times-fits, times-is}
 returns => search times-none
 returns-2 => search times-more
 mul-result => record { fits = omega (arith, times-fits (c .before .before .before .args .p) (c .before .before .before .args .b) (search needs) (search needs)) }

@@ -1,7 +1,7 @@
 use borrow.Author.Needs.{needs}
 use Prim.Native.Nat.{_≤_, _-_, _<_}
 use Rattle.typebook.specs.Book.{dimensionsOf}
-use Rattle.de.proofs.Products.{Multiplied, multiplied-start, multiplied-again, multiplied-small, multiplied-end}
+use Rattle.shape.proofs.Products.{Multiplied, multiplied-start, multiplied-again, multiplied-small, multiplied-end}
 def Inv-loop => (0 < d) × Multiplied book t e d (dims - d) p
 def μ-loop => dims - d
 times-requires-2 => search multiplied-small

@@ -1,2 +1,0 @@
-use Rattle.de.proofs.Puts.{leaf-at}
-returns => search leaf-at

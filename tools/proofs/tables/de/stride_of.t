@@ -1,2 +1,0 @@
-use Rattle.de.proofs.Products.{stride-is}
-returns-2 => search stride-is

@@ -1,0 +1,2 @@
+use Rattle.leaf_steps.proofs.Leaves.{leaf-at}
+returns => search leaf-at

@@ -1,0 +1,2 @@
+use Rattle.shape.proofs.Products.{stride-is}
+returns-2 => search stride-is
