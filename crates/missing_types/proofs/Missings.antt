@@ -22,6 +22,7 @@ use Rattle.walks.specs.Reached.{Reached, Needed, reached, chain}
 use Rattle.walks.proofs.Goes.{Goes, none, old, fresh, stop, goes}
 use Rattle.walks.proofs.Reach.{whole-rest, met-is-reached, reached-met, reached-found}
 use Rattle.missing_types.specs.Calls.{missingRefusal, missingAnswer}
+use Rattle.missing_types.specs.Needs.{Lacking, Listing, Defined}
 
 different : {X : Type 0} → _≡_ {A = ℕ} 0 1 → X
 different z = absurd (omega arith)
@@ -63,11 +64,6 @@ module _ (book : List ℕ) (width : ℕ) where
           chain n f g (ap (typeNameOf book) (sym o))
 
 -- ---- what is listed
-
--- the book lacks the type name of block c, and that name is needed
-pub record Lacking (book : List ℕ) (width : ℕ) (root : List ℕ) (c : ℕ) : Type 0 where
-  pub nothing : find book (typeNameOf book c) ≡ Nothing
-  pub needed : Needed book width root (typeNameOf book c)
 
 listed-cases : (c b : ℕ) (x : List ℕ) (f : Resolved) (w : Walk) {X : Type 0} → List·Memᴰ c (listed (met b x f w)) → (f ≡ Lacks c → X) → (List·Memᴰ c (listed w) → X) → X
 unfolding listed
@@ -145,21 +141,10 @@ module _ (book : List ℕ) (width root : ℕ) (h : whole (walkOf book width root
       let o : q .at ≡ t = let p : At (q .at) ≡ At t = sym (q .found) ∙ f in cc in
       rw e (next-ends book width t g (q .looks) (q .to) (rw (← o) (q .ends)))
 
-  -- the name is found
-  pub record Defined (x : List ℕ) : Type 0 where
-    pub at : ℕ
-    pub found : find book x ≡ At at
-
-  pub needed-found : (x : List ℕ) → Needed book width (nameOf book root) x → Defined x
+  pub needed-found : (x : List ℕ) → Needed book width (nameOf book root) x → Defined book x
   needed-found x n = let q = needed-ends n in record { at = q .at; found = q .found }
 
 -- ---- where the walk is whole, each reached name that comes to nothing is listed
-
--- a listed block names x
-pub record Listing (book ls x : List ℕ) : Type 0 where
-  pub block : ℕ
-  pub member : List·Memᴰ block ls
-  pub names-it : typeNameOf book block ≡ x
 
 module _ (book : List ℕ) (width : ℕ) where
   rest-listing : (b : ℕ) (y : List ℕ) (f : Resolved) (w : Walk) (x : List ℕ) → Listing book (listed w) x → Listing book (listed (met b y f w)) x
