@@ -20,6 +20,8 @@ use shape::shape_of;
 use steps::Step;
 use steps::put;
 use steps::stop;
+use tape::record::ARRAY;
+use tape::record::ARRAY_END;
 use type_category::type_category::AdsTypeCategory;
 
 // Array t, after its element's type was looked up.
@@ -154,7 +156,7 @@ pub(crate) fn elements(
     ensures { λ r. ⌜ From (elementsOf (walk (ctx (now (book .entry)) width) left) (ctx (now (book .entry)) width) d t e (now (bytes .entry))) (now (tape .entry)) (now (text .entry)) s r (now (tape .exit)) (now (text .exit)) ⌝ }
 {
     let n = typebook::block::count(book, t, d) as usize;
-    let mut here = put(s, tape, text, 1, 0, n as u64, 0);
+    let mut here = put(s, tape, text, ARRAY, 0, n as u64, 0);
     let stride = stride_of(n, bytes.len());
     let mut from: usize = 0;
     let mut i: usize = 0;
@@ -181,7 +183,7 @@ pub(crate) fn elements(
         from = to;
         i += 1;
     }
-    put(here, tape, text, 2, 0, 0, 0)
+    put(here, tape, text, ARRAY_END, 0, 0, 0)
 }
 
 // What one index of dimension d holds: an element, or the next dimension one level deeper.

@@ -13,6 +13,9 @@ use field_types::FieldsCheck;
 use steps::Step;
 use steps::put;
 use steps::stop;
+use tape::record::KEY;
+use tape::record::MAP;
+use tape::record::MAP_END;
 
 // The fields of type block t, after all of them were resolved once: by whoever gave a plan, or here.
 pub(crate) fn map(
@@ -62,7 +65,7 @@ pub(crate) fn members(
     ensures { λ r. ⌜ From (membersOf (walk (ctx (now (book .entry)) width) left) (ctx (now (book .entry)) width) t (now (bytes .entry))) (now (tape .entry)) (now (text .entry)) s r (now (tape .exit)) (now (text .exit)) ⌝ }
 {
     let n = typebook::block::fields(book, t);
-    let mut here = put(s, tape, text, 3, 0, n as u64, 0);
+    let mut here = put(s, tape, text, MAP, 0, n as u64, 0);
     let mut i: u32 = 0;
     while i < n {
         let Step::Next(_, _) = here else {
@@ -83,7 +86,7 @@ pub(crate) fn members(
         );
         i += 1;
     }
-    put(here, tape, text, 5, 0, 0, 0)
+    put(here, tape, text, MAP_END, 0, 0, 0)
 }
 
 // Field block f, by its entry of a plan: its key, then its value.
@@ -102,7 +105,7 @@ pub(crate) fn member(
     requires { ⌜ ValidBook (now book) × PlanEntry (now book) width f entry ⌝ }
     ensures { λ r. ⌜ From (memberOf (walk (ctx (now (book .entry)) width) left) (ctx (now (book .entry)) width) (now (bytes .entry)) f) (now (tape .entry)) (now (text .entry)) s r (now (tape .exit)) (now (text .exit)) ⌝ }
 {
-    let key = put(s, tape, text, 4, 0, f as u64, 0);
+    let key = put(s, tape, text, KEY, 0, f as u64, 0);
     let found = field_plan::planned_field(book, index, width, f, entry);
     match found {
         Planned::Field(x) => {

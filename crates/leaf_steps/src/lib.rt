@@ -14,6 +14,13 @@ use steps::Step;
 use steps::put;
 use steps::put_text;
 use steps::stop;
+use tape::record::BOOL;
+use tape::record::ENUM;
+use tape::record::REAL32;
+use tape::record::REAL64;
+use tape::record::SIGNED;
+use tape::record::UNIT;
+use tape::record::UNSIGNED;
 use type_category::type_category::AdsTypeCategory;
 
 // The first n bytes, or all where there are fewer.
@@ -47,17 +54,17 @@ fn form_of(value: LeafValue) -> LeafForm
     ensures { λ r. ⌜ r ≡ formOf value ⌝ }
 {
     match value {
-        LeafValue::Signed(w, b) => LeafForm::Record(7, w, 0, b),
-        LeafValue::Unsigned(w, n) => LeafForm::Record(8, w, 0, n),
-        LeafValue::Bool(b) => LeafForm::Record(6, 0, 0, bit(b)),
-        LeafValue::Single(x) => LeafForm::Record(9, 0, 0, Real::Single(x).bits()),
-        LeafValue::Double(x) => LeafForm::Record(10, 0, 0, Real::Double(x).bits()),
-        LeafValue::NanSingle(n) => LeafForm::Record(9, 0, 0, n as u64),
-        LeafValue::NanDouble(n) => LeafForm::Record(10, 0, 0, n),
+        LeafValue::Signed(w, b) => LeafForm::Record(SIGNED, w, 0, b),
+        LeafValue::Unsigned(w, n) => LeafForm::Record(UNSIGNED, w, 0, n),
+        LeafValue::Bool(b) => LeafForm::Record(BOOL, 0, 0, bit(b)),
+        LeafValue::Single(x) => LeafForm::Record(REAL32, 0, 0, Real::Single(x).bits()),
+        LeafValue::Double(x) => LeafForm::Record(REAL64, 0, 0, Real::Double(x).bits()),
+        LeafValue::NanSingle(n) => LeafForm::Record(REAL32, 0, 0, n as u64),
+        LeafValue::NanDouble(n) => LeafForm::Record(REAL64, 0, 0, n),
         LeafValue::Text(n) => LeafForm::Text(false, n),
         LeafValue::WideText(n) => LeafForm::Text(true, n),
-        LeafValue::Entry(n) => LeafForm::Record(12, 0, n as u64, 0),
-        LeafValue::Unit => LeafForm::Record(13, 0, 0, 0),
+        LeafValue::Entry(n) => LeafForm::Record(ENUM, 0, n as u64, 0),
+        LeafValue::Unit => LeafForm::Record(UNIT, 0, 0, 0),
         LeafValue::Refused(k) => LeafForm::Refused(k),
     }
 }

@@ -7,7 +7,20 @@ use figures::hexadecimal::put_hex;
 use figures::hexadecimal::put_hex_text;
 use figures::put::put_byte;
 use figures::put::put_bytes;
+use tape::record::ARRAY;
+use tape::record::ARRAY_END;
+use tape::record::BOOL;
+use tape::record::ENUM;
+use tape::record::KEY;
+use tape::record::MAP;
+use tape::record::MAP_END;
+use tape::record::REAL32;
+use tape::record::REAL64;
 use tape::record::Record;
+use tape::record::SIGNED;
+use tape::record::TEXT;
+use tape::record::UNIT;
+use tape::record::UNSIGNED;
 use tape::text::record_text;
 use utf_8::Put;
 
@@ -83,11 +96,11 @@ fn number_line(p: Put, r: Record, out: &mut [u8]) -> Put
 {
     let kind = r.kind;
     match kind {
-        6 => counted(p, b"bool ", r.b, out),
-        7 => int_line(p, r.width, r.b, out),
-        8 => nat_line(p, r.width, r.b, out),
-        9 => real_line(p, b"real 4 ", 8, r.b, out),
-        10 => real_line(p, b"real 8 ", 16, r.b, out),
+        BOOL => counted(p, b"bool ", r.b, out),
+        SIGNED => int_line(p, r.width, r.b, out),
+        UNSIGNED => nat_line(p, r.width, r.b, out),
+        REAL32 => real_line(p, b"real 4 ", 8, r.b, out),
+        REAL64 => real_line(p, b"real 8 ", 16, r.b, out),
         _ => p,
     }
 }
@@ -98,14 +111,14 @@ pub fn line<'a>(p: Put, book: &'a [u8], text: &'a [u8], r: Record, out: &mut [u8
 {
     let kind = r.kind;
     match kind {
-        1 => counted(p, b"array ", r.a, out),
-        2 => put_bytes(p, b"end\n", out),
-        3 => counted(p, b"map ", r.a, out),
-        4 => named(p, b"key ", record_text(book, text, r), out),
-        5 => put_bytes(p, b"end\n", out),
-        11 => text_line(p, record_text(book, text, r), out),
-        12 => named(p, b"enum ", record_text(book, text, r), out),
-        13 => put_bytes(p, b"unit\n", out),
+        ARRAY => counted(p, b"array ", r.a, out),
+        ARRAY_END => put_bytes(p, b"end\n", out),
+        MAP => counted(p, b"map ", r.a, out),
+        KEY => named(p, b"key ", record_text(book, text, r), out),
+        MAP_END => put_bytes(p, b"end\n", out),
+        TEXT => text_line(p, record_text(book, text, r), out),
+        ENUM => named(p, b"enum ", record_text(book, text, r), out),
+        UNIT => put_bytes(p, b"unit\n", out),
         _ => number_line(p, r, out),
     }
 }

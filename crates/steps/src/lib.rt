@@ -6,7 +6,9 @@ ghost use Rattle.utf_8.specs.Buffer.{Wrote};
 ghost use Rattle.steps.specs.Answer.{refusalOf, Finished};
 ghost use Rattle.steps.specs.Text.{decodedBy};
 ghost use Rattle.steps.specs.Trace.{From, Halts, one, rec, text as textEvent, bytesOf};
+use tape::record::LENGTH;
 use tape::record::Record;
+use tape::record::TEXT;
 use utf_8::Put;
 
 pub enum Step {
@@ -90,7 +92,7 @@ fn text_record(tape: &mut [u8], at: usize, from: usize, to: usize) -> Put
         tape,
         at,
         Record {
-            kind: 11,
+            kind: TEXT,
             width: 0,
             a: from as u64,
             b: (to - from) as u64,
@@ -124,7 +126,7 @@ pub fn finish(s: Step, tape: &mut [u8], text: &mut [u8]) -> ReadAnswer
     ensures { λ r. ⌜ Finished s (now (tape .entry)) (now (text .entry)) r (now (tape .exit)) (now (text .exit)) ⌝ }
 {
     match s {
-        Step::Next(n, m) => ReadAnswer::Done(n / 24, m),
+        Step::Next(n, m) => ReadAnswer::Done(n / LENGTH, m),
         Step::Stop(k, b) => {
             clear(tape);
             clear(text);
