@@ -24,7 +24,8 @@ use tape::record::ARRAY;
 use tape::record::ARRAY_END;
 use type_category::type_category::AdsTypeCategory;
 
-// Array t, after its element's type was looked up.
+// Array t: its size is held against the bytes, its element's type looked up, and the product of size and counts tested, before its first
+// dimension.
 pub(crate) fn array(
     s: Step,
     book: &[u8],

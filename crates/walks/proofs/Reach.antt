@@ -115,7 +115,7 @@ met-once book width root =
     let g = goes book width 4095 (name ∷ []) (push book width (comesTo book width root (find book name)) []) in
     more (λ m. apart book width g _ m (has-self name [])) (distinct book width g)
 
--- a chain that is too long ends a whole walk
+-- the rest of a whole walk is whole
 pub whole-rest : (b : ℕ) (x : List ℕ) (f : Resolved) (w : Walk) → whole (met b x f w) ≡ true → whole w ≡ true
 unfolding whole
 whole-rest b x (Base u) w h = h
