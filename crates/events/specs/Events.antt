@@ -1,5 +1,5 @@
--- What the event of a new name tells of the scratch and of the type that the name comes to. No contract of a public function of `walks`
--- cites this. Assumes nothing.
+-- What the event of a new name tells of the scratch and of the type that the name comes to. No call of document 01
+-- names this in its contract. Assumes nothing.
 use mathlib.Core.Path.{_≡_}
 use mathlib.Core.Bool.{true, false, _||_}
 use mathlib.Core.List.{List, _++_}

@@ -1,2 +1,2 @@
-// The category of a type in the book, and the tests that validators.rs makes on a type.
+// The category of a type in the book.
 pub mod type_category;

@@ -1,5 +1,5 @@
 -- How a walk's stack and its visited blocks stand in numbers: the stack in scratch 0 to 4,095, a bit for each block visited in 4,096 to
--- 6,143; and what is done to them. No contract of a public function of `walks` cites this. Assumes nothing.
+-- 6,143; and what is done to them. No call of document 01 names this in its contract. Assumes nothing.
 use mathlib.Core.Path.{_≡_}
 use mathlib.Core.Bool.{Bool, false, _||_, _&&_, not}
 use mathlib.Core.List.{List, [], _∷_, _++_}
