@@ -48,21 +48,8 @@ fn fill(out: &mut [u8]) {
     }
 }
 
-// Runs a case's operation on a filled buffer and compares the answer with the recorded one.
-fn same_answer(
-    case: &[u8],
-    recorded: &[u8],
-    book: &mut [u8],
-    len: usize,
-    out: &mut [u8],
-    answer: &mut [u8],
-) -> bool {
-    fill(out);
-    let n = operation::run(byte_at(case, 0), from(case, HEAD), book, len, out, answer);
-    check::same(recorded, first(answer, n))
-}
-
-// The same with a buffer of the length that the case asks for.
+// Runs a case's operation on a filled buffer of the length that the case asks for, and compares the answer with the recorded
+// one.
 fn agrees(
     case: &[u8],
     recorded: &[u8],
@@ -73,7 +60,10 @@ fn agrees(
 ) -> bool {
     let room = u16_at(case, 1);
     if room <= work.len() {
-        return same_answer(case, recorded, book, len, &mut work[0..room], answer);
+        let out = &mut work[0..room];
+        fill(out);
+        let n = operation::run(byte_at(case, 0), from(case, HEAD), book, len, out, answer);
+        return check::same(recorded, first(answer, n));
     }
     false
 }
@@ -106,11 +96,14 @@ fn run_case(
     tally: Tally,
 ) -> Tally {
     let len = tally.book;
-    if agrees(case, recorded, book, len, work, answer) {
-        return tally.agreed(operation::book_after(byte_at(case, 0), len, answer));
+    let differs = !agrees(case, recorded, book, len, work, answer);
+    if differs {
+        report::difference(case, recorded, tally);
     }
-    report::difference(case, recorded, tally);
-    tally.differed(operation::book_after(byte_at(case, 0), len, answer))
+    tally.after(
+        differs,
+        operation::book_after(byte_at(case, 0), len, answer),
+    )
 }
 
 // All the cases of a page.

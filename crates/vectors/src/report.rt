@@ -27,18 +27,18 @@ impl Tally {
         }
     }
 
-    pub(crate) fn agreed(self, book: usize) -> Tally {
+    // After one more case, which differs or not, and leaves a book of this length.
+    pub(crate) fn after(self, differs: bool, book: usize) -> Tally {
+        if differs {
+            return Tally {
+                cases: one_more(self.cases),
+                differences: one_more(self.differences),
+                book,
+            };
+        }
         Tally {
             cases: one_more(self.cases),
             differences: self.differences,
-            book,
-        }
-    }
-
-    pub(crate) fn differed(self, book: usize) -> Tally {
-        Tally {
-            cases: one_more(self.cases),
-            differences: one_more(self.differences),
             book,
         }
     }
@@ -56,27 +56,31 @@ fn hex(bytes: &[u8]) {
     }
 }
 
+fn number(label: &[u8], n: u64) {
+    io::write_all(STDOUT_FILENO, label);
+    io::print_decimal(STDOUT_FILENO, n);
+}
+
+fn part(label: &[u8], bytes: &[u8]) {
+    io::write_all(STDOUT_FILENO, label);
+    hex(first(bytes, 64));
+}
+
 // Writes a file's first difference: the case's number, its operation, its input and what is recorded.
 pub(crate) fn difference(case: &[u8], recorded: &[u8], tally: Tally) {
     if tally.differences > 0 {
         return;
     }
-    io::write_all(STDOUT_FILENO, b"first difference: case ");
-    io::print_decimal(STDOUT_FILENO, tally.cases);
-    io::write_all(STDOUT_FILENO, b" operation ");
-    io::print_decimal(STDOUT_FILENO, byte_at(case, 0) as u64);
-    io::write_all(STDOUT_FILENO, b" input ");
-    hex(first(from(case, 5), 64));
-    io::write_all(STDOUT_FILENO, b" recorded ");
-    hex(first(recorded, 64));
+    number(b"first difference: case ", tally.cases);
+    number(b" operation ", byte_at(case, 0) as u64);
+    part(b" input ", from(case, 5));
+    part(b" recorded ", recorded);
     io::write_all(STDOUT_FILENO, b"\n");
 }
 
 pub(crate) fn total(name: &[u8], tally: Tally) {
     io::write_all(STDOUT_FILENO, name);
-    io::write_all(STDOUT_FILENO, b" cases ");
-    io::print_decimal(STDOUT_FILENO, tally.cases);
-    io::write_all(STDOUT_FILENO, b" differences ");
-    io::print_decimal(STDOUT_FILENO, tally.differences);
+    number(b" cases ", tally.cases);
+    number(b" differences ", tally.differences);
     io::write_all(STDOUT_FILENO, b"\n");
 }

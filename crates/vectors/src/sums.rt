@@ -1,6 +1,6 @@
 // The sum that ends each block of a book.
 ghost use Prim.Native.Nat.{_<_};
-use crate::answer::put_u32;
+use crate::answer::put_number;
 use crate::input::first;
 use crate::input::from;
 
@@ -27,5 +27,5 @@ fn sum_of(part: &[u8]) -> u64 {
 pub(crate) fn put_sum(book: &mut [u8], block: u32) -> usize {
     let at = block as usize;
     let sum = sum_of(first(from(book, at), SUM));
-    put_u32(book, at + SUM, (sum % 4294967296) as u32)
+    put_number(book, at + SUM, sum, 4)
 }
