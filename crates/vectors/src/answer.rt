@@ -1,6 +1,6 @@
 // What an operation answers, as bytes at the start of a buffer. Each `put` function writes at a place and returns the next.
 // What does not fit is left out, and the answer then differs from the recorded one.
-use crate::input::first;
+use case_file::input::first;
 
 // At most two numbers, each in as many bytes as its length says, low byte first.
 pub struct Reply {

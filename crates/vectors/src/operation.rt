@@ -4,10 +4,10 @@ use crate::answer::Reply;
 use crate::answer::put_bytes;
 use crate::books;
 use crate::encodings;
-use crate::input::u32_at;
 use crate::numbers;
 use crate::reads;
 use crate::resolving;
+use case_file::input::u32_at;
 
 // The operation that answers with as many numbers as its text has code points.
 const ITEMS: u8 = 14;

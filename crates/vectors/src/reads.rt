@@ -4,15 +4,15 @@ use crate::answer::byte;
 use crate::answer::byte_and;
 use crate::answer::not_found;
 use crate::answer::put;
-use crate::input::byte_at;
-use crate::input::first;
-use crate::input::from;
-use crate::input::u16_at;
-use crate::input::u32_at;
 use crate::lent;
 use crate::lent::FILL;
 use crate::lent::put_bytes_are;
 use crate::packing::put_packed;
+use case_file::input::byte_at;
+use case_file::input::first;
+use case_file::input::from;
+use case_file::input::u16_at;
+use case_file::input::u32_at;
 use steps::ReadAnswer;
 
 // The bytes of n records, of which a tape has at most 2,730.
