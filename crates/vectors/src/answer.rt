@@ -1,5 +1,50 @@
-// What an operation answers, as bytes at the start of a buffer. Each function writes at a place and returns the next.
+// What an operation answers, as bytes at the start of a buffer. Each `put` function writes at a place and returns the next.
 // What does not fit is left out, and the answer then differs from the recorded one.
+use case_file::input::first;
+
+// At most two numbers, each in as many bytes as its length says, low byte first.
+pub struct Reply {
+    pub head: u64,
+    pub head_len: usize,
+    pub value: u64,
+    pub value_len: usize,
+}
+
+// A number alone, of no bytes where there is nothing to say.
+pub(crate) fn number(value: u64, len: usize) -> Reply {
+    Reply {
+        head: 0,
+        head_len: 0,
+        value,
+        value_len: len,
+    }
+}
+
+// A byte alone.
+pub(crate) fn byte(head: u8) -> Reply {
+    number(head as u64, 1)
+}
+
+// A byte, and a number after it.
+pub(crate) fn byte_and(head: u8, value: u64, len: usize) -> Reply {
+    Reply {
+        head: head as u64,
+        head_len: 1,
+        value,
+        value_len: len,
+    }
+}
+
+// Document 01's 7, with the block whose type name is not in the book.
+pub(crate) fn not_found(block: u32) -> Reply {
+    byte_and(7, block as u64, 4)
+}
+
+// Puts the numbers at the start of the answer.
+pub(crate) fn put(answer: &mut [u8], reply: Reply) -> usize {
+    let at = put_number(answer, 0, reply.head, reply.head_len);
+    put_number(answer, at, reply.value, reply.value_len)
+}
 
 pub(crate) fn put_byte(answer: &mut [u8], at: usize, byte: u8) -> usize {
     if at < answer.len() {
@@ -29,27 +74,13 @@ pub(crate) fn put_zeros(answer: &mut [u8], at: usize, n: usize) -> usize {
     to
 }
 
-// A number's bytes, low byte first.
-pub(crate) fn put_u32(answer: &mut [u8], at: usize, value: u32) -> usize {
-    let mut bytes = [0u8; 4];
-    number::le::le_store(value as u64, &mut bytes);
-    put_bytes(answer, at, &bytes)
-}
-
-pub(crate) fn put_u64(answer: &mut [u8], at: usize, value: u64) -> usize {
+// The low bytes of a number, at most eight of them, low byte first.
+pub(crate) fn put_number(answer: &mut [u8], at: usize, value: u64, len: usize) -> usize {
     let mut bytes = [0u8; 8];
     number::le::le_store(value, &mut bytes);
-    put_bytes(answer, at, &bytes)
+    put_bytes(answer, at, first(&bytes, len))
 }
 
-// Zero and a number, for what succeeds with one.
-pub(crate) fn put_done(answer: &mut [u8], value: usize) -> usize {
-    let at = put_byte(answer, 0, 0);
-    put_u64(answer, at, value as u64)
-}
-
-// Document 01's 7, with the block whose type name is not in the book.
-pub(crate) fn put_not_found(answer: &mut [u8], block: u32) -> usize {
-    let at = put_byte(answer, 0, 7);
-    put_u32(answer, at, block)
+pub(crate) fn put_u32(answer: &mut [u8], at: usize, value: u32) -> usize {
+    put_number(answer, at, value as u64, 4)
 }

@@ -1,13 +1,14 @@
-// The operations of the crates utf_8, windows_1252 and utf_16. Each takes a case's input and a lent buffer `out`, and
-// puts what the port answers, and all of the buffer where the port was lent it, into `answer`.
-use crate::answer::put_byte;
-use crate::answer::put_bytes;
-use crate::answer::put_done;
-use crate::answer::put_u32;
-use crate::input::byte_at;
-use crate::input::from;
-use crate::input::u16_at;
-use crate::input::u32_at;
+// The operations of the crates utf_8, windows_1252 and utf_16, by their numbers. Each takes a case's input and a lent buffer
+// `out`, which stands in the answer after the reply.
+use crate::answer::Reply;
+use crate::answer::byte;
+use crate::answer::byte_and;
+use crate::answer::number;
+use crate::answer::put_number;
+use case_file::input::byte_at;
+use case_file::input::from;
+use case_file::input::u16_at;
+use case_file::input::u32_at;
 use utf_8::Char;
 use utf_8::Put;
 use utf_8::Room;
@@ -17,111 +18,65 @@ use windows_1252::Byte;
 // Document 01's number where a buffer is too short.
 const SHORT: u8 = 15;
 
-fn put_written(answer: &mut [u8], put: Put, out: &[u8]) -> usize {
+fn written(put: Put) -> Reply {
     match put {
-        Put::Next(n) => {
-            let at = put_done(answer, n);
-            put_bytes(answer, at, out)
-        }
-        Put::Full => {
-            let at = put_byte(answer, 0, SHORT);
-            put_bytes(answer, at, out)
-        }
+        Put::Next(n) => byte_and(0, n as u64, 8),
+        Put::Full => byte(SHORT),
     }
 }
 
-fn put_room(answer: &mut [u8], room: Room) -> usize {
+fn room(room: Room) -> Reply {
     match room {
-        Room::Fits(n) => put_done(answer, n),
-        Room::Over => put_byte(answer, 0, SHORT),
+        Room::Fits(n) => byte_and(0, n as u64, 8),
+        Room::Over => byte(SHORT),
     }
 }
 
-fn put_end(answer: &mut [u8], end: TextEnd) -> usize {
+fn end(end: TextEnd) -> Reply {
     match end {
-        TextEnd::Terminated(n) => {
-            let at = put_byte(answer, 0, 1);
-            put_u32(answer, at, (n % 65536) as u32)
-        }
-        TextEnd::Unterminated(n) => {
-            let at = put_byte(answer, 0, 0);
-            put_u32(answer, at, (n % 65536) as u32)
-        }
+        TextEnd::Terminated(n) => byte_and(1, n as u64, 4),
+        TextEnd::Unterminated(n) => byte_and(0, n as u64, 4),
     }
 }
 
-pub(crate) fn code_point(input: &[u8], answer: &mut [u8]) -> usize {
-    put_u32(answer, 0, windows_1252::code_point(byte_at(input, 0)))
-}
-
-pub(crate) fn byte_of(input: &[u8], answer: &mut [u8]) -> usize {
-    match windows_1252::byte_of(u32_at(input, 0)) {
-        Byte::Is(b) => {
-            let at = put_byte(answer, 0, 1);
-            put_byte(answer, at, b)
-        }
-        Byte::None => put_byte(answer, 0, 0),
+fn encoded(found: Byte) -> Reply {
+    match found {
+        Byte::Is(b) => byte_and(1, b as u64, 1),
+        Byte::None => byte(0),
     }
 }
 
-pub(crate) fn string_end(input: &[u8], answer: &mut [u8]) -> usize {
-    put_end(answer, windows_1252::string_end(input))
+pub(crate) fn run_windows_1252(operation: u8, input: &[u8], out: &mut [u8]) -> Reply {
+    match operation {
+        1 => number(windows_1252::code_point(byte_at(input, 0)) as u64, 4),
+        2 => encoded(windows_1252::byte_of(u32_at(input, 0))),
+        3 => end(windows_1252::string_end(input)),
+        4 => room(windows_1252_decoder::decoded_len(from(input, 2), u16_at(input, 0))),
+        5 => written(windows_1252_decoder::decode(from(input, 2), out, u16_at(input, 0))),
+        6 => room(windows_1252_encoder::encoded_len(from(input, 2), u16_at(input, 0))),
+        7 => written(windows_1252_encoder::encode(input, out)),
+        _ => number(0, 0),
+    }
 }
 
-pub(crate) fn windows_1252_decoded_len(input: &[u8], answer: &mut [u8]) -> usize {
-    put_room(
-        answer,
-        windows_1252_decoder::decoded_len(from(input, 2), u16_at(input, 0)),
-    )
+pub(crate) fn run_utf_16(operation: u8, input: &[u8], out: &mut [u8]) -> Reply {
+    match operation {
+        8 => end(utf_16::wstring_end(input)),
+        9 => room(utf_16_decoder::decoded_len(from(input, 2), u16_at(input, 0))),
+        10 => written(utf_16_decoder::decode(from(input, 2), out, u16_at(input, 0))),
+        11 => room(utf_16_encoder::encoded_len(from(input, 2), u16_at(input, 0))),
+        12 => written(utf_16_encoder::encode(input, out)),
+        _ => number(0, 0),
+    }
 }
 
-pub(crate) fn windows_1252_decode(input: &[u8], out: &mut [u8], answer: &mut [u8]) -> usize {
-    let put = windows_1252_decoder::decode(from(input, 2), out, u16_at(input, 0));
-    put_written(answer, put, out)
-}
-
-pub(crate) fn windows_1252_encoded_len(input: &[u8], answer: &mut [u8]) -> usize {
-    put_room(
-        answer,
-        windows_1252_encoder::encoded_len(from(input, 2), u16_at(input, 0)),
-    )
-}
-
-pub(crate) fn windows_1252_encode(input: &[u8], out: &mut [u8], answer: &mut [u8]) -> usize {
-    let put = windows_1252_encoder::encode(input, out);
-    put_written(answer, put, out)
-}
-
-pub(crate) fn wstring_end(input: &[u8], answer: &mut [u8]) -> usize {
-    put_end(answer, utf_16::wstring_end(input))
-}
-
-pub(crate) fn utf_16_decoded_len(input: &[u8], answer: &mut [u8]) -> usize {
-    put_room(
-        answer,
-        utf_16_decoder::decoded_len(from(input, 2), u16_at(input, 0)),
-    )
-}
-
-pub(crate) fn utf_16_decode(input: &[u8], out: &mut [u8], answer: &mut [u8]) -> usize {
-    let put = utf_16_decoder::decode(from(input, 2), out, u16_at(input, 0));
-    put_written(answer, put, out)
-}
-
-pub(crate) fn utf_16_encoded_len(input: &[u8], answer: &mut [u8]) -> usize {
-    put_room(
-        answer,
-        utf_16_encoder::encoded_len(from(input, 2), u16_at(input, 0)),
-    )
-}
-
-pub(crate) fn utf_16_encode(input: &[u8], out: &mut [u8], answer: &mut [u8]) -> usize {
-    let put = utf_16_encoder::encode(input, out);
-    put_written(answer, put, out)
-}
-
-pub(crate) fn well_formed(input: &[u8], answer: &mut [u8]) -> usize {
-    put_byte(answer, 0, utf_8_decoder::well_formed(input) as u8)
+pub(crate) fn run_utf_8(operation: u8, input: &[u8], out: &mut [u8]) -> Reply {
+    match operation {
+        13 => byte(utf_8_decoder::well_formed(input) as u8),
+        15 => written(utf_8_encoder::put(out, u16_at(input, 0), u32_at(input, 2))),
+        16 => number(utf_8_encoder::utf8_len(u32_at(input, 0)) as u64, 1),
+        _ => number(0, 0),
+    }
 }
 
 // Where the next code point of a text begins, and where its answer goes.
@@ -130,23 +85,20 @@ struct Place {
     to: usize,
 }
 
+// A code point, and the place after it.
+fn put_item(answer: &mut [u8], to: usize, code: u32, next: usize) -> Place {
+    let after = put_number(answer, to, code as u64, 4);
+    Place {
+        at: next,
+        to: put_number(answer, after, next as u64, 4),
+    }
+}
+
 // The code point at a place or FFFFFFFFh for an ill-formed part, with the place after it.
 fn item(text: &[u8], at: usize, answer: &mut [u8], to: usize) -> Place {
     match utf_8_decoder::next(text, at) {
-        Char::Code(code, next) => {
-            let after = put_u32(answer, to, code);
-            Place {
-                at: next,
-                to: put_u32(answer, after, (next % 65536) as u32),
-            }
-        }
-        Char::Error(next) => {
-            let after = put_u32(answer, to, 0xffff_ffff);
-            Place {
-                at: next,
-                to: put_u32(answer, after, (next % 65536) as u32),
-            }
-        }
+        Char::Code(code, next) => put_item(answer, to, code, next),
+        Char::Error(next) => put_item(answer, to, 0xffff_ffff, next),
         Char::End => Place { at, to },
     }
 }
@@ -164,17 +116,4 @@ pub(crate) fn items(text: &[u8], answer: &mut [u8]) -> usize {
         at = place.at;
     }
     to
-}
-
-pub(crate) fn put(input: &[u8], out: &mut [u8], answer: &mut [u8]) -> usize {
-    let put = utf_8_encoder::put(out, u16_at(input, 0), u32_at(input, 2));
-    put_written(answer, put, out)
-}
-
-pub(crate) fn utf8_len(input: &[u8], answer: &mut [u8]) -> usize {
-    put_byte(
-        answer,
-        0,
-        (utf_8_encoder::utf8_len(u32_at(input, 0)) % 256) as u8,
-    )
 }

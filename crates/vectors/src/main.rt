@@ -3,14 +3,12 @@
 mod answer;
 mod books;
 mod encodings;
-mod input;
 mod lent;
 mod numbers;
 mod operation;
 mod packing;
 mod reads;
 mod replay;
-mod report;
 mod resolving;
 mod sums;
 

@@ -1,12 +1,13 @@
-// The operations of the crate number: a case's input, a lent buffer `out`, and the answer.
-use crate::answer::put_byte;
-use crate::answer::put_bytes;
-use crate::answer::put_u32;
-use crate::answer::put_u64;
-use crate::input::byte_at;
-use crate::input::from;
-use crate::input::u32_at;
-use crate::input::u64_at;
+// The operations of the crates number, type_id, integer and float, by their numbers. Each takes a case's input and a lent
+// buffer `out`, which stands in the answer after the reply.
+use crate::answer::Reply;
+use crate::answer::byte;
+use crate::answer::byte_and;
+use crate::answer::number;
+use case_file::input::byte_at;
+use case_file::input::from;
+use case_file::input::u32_at;
+use case_file::input::u64_at;
 use float::Real;
 use float::RealRead;
 use float::RealWrite;
@@ -33,6 +34,20 @@ const SINGLE: u8 = 9;
 
 const DOUBLE: u8 = 10;
 
+pub(crate) fn run(operation: u8, input: &[u8], out: &mut [u8]) -> Reply {
+    match operation {
+        32 => type_id(u32_at(input, 0)),
+        33 => number(number::le::le_value(input), 8),
+        34 => number(number::le::le_u32(input) as u64, 4),
+        35 => le_store(input, out),
+        36 => integer_read(input),
+        37 => integer_write(input, out),
+        38 => real_read(input),
+        39 => real_write(input, out),
+        _ => number(0, 0),
+    }
+}
+
 // The place of an id in the list of ids, which tells the variants apart.
 fn ordinal(id: AdsTypeId) -> u8 {
     match id {
@@ -57,46 +72,39 @@ fn ordinal(id: AdsTypeId) -> u8 {
     }
 }
 
-pub(crate) fn type_id(input: &[u8], answer: &mut [u8]) -> usize {
-    let id = AdsTypeId::from_u32(u32_at(input, 0));
-    let at = put_byte(answer, 0, ordinal(id));
-    put_u32(answer, at, id.to_u32())
+fn type_id(n: u32) -> Reply {
+    let id = AdsTypeId::from_u32(n);
+    byte_and(ordinal(id), id.to_u32() as u64, 4)
 }
 
-pub(crate) fn le_value(input: &[u8], answer: &mut [u8]) -> usize {
-    put_u64(answer, 0, number::le::le_value(input))
-}
-
-pub(crate) fn le_u32(input: &[u8], answer: &mut [u8]) -> usize {
-    put_u32(answer, 0, number::le::le_u32(input))
-}
-
-pub(crate) fn le_store(input: &[u8], out: &mut [u8], answer: &mut [u8]) -> usize {
+fn le_store(input: &[u8], out: &mut [u8]) -> Reply {
     number::le::le_store(u64_at(input, 0), out);
-    put_bytes(answer, 0, out)
+    number(0, 0)
 }
 
 // Zero, the record's kind, its width and its bits.
-fn put_value(answer: &mut [u8], kind: u8, width: u8, bits: u64) -> usize {
-    let at = put_byte(answer, 0, 0);
-    let at = put_byte(answer, at, kind);
-    let at = put_byte(answer, at, width);
-    put_u64(answer, at, bits)
-}
-
-fn put_integer(answer: &mut [u8], value: Integer) -> usize {
-    match value {
-        Integer::Signed(width, bits) => put_value(answer, SIGNED, width, bits),
-        Integer::Unsigned(width, bits) => put_value(answer, UNSIGNED, width, bits),
+fn value(kind: u8, width: u8, bits: u64) -> Reply {
+    Reply {
+        head: 256 * (kind as u64) + 65536 * (width as u64),
+        head_len: 3,
+        value: bits,
+        value_len: 8,
     }
 }
 
-pub(crate) fn integer_read(input: &[u8], answer: &mut [u8]) -> usize {
+fn integer(read: Integer) -> Reply {
+    match read {
+        Integer::Signed(width, bits) => value(SIGNED, width, bits),
+        Integer::Unsigned(width, bits) => value(UNSIGNED, width, bits),
+    }
+}
+
+fn integer_read(input: &[u8]) -> Reply {
     let id = AdsTypeId::from_u32(u32_at(input, 0));
     match integer::try_from_le_slice(from(input, 4), id) {
-        IntegerRead::Value(value) => put_integer(answer, value),
-        IntegerRead::Size => put_byte(answer, 0, SIZE),
-        IntegerRead::Unsupported => put_byte(answer, 0, UNREADABLE),
+        IntegerRead::Value(read) => integer(read),
+        IntegerRead::Size => byte(SIZE),
+        IntegerRead::Unsupported => byte(UNREADABLE),
     }
 }
 
@@ -116,12 +124,10 @@ fn refusal_of(write: IntegerWrite) -> u8 {
     }
 }
 
-pub(crate) fn integer_write(input: &[u8], out: &mut [u8], answer: &mut [u8]) -> usize {
+fn integer_write(input: &[u8], out: &mut [u8]) -> Reply {
     let id = AdsTypeId::from_u32(u32_at(input, 0));
     let value = integer_of(byte_at(input, 4), byte_at(input, 5), u64_at(input, 6));
-    let write = integer::to_le_slice(value, id, out);
-    let at = put_byte(answer, 0, refusal_of(write));
-    put_bytes(answer, at, out)
+    byte(refusal_of(integer::to_le_slice(value, id, out)))
 }
 
 fn kind_of(value: Real) -> u8 {
@@ -133,12 +139,12 @@ fn kind_of(value: Real) -> u8 {
     }
 }
 
-pub(crate) fn real_read(input: &[u8], answer: &mut [u8]) -> usize {
+fn real_read(input: &[u8]) -> Reply {
     let id = AdsTypeId::from_u32(u32_at(input, 0));
     match float::real_from_le_slice(from(input, 4), id) {
-        RealRead::Value(value) => put_value(answer, kind_of(value), 0, value.bits()),
-        RealRead::Size => put_byte(answer, 0, SIZE),
-        RealRead::Unsupported => put_byte(answer, 0, UNREADABLE),
+        RealRead::Value(read) => value(kind_of(read), 0, read.bits()),
+        RealRead::Size => byte(SIZE),
+        RealRead::Unsupported => byte(UNREADABLE),
     }
 }
 
@@ -149,9 +155,7 @@ fn refusal_of_real(write: RealWrite) -> u8 {
     }
 }
 
-pub(crate) fn real_write(input: &[u8], out: &mut [u8], answer: &mut [u8]) -> usize {
+fn real_write(input: &[u8], out: &mut [u8]) -> Reply {
     let value = float::real_from_bits(byte_at(input, 0) == DOUBLE, u64_at(input, 1));
-    let write = float::real_to_le_slice(value, out);
-    let at = put_byte(answer, 0, refusal_of_real(write));
-    put_bytes(answer, at, out)
+    byte(refusal_of_real(float::real_to_le_slice(value, out)))
 }

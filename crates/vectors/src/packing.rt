@@ -3,9 +3,9 @@
 ghost use Prim.Native.Nat.{_≤_};
 use crate::answer::put_byte;
 use crate::answer::put_zeros;
-use crate::input::byte_at;
 use crate::sums::SUM;
 use crate::sums::put_sum;
+use case_file::input::byte_at;
 
 const BLOCK: usize = 512;
 

@@ -1,16 +1,18 @@
 // The operation of the crate de, on the book that is kept.
-use crate::answer::put_byte;
-use crate::answer::put_not_found;
-use crate::answer::put_u32;
-use crate::input::byte_at;
-use crate::input::first;
-use crate::input::from;
-use crate::input::u16_at;
-use crate::input::u32_at;
+use crate::answer::Reply;
+use crate::answer::byte;
+use crate::answer::byte_and;
+use crate::answer::not_found;
+use crate::answer::put;
 use crate::lent;
 use crate::lent::FILL;
 use crate::lent::put_bytes_are;
 use crate::packing::put_packed;
+use case_file::input::byte_at;
+use case_file::input::first;
+use case_file::input::from;
+use case_file::input::u16_at;
+use case_file::input::u32_at;
 use steps::ReadAnswer;
 
 // The bytes of n records, of which a tape has at most 2,730.
@@ -21,38 +23,54 @@ fn bytes_of(n: usize) -> usize {
     0
 }
 
-// 1 for each of the buffers that is zeros, as after a refusal, else 0.
-fn put_cleared(answer: &mut [u8], at: usize, tape: &[u8], text: &[u8]) -> usize {
-    let at = put_bytes_are(answer, at, tape, 0);
-    put_bytes_are(answer, at, text, 0)
+fn reply_of(read: ReadAnswer) -> Reply {
+    match read {
+        ReadAnswer::Done(n, m) => {
+            let counts = (n % 65536) as u64 + 4294967296 * ((m % 65536) as u64);
+            byte_and(0, counts, 8)
+        }
+        ReadAnswer::NotFound(block) => not_found(block),
+        ReadAnswer::Refused(n) => byte(n),
+    }
 }
 
-// The part of a buffer that was written, packed, and 1 if its rest is as before, else 0.
-fn put_part(answer: &mut [u8], at: usize, buffer: &[u8], n: usize) -> usize {
+// How many bytes of the tape are written.
+fn tape_len(read: ReadAnswer) -> usize {
+    match read {
+        ReadAnswer::Done(n, _) => bytes_of(n),
+        ReadAnswer::NotFound(_) => 0,
+        ReadAnswer::Refused(_) => 0,
+    }
+}
+
+// How many bytes of the text are written.
+fn text_len(read: ReadAnswer) -> usize {
+    match read {
+        ReadAnswer::Done(_, m) => m,
+        ReadAnswer::NotFound(_) => 0,
+        ReadAnswer::Refused(_) => 0,
+    }
+}
+
+// The byte in what is not written: after a refusal the buffers are zeros.
+fn rest_of(read: ReadAnswer) -> u8 {
+    match read {
+        ReadAnswer::Done(_, _) => FILL,
+        ReadAnswer::NotFound(_) => 0,
+        ReadAnswer::Refused(_) => 0,
+    }
+}
+
+// The part of a buffer that was written, packed, and 1 if each byte after it is `rest`, else 0.
+fn put_part(answer: &mut [u8], at: usize, buffer: &[u8], n: usize, rest: u8) -> usize {
     let at = put_packed(answer, at, first(buffer, n));
-    put_bytes_are(answer, at, from(buffer, n), FILL)
-}
-
-fn put_done(answer: &mut [u8], n: usize, m: usize, tape: &[u8], text: &[u8]) -> usize {
-    let at = put_byte(answer, 0, 0);
-    let at = put_u32(answer, at, (n % 65536) as u32);
-    let at = put_u32(answer, at, (m % 65536) as u32);
-    let at = put_part(answer, at, tape, bytes_of(n));
-    put_part(answer, at, text, m)
+    put_bytes_are(answer, at, from(buffer, n), rest)
 }
 
 fn put_read(answer: &mut [u8], read: ReadAnswer, tape: &[u8], text: &[u8]) -> usize {
-    match read {
-        ReadAnswer::Done(n, m) => put_done(answer, n, m, tape, text),
-        ReadAnswer::NotFound(block) => {
-            let at = put_not_found(answer, block);
-            put_cleared(answer, at, tape, text)
-        }
-        ReadAnswer::Refused(n) => {
-            let at = put_byte(answer, 0, n);
-            put_cleared(answer, at, tape, text)
-        }
-    }
+    let at = put(answer, reply_of(read));
+    let at = put_part(answer, at, tape, tape_len(read), rest_of(read));
+    put_part(answer, at, text, text_len(read), rest_of(read))
 }
 
 fn read_to(

@@ -1,18 +1,17 @@
 // Replays a file of recorded cases, page by page.
 ghost use mathlib.Core.Path.{_≡_};
-ghost use Prim.Native.Nat.{_<_};
 ghost use lib.ListN.{length};
-use crate::input::byte_at;
-use crate::input::first;
-use crate::input::from;
-use crate::input::u16_at;
 use crate::lent::FILL;
 use crate::operation;
-use crate::report;
-use crate::report::Tally;
-
-// The length of a case's fields before its input: operation, length of the lent buffer, length of the input.
-const HEAD: usize = 5;
+use case_file::case::HEAD;
+use case_file::case::case_of;
+use case_file::case::length_of;
+use case_file::case::recorded_of;
+use case_file::input::byte_at;
+use case_file::input::first;
+use case_file::input::from;
+use case_file::input::u16_at;
+use tally::Tally;
 
 // Room for the longest recorded book, of 9,216 blocks.
 const BOOK: usize = 4718592;
@@ -48,21 +47,8 @@ fn fill(out: &mut [u8]) {
     }
 }
 
-// Runs a case's operation on a filled buffer and compares the answer with the recorded one.
-fn same_answer(
-    case: &[u8],
-    recorded: &[u8],
-    book: &mut [u8],
-    len: usize,
-    out: &mut [u8],
-    answer: &mut [u8],
-) -> bool {
-    fill(out);
-    let n = operation::run(byte_at(case, 0), from(case, HEAD), book, len, out, answer);
-    check::same(recorded, first(answer, n))
-}
-
-// The same with a buffer of the length that the case asks for.
+// Runs a case's operation on a filled buffer of the length that the case asks for, and compares the answer with the recorded
+// one.
 fn agrees(
     case: &[u8],
     recorded: &[u8],
@@ -73,28 +59,12 @@ fn agrees(
 ) -> bool {
     let room = u16_at(case, 1);
     if room <= work.len() {
-        return same_answer(case, recorded, book, len, &mut work[0..room], answer);
+        let out = &mut work[0..room];
+        fill(out);
+        let n = operation::run(byte_at(case, 0), from(case, HEAD), book, len, out, answer);
+        return check::same(recorded, first(answer, n));
     }
     false
-}
-
-// The case that stands first, up to its recorded answer.
-fn case_of(rest: &[u8]) -> &[u8] {
-    first(rest, HEAD + u16_at(rest, 3))
-}
-
-// What is recorded for the case that stands first.
-fn recorded_of(rest: &[u8]) -> &[u8] {
-    let tail = from(rest, HEAD + u16_at(rest, 3));
-    first(from(tail, 2), u16_at(tail, 0))
-}
-
-// The length of the case that stands first, with what is recorded.
-fn length_of(rest: &[u8]) -> usize
-    ensures { λ r. ⌜ (0 < r) × (r < 200000) ⌝ }
-{
-    let n = HEAD + u16_at(rest, 3);
-    n + 2 + u16_at(rest, n)
 }
 
 fn run_case(
@@ -109,7 +79,7 @@ fn run_case(
     if agrees(case, recorded, book, len, work, answer) {
         return tally.agreed(operation::book_after(byte_at(case, 0), len, answer));
     }
-    report::difference(case, recorded, tally);
+    tally::difference(case, recorded, tally);
     tally.differed(operation::book_after(byte_at(case, 0), len, answer))
 }
 
@@ -165,5 +135,5 @@ pub(crate) fn file(name: &[u8], book: &mut [u8]) {
     let mut answer = io::large_buffer();
     let tally = run_pages(fd, &mut page, book, &mut work, &mut answer);
     libc::close(fd);
-    report::total(name, tally);
+    tally::total(name, tally);
 }

@@ -1,44 +1,68 @@
-// The operations of the resolvers and of the two walks, on the book that is kept.
-use crate::answer::put_byte;
-use crate::answer::put_not_found;
-use crate::answer::put_u32;
-use crate::input::byte_at;
-use crate::input::u16_at;
-use crate::input::u32_at;
+// The operations of the crates field_types, read_modify_write and missing_types, on the book that is kept and with lent numbers.
+use crate::answer::Reply;
+use crate::answer::byte;
+use crate::answer::byte_and;
+use crate::answer::not_found;
+use crate::answer::put;
 use crate::lent;
 use crate::lent::FILL_NUMBER;
 use crate::lent::put_numbers;
 use crate::lent::put_numbers_are;
+use case_file::input::byte_at;
+use case_file::input::u16_at;
+use case_file::input::u32_at;
 use field_types::FieldsAnswer;
 use missing_types::Missing;
 use read_modify_write::Rmw;
-use resolvers::Resolution;
 
-fn put_resolution(answer: &mut [u8], resolution: Resolution) -> usize {
-    match resolution {
-        Resolution::Block(block) => {
-            let at = put_byte(answer, 0, 0);
-            put_u32(answer, at, block)
+pub(crate) fn run(
+    operation: u8,
+    input: &[u8],
+    book: &[u8],
+    len: usize,
+    answer: &mut [u8],
+) -> usize {
+    let mut scratch = lent::scratch();
+    let mut list = lent::list();
+    run_lent(operation, input, book, len, &mut scratch, &mut list, answer)
+}
+
+// The same with as much of scratch and list as the case lends.
+fn run_lent(
+    operation: u8,
+    input: &[u8],
+    book: &[u8],
+    len: usize,
+    scratch: &mut [u32],
+    list: &mut [u32],
+    answer: &mut [u8],
+) -> usize {
+    let n = u16_at(input, 5);
+    let m = u16_at(input, 7);
+    if n <= scratch.len() {
+        if m <= list.len() {
+            let lent = &mut scratch[0..n];
+            return run_with(operation, input, book, len, lent, &mut list[0..m], answer);
         }
-        Resolution::NotFound(block) => put_not_found(answer, block),
-        Resolution::Refused(n) => put_byte(answer, 0, n),
     }
+    0
 }
 
-pub(crate) fn alias(input: &[u8], book: &[u8], len: usize, answer: &mut [u8]) -> usize {
-    let root = u32_at(input, 1) as u64;
-    put_resolution(
-        answer,
-        resolvers::resolve_alias(book, len, byte_at(input, 0), root),
-    )
-}
-
-pub(crate) fn indirection(input: &[u8], book: &[u8], len: usize, answer: &mut [u8]) -> usize {
-    let root = u32_at(input, 1) as u64;
-    put_resolution(
-        answer,
-        resolvers::resolve_indirection(book, len, byte_at(input, 0), root),
-    )
+fn run_with(
+    operation: u8,
+    input: &[u8],
+    book: &[u8],
+    len: usize,
+    scratch: &mut [u32],
+    list: &mut [u32],
+    answer: &mut [u8],
+) -> usize {
+    match operation {
+        70 => rmw(input, book, len, scratch, answer),
+        71 => missing(input, book, len, scratch, list, answer),
+        72 => fields(input, book, len, scratch, answer),
+        _ => 0,
+    }
 }
 
 // What the scratch holds after a walk: refusals 1 to 6 leave it as before, all else leaves zeros.
@@ -58,28 +82,16 @@ fn put_scratch(answer: &mut [u8], at: usize, scratch: &[u32]) -> usize {
     put_numbers_are(answer, at, scratch, left)
 }
 
-fn put_rmw(answer: &mut [u8], rmw: Rmw) -> usize {
+fn rmw_reply(rmw: Rmw) -> Reply {
     match rmw {
-        Rmw::Yes => {
-            let at = put_byte(answer, 0, 0);
-            put_byte(answer, at, 1)
-        }
-        Rmw::No => {
-            let at = put_byte(answer, 0, 0);
-            put_byte(answer, at, 0)
-        }
-        Rmw::NotFound(block) => put_not_found(answer, block),
-        Rmw::Refused(n) => put_byte(answer, 0, n),
+        Rmw::Yes => byte_and(0, 1, 1),
+        Rmw::No => byte_and(0, 0, 1),
+        Rmw::NotFound(block) => not_found(block),
+        Rmw::Refused(n) => byte(n),
     }
 }
 
-fn rmw_with(
-    input: &[u8],
-    book: &[u8],
-    len: usize,
-    scratch: &mut [u32],
-    answer: &mut [u8],
-) -> usize {
+fn rmw(input: &[u8], book: &[u8], len: usize, scratch: &mut [u32], answer: &mut [u8]) -> usize {
     let root = u32_at(input, 1) as u64;
     let rmw = read_modify_write::requires_read_modify_write(
         book,
@@ -88,47 +100,40 @@ fn rmw_with(
         root,
         scratch,
     );
-    let at = put_rmw(answer, rmw);
+    let at = put(answer, rmw_reply(rmw));
     put_scratch(answer, at, scratch)
 }
 
-// The same with as much of the scratch as the case lends.
-fn rmw_lent(
-    input: &[u8],
-    book: &[u8],
-    len: usize,
-    scratch: &mut [u32],
-    answer: &mut [u8],
-) -> usize {
-    let n = u16_at(input, 5);
-    if n <= scratch.len() {
-        return rmw_with(input, book, len, &mut scratch[0..n], answer);
+// Zero, and 1 after it if there was room for the whole list, else 0.
+fn whole_head(whole: bool) -> u64 {
+    if whole {
+        return 256;
     }
     0
 }
 
-pub(crate) fn rmw(input: &[u8], book: &[u8], len: usize, answer: &mut [u8]) -> usize {
-    let mut scratch = lent::scratch();
-    rmw_lent(input, book, len, &mut scratch, answer)
-}
-
-// The blocks listed and the rest of the list.
-fn put_missing(answer: &mut [u8], missing: Missing, list: &[u32]) -> usize {
+fn missing_reply(missing: Missing) -> Reply {
     match missing {
-        Missing::Listed(n, whole, count) => {
-            let at = put_byte(answer, 0, 0);
-            let at = put_byte(answer, at, whole as u8);
-            let at = put_u32(answer, at, (count % 65536) as u32);
-            put_numbers(answer, at, list, n)
-        }
-        Missing::Refused(n) => {
-            let at = put_byte(answer, 0, n);
-            put_numbers_are(answer, at, list, FILL_NUMBER)
-        }
+        Missing::Listed(_, whole, count) => Reply {
+            head: whole_head(whole),
+            head_len: 2,
+            value: count as u64,
+            value_len: 4,
+        },
+        Missing::Refused(n) => byte(n),
     }
 }
 
-fn missing_with(
+// How many blocks are listed.
+fn listed(missing: Missing) -> usize {
+    match missing {
+        Missing::Listed(n, _, _) => n,
+        Missing::Refused(_) => 0,
+    }
+}
+
+// The blocks listed and the rest of the list, and then the scratch.
+fn missing(
     input: &[u8],
     book: &[u8],
     len: usize,
@@ -138,34 +143,9 @@ fn missing_with(
 ) -> usize {
     let root = u32_at(input, 1) as u64;
     let missing = missing_types::missing_types(book, len, byte_at(input, 0), root, scratch, list);
-    let at = put_missing(answer, missing, list);
+    let at = put(answer, missing_reply(missing));
+    let at = put_numbers(answer, at, list, listed(missing));
     put_scratch(answer, at, scratch)
-}
-
-// The same with as much of scratch and list as the case lends.
-fn missing_lent(
-    input: &[u8],
-    book: &[u8],
-    len: usize,
-    scratch: &mut [u32],
-    list: &mut [u32],
-    answer: &mut [u8],
-) -> usize {
-    let n = u16_at(input, 5);
-    let m = u16_at(input, 7);
-    if n <= scratch.len() {
-        if m <= list.len() {
-            let lent = &mut scratch[0..n];
-            return missing_with(input, book, len, lent, &mut list[0..m], answer);
-        }
-    }
-    0
-}
-
-pub(crate) fn missing(input: &[u8], book: &[u8], len: usize, answer: &mut [u8]) -> usize {
-    let mut scratch = lent::scratch();
-    let mut list = lent::list();
-    missing_lent(input, book, len, &mut scratch, &mut list, answer)
 }
 
 // The numbers of n records, of which there are at most 4,096.
@@ -176,51 +156,27 @@ fn numbers_of(n: usize) -> usize {
     0
 }
 
-fn put_fields(answer: &mut [u8], fields: FieldsAnswer, records: &[u32]) -> usize {
+fn fields_reply(fields: FieldsAnswer) -> Reply {
     match fields {
-        FieldsAnswer::Done(n) => {
-            let at = put_byte(answer, 0, 0);
-            put_numbers(answer, at, records, numbers_of(n))
-        }
-        FieldsAnswer::NotFound(block) => {
-            let at = put_not_found(answer, block);
-            put_numbers_are(answer, at, records, FILL_NUMBER)
-        }
-        FieldsAnswer::Refused(n) => {
-            let at = put_byte(answer, 0, n);
-            put_numbers_are(answer, at, records, FILL_NUMBER)
-        }
+        FieldsAnswer::Done(_) => byte(0),
+        FieldsAnswer::NotFound(block) => not_found(block),
+        FieldsAnswer::Refused(n) => byte(n),
     }
 }
 
-fn fields_with(
-    input: &[u8],
-    book: &[u8],
-    len: usize,
-    records: &mut [u32],
-    answer: &mut [u8],
-) -> usize {
+// How many numbers are written.
+fn recorded(fields: FieldsAnswer) -> usize {
+    match fields {
+        FieldsAnswer::Done(n) => numbers_of(n),
+        FieldsAnswer::NotFound(_) => 0,
+        FieldsAnswer::Refused(_) => 0,
+    }
+}
+
+// The records and the rest of their numbers.
+fn fields(input: &[u8], book: &[u8], len: usize, records: &mut [u32], answer: &mut [u8]) -> usize {
     let root = u32_at(input, 1) as u64;
     let fields = field_types::resolve_fields(book, len, byte_at(input, 0), root, records);
-    put_fields(answer, fields, records)
-}
-
-// The same with as many numbers as the case lends.
-fn fields_lent(
-    input: &[u8],
-    book: &[u8],
-    len: usize,
-    records: &mut [u32],
-    answer: &mut [u8],
-) -> usize {
-    let n = u16_at(input, 5);
-    if n <= records.len() {
-        return fields_with(input, book, len, &mut records[0..n], answer);
-    }
-    0
-}
-
-pub(crate) fn fields(input: &[u8], book: &[u8], len: usize, answer: &mut [u8]) -> usize {
-    let mut records = lent::scratch();
-    fields_lent(input, book, len, &mut records, answer)
+    let at = put(answer, fields_reply(fields));
+    put_numbers(answer, at, records, recorded(fields))
 }

@@ -1,8 +1,8 @@
 // The sum that ends each block of a book.
 ghost use Prim.Native.Nat.{_<_};
-use crate::answer::put_u32;
-use crate::input::first;
-use crate::input::from;
+use crate::answer::put_number;
+use case_file::input::first;
+use case_file::input::from;
 
 // Where a block has its sum.
 pub(crate) const SUM: usize = 508;
@@ -27,5 +27,5 @@ fn sum_of(part: &[u8]) -> u64 {
 pub(crate) fn put_sum(book: &mut [u8], block: u32) -> usize {
     let at = block as usize;
     let sum = sum_of(first(from(book, at), SUM));
-    put_u32(book, at + SUM, (sum % 4294967296) as u32)
+    put_number(book, at + SUM, sum, 4)
 }

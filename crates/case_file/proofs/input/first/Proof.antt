@@ -1,12 +1,12 @@
--- `vectors::input::first` meets its contract: a part that is asked past the end is all there is.
+-- `case_file::input::first` meets its contract: a part that is asked past the end is all there is.
 -- Assumes nothing.
 use mathlib.Core.Path.{sym}
 use native.Mathlib.Omega.{arith}
 use native.Mathlib.Nat.{sub-zero}
 use lib.Seq.{take-all}
 use borrow.Author.Needs.{needs}
-use Rattle.vectors.proofs.input.first.Statement.{statement}
-use Rattle.vectors.proofs.input.first.Tie as tie
+use Rattle.case_file.proofs.input.first.Statement.{statement}
+use Rattle.case_file.proofs.input.first.Tie as tie
 
 sub-result : tie.Need-sub-result
 sub-result c = search needs

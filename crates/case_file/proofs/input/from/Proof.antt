@@ -1,4 +1,4 @@
--- `vectors::input::from` meets its contract: past the end there is nothing.
+-- `case_file::input::from` meets its contract: past the end there is nothing.
 -- Assumes nothing.
 use mathlib.Core.Path.{sym}
 use native.Mathlib.Omega.{arith}
@@ -7,8 +7,8 @@ use Prim.Native.Nat.{ℕ, _-_}
 use lib.ListN.{length, drop, length-drop, drop-of-length-le}
 use lib.Seq.{take-all}
 use borrow.Author.Needs.{needs}
-use Rattle.vectors.proofs.input.from.Statement.{statement}
-use Rattle.vectors.proofs.input.from.Tie as tie
+use Rattle.case_file.proofs.input.from.Statement.{statement}
+use Rattle.case_file.proofs.input.from.Tie as tie
 
 sub-result : tie.Need-sub-result
 sub-result c = search needs

@@ -1,10 +1,12 @@
 // The parts of a case's input. Past its end there are zeros and empty parts, so that any input can be read.
 ghost use mathlib.Core.Path.{_≡_};
 ghost use Prim.Native.Nat.{_<_};
-ghost use lib.ListN.{take, drop};
+ghost use lib.ListN.{getD, take, drop};
+ghost use Rattle.number.specs.Le.{leValue};
+ghost use Rattle.case_file.specs.Case.{u16At};
 
 // What stands from a place on.
-pub(crate) fn from(input: &[u8], at: usize) -> &[u8]
+pub fn from(input: &[u8], at: usize) -> &[u8]
     ensures { λ r. ⌜ now r ≡ drop at (now (input .entry)) ⌝ }
 {
     if at <= input.len() {
@@ -14,7 +16,7 @@ pub(crate) fn from(input: &[u8], at: usize) -> &[u8]
 }
 
 // At most the first n bytes.
-pub(crate) fn first(input: &[u8], n: usize) -> &[u8]
+pub fn first(input: &[u8], n: usize) -> &[u8]
     ensures { λ r. ⌜ now r ≡ take n (now (input .entry)) ⌝ }
 {
     if n <= input.len() {
@@ -23,7 +25,10 @@ pub(crate) fn first(input: &[u8], n: usize) -> &[u8]
     input
 }
 
-pub(crate) fn byte_at(input: &[u8], at: usize) -> u8 {
+// The byte at a place.
+pub fn byte_at(input: &[u8], at: usize) -> u8
+    ensures { λ r. ⌜ r ≡ getD (now (input .entry)) at 0 ⌝ }
+{
     if at < input.len() {
         return input[at];
     }
@@ -31,8 +36,8 @@ pub(crate) fn byte_at(input: &[u8], at: usize) -> u8 {
 }
 
 // The number of two bytes at a place, low byte first.
-pub(crate) fn u16_at(input: &[u8], at: usize) -> usize
-    ensures { λ r. ⌜ r < 65536 ⌝ }
+pub fn u16_at(input: &[u8], at: usize) -> usize
+    ensures { λ r. ⌜ (r ≡ u16At (now (input .entry)) at) × (r < 65536) ⌝ }
 {
     let low = byte_at(input, at) as usize;
     if at < input.len() {
@@ -41,10 +46,16 @@ pub(crate) fn u16_at(input: &[u8], at: usize) -> usize
     low
 }
 
-pub(crate) fn u32_at(input: &[u8], at: usize) -> u32 {
+// The number of four bytes at a place, low byte first.
+pub fn u32_at(input: &[u8], at: usize) -> u32
+    ensures { λ r. ⌜ r ≡ leValue (take 4 (drop at (now (input .entry)))) ⌝ }
+{
     number::le::le_u32(from(input, at))
 }
 
-pub(crate) fn u64_at(input: &[u8], at: usize) -> u64 {
+// The number of eight bytes at a place, low byte first.
+pub fn u64_at(input: &[u8], at: usize) -> u64
+    ensures { λ r. ⌜ r ≡ leValue (take 8 (drop at (now (input .entry)))) ⌝ }
+{
     number::le::le_value(from(input, at))
 }
