@@ -9,6 +9,7 @@ mod operation;
 mod packing;
 mod reads;
 mod replay;
+mod report;
 mod resolving;
 mod sums;
 

@@ -3,6 +3,8 @@ ghost use mathlib.Core.Path.{_≡_};
 ghost use lib.ListN.{length};
 use crate::lent::FILL;
 use crate::operation;
+use crate::report;
+use crate::report::Tally;
 use case_file::case::HEAD;
 use case_file::case::case_of;
 use case_file::case::length_of;
@@ -11,7 +13,6 @@ use case_file::input::byte_at;
 use case_file::input::first;
 use case_file::input::from;
 use case_file::input::u16_at;
-use tally::Tally;
 
 // Room for the longest recorded book, of 9,216 blocks.
 const BOOK: usize = 4718592;
@@ -79,7 +80,7 @@ fn run_case(
     if agrees(case, recorded, book, len, work, answer) {
         return tally.agreed(operation::book_after(byte_at(case, 0), len, answer));
     }
-    tally::difference(case, recorded, tally);
+    report::difference(case, recorded, tally);
     tally.differed(operation::book_after(byte_at(case, 0), len, answer))
 }
 
@@ -135,5 +136,5 @@ pub(crate) fn file(name: &[u8], book: &mut [u8]) {
     let mut answer = io::large_buffer();
     let tally = run_pages(fd, &mut page, book, &mut work, &mut answer);
     libc::close(fd);
-    tally::total(name, tally);
+    report::total(name, tally);
 }

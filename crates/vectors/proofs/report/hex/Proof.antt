@@ -1,10 +1,10 @@
--- `tally::hex` is safe and ends. The measure is the number of bytes that are left.
+-- `vectors::report::hex` is safe and ends. The measure is the number of bytes that are left.
 -- Assumes nothing.
 use Prim.Native.Nat.{_≤_, _-_}
 use lib.ListN.{length}
 use borrow.Author.Needs.{needs}
-use Rattle.tally.proofs.hex.Statement.{statement}
-use Rattle.tally.proofs.hex.Tie as tie
+use Rattle.vectors.proofs.report.hex.Statement.{statement}
+use Rattle.vectors.proofs.report.hex.Tie as tie
 
 abbrev Inv-loop : tie.InvT-loop
 Inv-loop bytes i₀ i = i ≤ length bytes

@@ -1,6 +1,4 @@
-// What a replay writes: a line for each file, and above it the file's first difference.
-ghost use mathlib.Core.Path.{_≡_};
-ghost use Prim.Native.Nat.{_+_, min};
+// What the program writes: a line for each file, and above it the file's first difference.
 use case_file::input::byte_at;
 use case_file::input::first;
 use case_file::input::from;
@@ -15,9 +13,7 @@ pub struct Tally {
 }
 
 // One more, up to the largest number.
-fn one_more(n: u64) -> u64
-    ensures { λ r. ⌜ r ≡ min (n + 1) 18446744073709551615 ⌝ }
-{
+fn one_more(n: u64) -> u64 {
     if n < u64::MAX {
         return n + 1;
     }
@@ -26,9 +22,7 @@ fn one_more(n: u64) -> u64
 
 impl Tally {
     // Before the first case.
-    pub fn new() -> Tally
-        ensures { λ r. ⌜ (r .cases ≡ 0) × (r .differences ≡ 0) × (r .book ≡ 0) ⌝ }
-    {
+    pub(crate) fn new() -> Tally {
         Tally {
             cases: 0,
             differences: 0,
@@ -37,9 +31,7 @@ impl Tally {
     }
 
     // After one more case that agrees, and leaves a book of this length.
-    pub fn agreed(self, book: usize) -> Tally
-        ensures { λ r. ⌜ (r .cases ≡ min (self .cases + 1) 18446744073709551615) × (r .differences ≡ self .differences) × (r .book ≡ book) ⌝ }
-    {
+    pub(crate) fn agreed(self, book: usize) -> Tally {
         Tally {
             cases: one_more(self.cases),
             differences: self.differences,
@@ -48,9 +40,7 @@ impl Tally {
     }
 
     // After one more case that differs.
-    pub fn differed(self, book: usize) -> Tally
-        ensures { λ r. ⌜ (r .cases ≡ min (self .cases + 1) 18446744073709551615) × (r .differences ≡ min (self .differences + 1) 18446744073709551615) × (r .book ≡ book) ⌝ }
-    {
+    pub(crate) fn differed(self, book: usize) -> Tally {
         Tally {
             cases: one_more(self.cases),
             differences: one_more(self.differences),
@@ -86,7 +76,7 @@ fn part(label: &[u8], bytes: &[u8]) {
 }
 
 // Writes a file's first difference: the case's number, its operation, its input and what is recorded.
-pub fn difference(case: &[u8], recorded: &[u8], tally: Tally) {
+pub(crate) fn difference(case: &[u8], recorded: &[u8], tally: Tally) {
     if tally.differences > 0 {
         return;
     }
@@ -98,7 +88,7 @@ pub fn difference(case: &[u8], recorded: &[u8], tally: Tally) {
 }
 
 // Writes how many cases a file has, and how many differ.
-pub fn total(name: &[u8], tally: Tally) {
+pub(crate) fn total(name: &[u8], tally: Tally) {
     io::write_all(STDOUT_FILENO, name);
     number(b" cases ", tally.cases);
     number(b" differences ", tally.differences);
