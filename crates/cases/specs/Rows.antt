@@ -14,7 +14,7 @@ use Rattle.utf_16.specs.Decode as utf16
 use Rattle.utf_16.specs.WString.{wstringEnd}
 use Rattle.windows_1252.specs.Text as windows1252
 use Rattle.type_category.specs.Category.{categoryOf}
-use Rattle.validators.specs.Validate.{placeOf}
+use Rattle.category_number.specs.Number.{categoryNumber}
 use Rattle.type_category.specs.declared.type_category.AdsTypeCategory.the-variants as category
 use Rattle.resolvers.specs.Resolve.{resolveAlias}
 use Rattle.resolvers.specs.declared.Resolved.{Resolved}
@@ -132,9 +132,9 @@ values =
     ∷ (room (roomFor (suc (length (windows1252.encodeText zhe))) 8) is (1 ∷ 8 ∷ []))
     ∷ (room (roomFor (suc (length (windows1252.encodeText zhe))) 7) is (0 ∷ []))
     -- type_category.rs: INT with type name INT is an alias; two fields at 0 a union; at 4 and 8 a function block
-    ∷ ((placeOf (categoryOf (typeBlock 2 2 0 int int) 8 0) ∷ []) is (placeOf category.Alias ∷ []))
-    ∷ ((placeOf (categoryOf (twoFields 0 0) 8 0) ∷ []) is (placeOf category.Union ∷ []))
-    ∷ ((placeOf (categoryOf (twoFields 4 8) 8 0) ∷ []) is (placeOf category.FunctionBlock ∷ []))
+    ∷ ((categoryNumber (categoryOf (typeBlock 2 2 0 int int) 8 0) ∷ []) is (categoryNumber category.Alias ∷ []))
+    ∷ ((categoryNumber (categoryOf (twoFields 0 0) 8 0) ∷ []) is (categoryNumber category.Union ∷ []))
+    ∷ ((categoryNumber (categoryOf (twoFields 4 8) 8 0) ∷ []) is (categoryNumber category.FunctionBlock ∷ []))
     ∷ []
 
 -- the rows on alias chains and on the two walks (resolvers.rs)

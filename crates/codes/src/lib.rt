@@ -1,9 +1,8 @@
 // An answer as one number, for callers that know no enum.
 ghost use mathlib.Core.Path.{_≡_};
 ghost use Rattle.book_check.specs.Check.{bookRefusal};
-ghost use Rattle.codes.specs.Numbers.{placeNumber, foundNumber, truthNumber, categoryNumber};
+ghost use Rattle.codes.specs.Numbers.{placeNumber, foundNumber, truthNumber};
 use book_check::BookCheck;
-use type_category::type_category::AdsTypeCategory;
 use type_provider::Found;
 use utf_8::Put;
 
@@ -45,29 +44,5 @@ pub fn refusal(check: BookCheck) -> u8
         BookCheck::Sum => 2,
         BookCheck::Form => 3,
         BookCheck::Doubled => 4,
-    }
-}
-
-// A category's place in the list of categories.
-pub fn category(c: AdsTypeCategory) -> u64
-    ensures { λ r. ⌜ r ≡ categoryNumber c ⌝ }
-{
-    match c {
-        AdsTypeCategory::None => 0,
-        AdsTypeCategory::Primitive => 1,
-        AdsTypeCategory::Alias => 2,
-        AdsTypeCategory::Enum => 3,
-        AdsTypeCategory::Array => 4,
-        AdsTypeCategory::Struct => 5,
-        AdsTypeCategory::FunctionBlock => 6,
-        AdsTypeCategory::Program => 7,
-        AdsTypeCategory::Function => 8,
-        AdsTypeCategory::SubRange => 9,
-        AdsTypeCategory::String => 10,
-        AdsTypeCategory::Bitset => 11,
-        AdsTypeCategory::Pointer => 12,
-        AdsTypeCategory::Union => 13,
-        AdsTypeCategory::Reference => 14,
-        AdsTypeCategory::Interface => 15,
     }
 }

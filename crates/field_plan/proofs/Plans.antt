@@ -1,4 +1,4 @@
--- Laws of plans: a category and its place, one field, its entry, the loop over the fields. This module alone unfolds `categoryAt`. Assumes nothing.
+-- Laws of plans: one field, its entry, the loop over the fields. Assumes nothing.
 use mathlib.Core.Path.{_≡_, refl, sym, ap, _∙_, subst}
 use mathlib.Core.Bool.{Bool, true, false}
 use mathlib.Core.List.{List, []}
@@ -18,7 +18,8 @@ use Rattle.type_provider.specs.declared.Found.the-variants.{At, Nothing}
 use Rattle.type_category.specs.declared.type_category.AdsTypeCategory.{AdsTypeCategory}
 use Rattle.type_category.specs.declared.type_category.AdsTypeCategory.the-variants.{None, Primitive, Alias, Enum, Array, Struct, FunctionBlock, Program, Function, SubRange, String, Bitset, Pointer, Union, Reference, Interface}
 use Rattle.type_category.specs.Category.{categoryOf}
-use Rattle.validators.specs.Validate.{placeOf}
+use Rattle.category_number.specs.Number.{categoryNumber, categoryAt}
+use Rattle.category_number.proofs.Numbers.{number-small, number-back}
 use Rattle.book_check.specs.Check.{ValidBook}
 use Rattle.book_check.proofs.Valid.{valid-size, valid-type}
 use Rattle.resolvers.specs.Resolve.{goesOn, isFollowed, resolveAlias, ResolvedIs}
@@ -33,55 +34,7 @@ use Rattle.field_types.proofs.Fields.{field-at, field-nothing, fields-more, fie
 use Rattle.field_plan.specs.declared.PlannedField.{PlannedField}
 use Rattle.field_plan.specs.declared.Planned.{Planned}
 use Rattle.field_plan.specs.declared.Planned.the-variants as planned
-use Rattle.field_plan.specs.Plan.{categoryAt, entryOf, FieldIs, PlannedIs, Known, PlanEntry, Entries, Ready, PlanIs}
-
--- ---- categories and places
-
-pub place-back : (c : AdsTypeCategory) → categoryAt (placeOf c) ≡ c
-unfolding categoryAt
-place-back None = refl
-place-back Primitive = refl
-place-back Alias = refl
-place-back Enum = refl
-place-back Array = refl
-place-back Struct = refl
-place-back FunctionBlock = refl
-place-back Program = refl
-place-back Function = refl
-place-back SubRange = refl
-place-back String = refl
-place-back Bitset = refl
-place-back Pointer = refl
-place-back Union = refl
-place-back Reference = refl
-place-back Interface = refl
-
-pub place-small : (c : AdsTypeCategory) → placeOf c < 16
-place-small None = omega arith
-place-small Primitive = omega arith
-place-small Alias = omega arith
-place-small Enum = omega arith
-place-small Array = omega arith
-place-small Struct = omega arith
-place-small FunctionBlock = omega arith
-place-small Program = omega arith
-place-small Function = omega arith
-place-small SubRange = omega arith
-place-small String = omega arith
-place-small Bitset = omega arith
-place-small Pointer = omega arith
-place-small Union = omega arith
-place-small Reference = omega arith
-place-small Interface = omega arith
-
-pub placed : (c : AdsTypeCategory) (n : ℕ) → n ≡ placeOf c → c ≡ categoryAt n
-placed c n e = sym (place-back c) ∙ ap categoryAt (sym e)
-
-pub place-last : (n : ℕ) → (n ≡ 0 → ⊥) → (n ≡ 1 → ⊥) → (n ≡ 2 → ⊥) → (n ≡ 3 → ⊥) → (n ≡ 4 → ⊥) → (n ≡ 5 → ⊥) → (n ≡ 6 → ⊥) → (n ≡ 7 → ⊥) → (n ≡ 8 → ⊥) → (n ≡ 9 → ⊥) → (n ≡ 10 → ⊥) → (n ≡ 11 → ⊥) → (n ≡ 12 → ⊥) → (n ≡ 13 → ⊥) → (n ≡ 14 → ⊥)
-    → Interface ≡ categoryAt n
-unfolding categoryAt
-place-last n h0 h1 h2 h3 h4 h5 h6 h7 h8 h9 h10 h11 h12 h13 h14 =
-    rw (ne-eqb n 0 h0, ne-eqb n 1 h1, ne-eqb n 2 h2, ne-eqb n 3 h3, ne-eqb n 4 h4, ne-eqb n 5 h5, ne-eqb n 6 h6, ne-eqb n 7 h7, ne-eqb n 8 h8, ne-eqb n 9 h9, ne-eqb n 10 h10, ne-eqb n 11 h11, ne-eqb n 12 h12, ne-eqb n 13 h13, ne-eqb n 14 h14)
+use Rattle.field_plan.specs.Plan.{entryOf, FieldIs, PlannedIs, Known, PlanEntry, Entries, Ready, PlanIs}
 
 -- ---- one field
 
@@ -198,11 +151,11 @@ module _ (book : List ℕ) (width f e : ℕ) (k : PlanEntry book width f e) (n :
       → PlannedIs book width f (planned.Field (record { offset = o; size = s; resolved = (e - 1) / 16; category = c }))
   entry-kept o s c eo es ec =
       let x : PlannedField = w .entry in
-      let p : e ≡ 1 + x .resolved * 16 + placeOf (x .category) = w .packed in
-      let l : placeOf (x .category) < 16 = place-small (x .category) in
+      let p : e ≡ 1 + x .resolved * 16 + categoryNumber (x .category) = w .packed in
+      let l : categoryNumber (x .category) < 16 = number-small (x .category) in
       let r : (e - 1) / 16 ≡ x .resolved = omega arith in
-      let m : (e - 1) % 16 ≡ placeOf (x .category) = omega arith in
-      let d : c ≡ x .category = ec ∙ ap categoryAt m ∙ place-back (x .category) in
+      let m : (e - 1) % 16 ≡ categoryNumber (x .category) = omega arith in
+      let d : c ≡ x .category = ec ∙ ap categoryAt m ∙ number-back (x .category) in
       let h : Parts book f (w .is .whole) = parts book width f (w .is .whole) (w .is .found) in
       field-only _
       (record {
@@ -230,11 +183,11 @@ entry-past plan i h = sym (List·getD-eq-default plan 0 h)
 pub note-past : (plan : List ℕ) (i e : ℕ) → length plan ≤ i → plan ≡ set plan i e
 note-past plan i e h = sym (set-out plan i e h)
 
-pub note-here : (plan : List ℕ) (i r p : ℕ) (c : AdsTypeCategory) → p ≡ placeOf c → set plan i (1 + r * 16 + p) ≡ set plan i (1 + r * 16 + placeOf c)
+pub note-here : (plan : List ℕ) (i r p : ℕ) (c : AdsTypeCategory) → p ≡ categoryNumber c → set plan i (1 + r * 16 + p) ≡ set plan i (1 + r * 16 + categoryNumber c)
 note-here plan i r p c e = rw e
 
-pub note-fits : (r p : ℕ) (c : AdsTypeCategory) → r < 65536 → p ≡ placeOf c → Fits w32 (1 + r * 16 + p)
-note-fits r p c l e = record { fits = omega (arith, place-small c) }
+pub note-fits : (r p : ℕ) (c : AdsTypeCategory) → r < 65536 → p ≡ categoryNumber c → Fits w32 (1 + r * 16 + p)
+note-fits r p c l e = record { fits = omega (arith, number-small c) }
 
 -- the plan that has no entry
 pub ready-none : (book : List ℕ) (width t : ℕ) → Ready book width t []

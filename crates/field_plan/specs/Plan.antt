@@ -1,15 +1,12 @@
 -- A plan: for each field of a type what resolving it came to, kept as one number. Assumes nothing.
 use mathlib.Core.Path.{_≡_}
-use mathlib.Core.Bool.{true, cond}
+use mathlib.Core.Bool.{true}
 use mathlib.Core.List.{List}
 use Prim.Native.Nat.{ℕ, _+_, _*_, _<_}
 use lib.ListN.{length, getD}
-use lib.Dec.{eqb}
 use Rattle.typebook.specs.Book.{isType, fieldsOf}
-use Rattle.type_category.specs.declared.type_category.AdsTypeCategory.{AdsTypeCategory}
-use Rattle.type_category.specs.declared.type_category.AdsTypeCategory.the-variants.{None, Primitive, Alias, Enum, Array, Struct, FunctionBlock, Program, Function, SubRange, String, Bitset, Pointer, Union, Reference, Interface}
 use Rattle.type_category.specs.Category.{categoryOf}
-use Rattle.validators.specs.Validate.{placeOf}
+use Rattle.category_number.specs.Number.{categoryNumber}
 use Rattle.field_types.specs.Fields.{resolveField, fieldsCheck}
 use Rattle.field_types.specs.declared.ResolvedField.{ResolvedField}
 use Rattle.field_types.specs.declared.FieldAnswer.the-variants as answer
@@ -19,28 +16,9 @@ use Rattle.field_plan.specs.declared.PlannedField.{PlannedField}
 use Rattle.field_plan.specs.declared.Planned.{Planned}
 use Rattle.field_plan.specs.declared.Planned.the-variants as planned
 
--- the category of a place
-unfoldable pub categoryAt : ℕ → AdsTypeCategory
-categoryAt n =
-    cond (eqb n 0) None
-    (cond (eqb n 1) Primitive
-    (cond (eqb n 2) Alias
-    (cond (eqb n 3) Enum
-    (cond (eqb n 4) Array
-    (cond (eqb n 5) Struct
-    (cond (eqb n 6) FunctionBlock
-    (cond (eqb n 7) Program
-    (cond (eqb n 8) Function
-    (cond (eqb n 9) SubRange
-    (cond (eqb n 10) String
-    (cond (eqb n 11) Bitset
-    (cond (eqb n 12) Pointer
-    (cond (eqb n 13) Union
-    (cond (eqb n 14) Reference Interface))))))))))))))
-
--- a field's entry: 1, sixteen times the block of its resolved type, and the place of that type's category
+-- a field's entry: 1, sixteen times the block of its resolved type, and the number of that type's category
 abbrev pub entryOf : PlannedField → ℕ
-entryOf x = 1 + x .resolved * 16 + placeOf (x .category)
+entryOf x = 1 + x .resolved * 16 + categoryNumber (x .category)
 
 -- x is what field block f resolves to, with the category of its type
 pub record FieldIs (book : List ℕ) (width f : ℕ) (x : PlannedField) : Type 0 where

@@ -6,9 +6,10 @@ ghost use Prim.Native.Nat.{_<_};
 ghost use lib.ListN.{getD, set};
 ghost use Rattle.typebook.specs.Book.{isType, typeNameOf};
 ghost use Rattle.type_provider.specs.Find.{find};
-ghost use Rattle.validators.specs.Validate.{placeOf};
 ghost use Rattle.book_check.specs.Check.{ValidBook};
-ghost use Rattle.field_plan.specs.Plan.{categoryAt, entryOf, PlanEntry, PlannedIs, PlanIs};
+ghost use Rattle.field_plan.specs.Plan.{entryOf, PlanEntry, PlannedIs, PlanIs};
+use category_number::category_at;
+use category_number::number;
 use field_types::FieldsCheck;
 use resolvers::Resolved;
 use type_category::type_category::AdsTypeCategory;
@@ -29,54 +30,6 @@ pub enum Planned {
     Lacks(u32),
     // More look-ups than allowed.
     Endless,
-}
-
-// The place of a category among the declared ones.
-fn place(category: AdsTypeCategory) -> u32
-    ensures { λ r. ⌜ r ≡ placeOf category ⌝ }
-{
-    match category {
-        AdsTypeCategory::None => 0,
-        AdsTypeCategory::Primitive => 1,
-        AdsTypeCategory::Alias => 2,
-        AdsTypeCategory::Enum => 3,
-        AdsTypeCategory::Array => 4,
-        AdsTypeCategory::Struct => 5,
-        AdsTypeCategory::FunctionBlock => 6,
-        AdsTypeCategory::Program => 7,
-        AdsTypeCategory::Function => 8,
-        AdsTypeCategory::SubRange => 9,
-        AdsTypeCategory::String => 10,
-        AdsTypeCategory::Bitset => 11,
-        AdsTypeCategory::Pointer => 12,
-        AdsTypeCategory::Union => 13,
-        AdsTypeCategory::Reference => 14,
-        AdsTypeCategory::Interface => 15,
-    }
-}
-
-// The category that is declared at a place.
-fn category_at(n: u32) -> AdsTypeCategory
-    ensures { λ r. ⌜ r ≡ categoryAt n ⌝ }
-{
-    match n {
-        0 => AdsTypeCategory::None,
-        1 => AdsTypeCategory::Primitive,
-        2 => AdsTypeCategory::Alias,
-        3 => AdsTypeCategory::Enum,
-        4 => AdsTypeCategory::Array,
-        5 => AdsTypeCategory::Struct,
-        6 => AdsTypeCategory::FunctionBlock,
-        7 => AdsTypeCategory::Program,
-        8 => AdsTypeCategory::Function,
-        9 => AdsTypeCategory::SubRange,
-        10 => AdsTypeCategory::String,
-        11 => AdsTypeCategory::Bitset,
-        12 => AdsTypeCategory::Pointer,
-        13 => AdsTypeCategory::Union,
-        14 => AdsTypeCategory::Reference,
-        _ => AdsTypeCategory::Interface,
-    }
 }
 
 // Field block f, whose type name finds the alias at block `named`.
@@ -151,7 +104,7 @@ fn note(plan: &mut [u32], i: u32, field: PlannedField)
 {
     let category = field.category;
     if (i as usize) < plan.len() {
-        plan[i as usize] = 1 + field.resolved * 16 + place(category);
+        plan[i as usize] = 1 + field.resolved * 16 + number(category);
     }
 }
 

@@ -3,10 +3,10 @@ use mathlib.Core.Path.{_≡_, _∙_}
 use mathlib.Core.List.{List, [], _∷_}
 use Prim.Native.Nat.{ℕ}
 use Rattle.type_category.specs.declared.type_category.AdsTypeCategory.{AdsTypeCategory}
+use Rattle.category_number.specs.Number.{categoryNumber}
 use Rattle.resolvers.specs.Resolve.{ResolvedIs}
 use Rattle.resolvers.specs.declared.Resolved.{Resolved}
 use Rattle.resolvers.specs.declared.Resolution.{Resolution}
-use Rattle.codes.specs.Numbers.{categoryNumber}
 use Rattle.lent_values.specs.Values.{Gives}
 use Rattle.resolver_answers.specs.Answers.{ResolvedAs, ResolutionAs}
 use Rattle.gateway.specs.Calls.{ChainGiven}

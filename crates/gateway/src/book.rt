@@ -4,13 +4,15 @@ ghost use mathlib.Core.List.{[], _∷_};
 ghost use Prim.Native.Nat.{_+_, _*_};
 ghost use Rattle.typebook.specs.Book.{isType, nameOf, typeNameOf};
 ghost use Rattle.type_category.specs.Category.{categoryOf};
-ghost use Rattle.codes.specs.Numbers.{truthNumber, categoryNumber};
+ghost use Rattle.category_number.specs.Number.{categoryNumber};
+ghost use Rattle.codes.specs.Numbers.{truthNumber};
 ghost use Rattle.lent_values.specs.Values.{Gives};
 ghost use Rattle.book_answers.specs.Answers.{PartGiven};
 ghost use Rattle.gateway.specs.Calls.{AppendGiven};
 use book_answers::give_appended;
 use book_answers::give_name;
 use book_answers::give_type_name;
+use category_number::number;
 use lent_values::done_1;
 use type_category::type_category::AdsTypeCategory;
 
@@ -38,14 +40,14 @@ pub extern "C" fn gateway_type_name(book: &[u8], block: u32, values: &mut [u64])
     give_type_name(book, block, values)
 }
 
-// The block's category, by its place in the list of categories.
+// The number of the block's category.
 #[no_mangle]
 pub extern "C" fn gateway_determine(book: &[u8], width: u8, block: u32, values: &mut [u64]) -> u8
     ensures { λ r. ⌜ Gives 0 (categoryNumber (categoryOf (now (book .entry)) width block) ∷ []) (now (values .entry)) r (now (values .exit)) ⌝ }
 {
     done_1(
         values,
-        codes::category(AdsTypeCategory::determine(book, width, block)),
+        number(AdsTypeCategory::determine(book, width, block)) as u64,
     )
 }
 

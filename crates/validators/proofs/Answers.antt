@@ -3,16 +3,20 @@ use mathlib.Core.Path.{_≡_, sym, _∙_}
 use mathlib.Core.Bool.{Bool, true, false}
 use mathlib.Core.List.{List}
 use Prim.Native.Nat.{ℕ, _<_, _/_, _%_, _^_}
+use native.Mathlib.Omega.{arith}
 use lib.ListN.{length}
-use lib.Dec.{eqb, lit<}
+use lib.Dec.{eqb}
 use borrow.Author.Tests.{eq-eqb, ne-eqb}
+use mir.Syntax.{w16}
+use mir.Val.{Fits}
 use Rattle.type_id.specs.declared.AdsTypeId.{AdsTypeId}
 use Rattle.type_id.specs.TypeId.{idOf, numberOf}
 use Rattle.typebook.specs.Book.{typeIdOf}
 use Rattle.type_category.specs.declared.type_category.AdsTypeCategory.{AdsTypeCategory}
-use Rattle.type_category.specs.declared.type_category.AdsTypeCategory.the-variants.{None, Primitive, Alias, Enum, Array, Struct, FunctionBlock, Program, Function, SubRange, String, Bitset, Pointer, Union, Reference, Interface}
 use Rattle.type_category.specs.Category.{categoryOf}
-use Rattle.validators.specs.Validate.{unknownOf, sameId, placeOf, isIn, indirect, typeIdRefusal, integerRefusal, categoryRefusal, sizeRefusal}
+use Rattle.category_number.specs.Number.{categoryNumber}
+use Rattle.category_number.proofs.Numbers.{number-small}
+use Rattle.validators.specs.Validate.{unknownOf, sameId, isIn, indirect, typeIdRefusal, integerRefusal, categoryRefusal, sizeRefusal}
 
 -- same_id
 module _ (a b : AdsTypeId) (x : ℕ) (e : x ≡ numberOf a) (y : ℕ) (q : y ≡ numberOf b) where
@@ -25,27 +29,12 @@ module _ (a b : AdsTypeId) (x : ℕ) (e : x ≡ numberOf a) (y : ℕ) (q : y ≡
   ids-same h s p t o = sym (rw (← e, ← q, eq-eqb x y h, ← p, ← o))
 
 -- is_in
-place-below : (c : AdsTypeCategory) → placeOf c < 16
-place-below None = lit< tt
-place-below Primitive = lit< tt
-place-below Alias = lit< tt
-place-below Enum = lit< tt
-place-below Array = lit< tt
-place-below Struct = lit< tt
-place-below FunctionBlock = lit< tt
-place-below Program = lit< tt
-place-below Function = lit< tt
-place-below SubRange = lit< tt
-place-below String = lit< tt
-place-below Bitset = lit< tt
-place-below Pointer = lit< tt
-place-below Union = lit< tt
-place-below Reference = lit< tt
-place-below Interface = lit< tt
-
-module _ (c : AdsTypeCategory) (r : ℕ) (e : r ≡ placeOf c) where
+module _ (c : AdsTypeCategory) (r : ℕ) (e : r ≡ categoryNumber c) where
   pub shift-fits : r < 16
-  shift-fits = rw e (place-below c)
+  shift-fits = rw e (number-small c)
+
+  pub shift-kept : Fits w16 r
+  shift-kept = record { fits = omega (arith, number-small c) }
 
   pub in-set : (set : ℕ) → eqb (set / 2 ^ r % 2) 1 ≡ isIn c set
   in-set set = rw e

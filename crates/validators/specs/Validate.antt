@@ -9,10 +9,11 @@ use Rattle.type_id.specs.declared.AdsTypeId.the-variants as id
 use Rattle.type_id.specs.TypeId.{idOf, numberOf}
 use Rattle.typebook.specs.Book.{typeIdOf}
 use Rattle.type_category.specs.declared.type_category.AdsTypeCategory.{AdsTypeCategory}
-use Rattle.type_category.specs.declared.type_category.AdsTypeCategory.the-variants.{None, Primitive, Alias, Enum, Array, Struct, FunctionBlock, Program, Function, SubRange, String, Bitset, Pointer, Union, Reference, Interface}
+use Rattle.type_category.specs.declared.type_category.AdsTypeCategory.the-variants.{Pointer, Reference, Interface}
 use Rattle.validators.specs.declared.Validity.{Validity}
 use Rattle.validators.specs.declared.Validity.the-variants.{Valid, TypeMismatch, SizeMismatch}
 use Rattle.type_category.specs.Category.{categoryOf}
+use Rattle.category_number.specs.Number.{categoryNumber}
 
 -- document 01's number of an answer; 0 where nothing is refused
 abbrev pub refusalOf : Validity → ℕ
@@ -45,32 +46,13 @@ unknownOf (id.Unknown k) = 1
 unfoldable pub sameId : AdsTypeId → AdsTypeId → Bool
 sameId a b = eqb (numberOf a) (numberOf b) && eqb (unknownOf a) (unknownOf b)
 
--- a category's place in the Rust's declaration, from 0 on
-abbrev pub placeOf : AdsTypeCategory → ℕ
-placeOf None = 0
-placeOf Primitive = 1
-placeOf Alias = 2
-placeOf Enum = 3
-placeOf Array = 4
-placeOf Struct = 5
-placeOf FunctionBlock = 6
-placeOf Program = 7
-placeOf Function = 8
-placeOf SubRange = 9
-placeOf String = 10
-placeOf Bitset = 11
-placeOf Pointer = 12
-placeOf Union = 13
-placeOf Reference = 14
-placeOf Interface = 15
-
--- a set of categories is a number whose bit i stands for the category of place i
+-- a set of categories is a number whose bit i stands for the category of number i
 abbrev pub isIn : AdsTypeCategory → ℕ → Bool
-isIn c set = eqb (set / 2 ^ placeOf c % 2) 1
+isIn c set = eqb (set / 2 ^ categoryNumber c % 2) 1
 
 -- pointers, references and interfaces: they hold an integer of a pointer's width
 abbrev pub indirect : ℕ
-indirect = 2 ^ placeOf Pointer + 2 ^ placeOf Reference + 2 ^ placeOf Interface
+indirect = 2 ^ categoryNumber Pointer + 2 ^ categoryNumber Reference + 2 ^ categoryNumber Interface
 
 -- 17 unless block n has the expected type id
 unfoldable pub typeIdRefusal : List ℕ → ℕ → AdsTypeId → ℕ

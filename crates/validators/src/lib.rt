@@ -1,6 +1,7 @@
 // Tests on a type before its bytes are read or written.
 ghost use mathlib.Core.Path.{_≡_};
-ghost use Rattle.validators.specs.Validate.{refusalOf, unknownOf, sameId, placeOf, isIn, typeIdRefusal, integerRefusal, categoryRefusal, sizeRefusal};
+ghost use Rattle.validators.specs.Validate.{refusalOf, unknownOf, sameId, isIn, typeIdRefusal, integerRefusal, categoryRefusal, sizeRefusal};
+use category_number::number;
 use type_category::type_category::AdsTypeCategory;
 use type_id::AdsTypeId;
 use typebook::block;
@@ -46,7 +47,7 @@ pub fn validate_integer_type_id(
     validate_type_id(book, n, expected)
 }
 
-// Whether the category of block n is in a set: bit i of `expected` stands for the category that is declared at place i.
+// Whether the category of block n is in a set: bit i of `expected` stands for the category of number i.
 pub fn validate_type_category(book: &[u8], n: u32, expected: u16, width: u8) -> Validity
     ensures { λ r. ⌜ refusalOf r ≡ categoryRefusal (now (book .entry)) n expected width ⌝ }
 {
@@ -102,33 +103,9 @@ fn unknown(id: AdsTypeId) -> u8
     }
 }
 
-// The place of a category among the declared ones.
-fn place(category: AdsTypeCategory) -> u16
-    ensures { λ r. ⌜ r ≡ placeOf category ⌝ }
-{
-    match category {
-        AdsTypeCategory::None => 0,
-        AdsTypeCategory::Primitive => 1,
-        AdsTypeCategory::Alias => 2,
-        AdsTypeCategory::Enum => 3,
-        AdsTypeCategory::Array => 4,
-        AdsTypeCategory::Struct => 5,
-        AdsTypeCategory::FunctionBlock => 6,
-        AdsTypeCategory::Program => 7,
-        AdsTypeCategory::Function => 8,
-        AdsTypeCategory::SubRange => 9,
-        AdsTypeCategory::String => 10,
-        AdsTypeCategory::Bitset => 11,
-        AdsTypeCategory::Pointer => 12,
-        AdsTypeCategory::Union => 13,
-        AdsTypeCategory::Reference => 14,
-        AdsTypeCategory::Interface => 15,
-    }
-}
-
 // Whether a category is in a set.
 fn is_in(category: AdsTypeCategory, set: u16) -> bool
     ensures { λ r. ⌜ r ≡ isIn category set ⌝ }
 {
-    (set >> place(category)) % 2 == 1
+    (set >> number(category)) % 2 == 1
 }

@@ -10,7 +10,6 @@ use crate::answer::put_number;
 use crate::packing::unpack;
 use crate::sums::SUM;
 use crate::sums::put_sum;
-use book_check::BookCheck;
 use book_check::RootCheck;
 use case_file::input::byte_at;
 use case_file::input::first;
@@ -25,7 +24,10 @@ pub(crate) fn run(operation: u8, input: &[u8], book: &mut [u8], len: usize) -> R
         64 => keep(input, book),
         65 => byte(refusal_of_root(book_check::check_root(book, len, u64_at(input, 0)))),
         66 => byte(changed(input, book, len)),
-        67 => byte(ordinal(category(input, first(book, len)))),
+        67 => number(
+            category_number::number(category(input, first(book, len))) as u64,
+            1,
+        ),
         68 => resolution(resolvers::resolve_alias(
             book,
             len,
@@ -55,16 +57,6 @@ fn refusal_of_root(check: RootCheck) -> u8 {
     }
 }
 
-fn refusal_of(check: BookCheck) -> u8 {
-    match check {
-        BookCheck::Valid => 0,
-        BookCheck::Size => 1,
-        BookCheck::Sum => 2,
-        BookCheck::Form => 3,
-        BookCheck::Doubled => 4,
-    }
-}
-
 // Makes the sum of the block at a place right, where that is asked for.
 fn mend(book: &mut [u8], block: u32, is_asked: bool) {
     if is_asked {
@@ -84,29 +76,7 @@ fn changed(input: &[u8], book: &mut [u8], len: usize) -> u8 {
     let check = book_check::check_book(book, len);
     put_number(book, sum_at, sum as u64, 4);
     put_byte(book, place, old);
-    refusal_of(check)
-}
-
-// The place of a category in the list of categories.
-fn ordinal(category: AdsTypeCategory) -> u8 {
-    match category {
-        AdsTypeCategory::None => 0,
-        AdsTypeCategory::Primitive => 1,
-        AdsTypeCategory::Alias => 2,
-        AdsTypeCategory::Enum => 3,
-        AdsTypeCategory::Array => 4,
-        AdsTypeCategory::Struct => 5,
-        AdsTypeCategory::FunctionBlock => 6,
-        AdsTypeCategory::Program => 7,
-        AdsTypeCategory::Function => 8,
-        AdsTypeCategory::SubRange => 9,
-        AdsTypeCategory::String => 10,
-        AdsTypeCategory::Bitset => 11,
-        AdsTypeCategory::Pointer => 12,
-        AdsTypeCategory::Union => 13,
-        AdsTypeCategory::Reference => 14,
-        AdsTypeCategory::Interface => 15,
-    }
+    codes::refusal(check)
 }
 
 fn category(input: &[u8], book: &[u8]) -> AdsTypeCategory {

@@ -4,7 +4,7 @@ use Rattle.field_plan.proofs.note.Statement.{statement}
 use Rattle.field_plan.proofs.note.Tie as tie
 use Rattle.field_plan.proofs.note.Reads as reads
 use Rattle.field_plan.proofs.note.Lts as lts
-use Rattle.field_plan.proofs.place.Reads as place-reads
+use Rattle.category_number.proofs.number.Reads as number-reads
 
 ruleset exits = (note-here, note-past)
 
@@ -14,8 +14,8 @@ mul-plan c = search needs
 add-plan : tie.Need-add-plan
 add-plan c = search needs
 
-place-requires : tie.Need-place-requires
-place-requires c κs = search needs
+number-requires : tie.Need-number-requires
+number-requires c κs = search needs
 
 add-plan-2 : tie.Need-add-plan-2
 add-plan-2 c = search note-fits
@@ -41,7 +41,7 @@ note-spec =
     (tie.spec
     mul-plan
     add-plan
-    place-requires
+    number-requires
     add-plan-2
     mul-plan-2
     slice-write-plan

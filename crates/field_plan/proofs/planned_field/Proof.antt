@@ -4,7 +4,7 @@ use Rattle.field_plan.proofs.planned_field.Statement.{statement}
 use Rattle.field_plan.proofs.planned_field.Tie as tie
 use Rattle.field_plan.proofs.planned_field.Reads as reads
 use Rattle.field_plan.proofs.planned_field.Lts as lts
-use Rattle.field_plan.proofs.category_at.Reads as category-at-reads
+use Rattle.category_number.proofs.category_at.Reads as category-at-reads
 use Rattle.field_plan.proofs.plan_field.Reads as plan-field-reads
 use Rattle.typebook.proofs.block.offset.Reads as offset-reads
 use Rattle.typebook.proofs.block.size.Reads as size-reads
