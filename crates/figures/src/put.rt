@@ -1,10 +1,9 @@
 // Bytes put one after the other. Each function takes the place that the one before it answered, so that what does not fit
 // is handed on and several follow each other without a test.
-ghost use mathlib.Core.Path.{_≡_};
 ghost use mathlib.Core.List.{[], _∷_};
-ghost use lib.ListN.{length, replicate};
 ghost use Rattle.figures.specs.Puts.{Puts, Ended};
 use utf_8::Put;
+use zeros::clear_bytes;
 
 // One byte.
 pub fn put_byte(p: Put, byte: u8, out: &mut [u8]) -> Put
@@ -35,17 +34,6 @@ pub fn put_bytes(p: Put, bytes: &[u8], out: &mut [u8]) -> Put
     next
 }
 
-// Sets a whole buffer to 0.
-fn clear(out: &mut [u8])
-    ensures { λ _. ⌜ now (out .exit) ≡ replicate (length (now (out .entry))) 0 ⌝ }
-{
-    let mut i = 0;
-    while i < out.len() {
-        out[i] = 0;
-        i += 1;
-    }
-}
-
 // The answer after the last byte: where not all fit, the buffer is all zeros.
 pub fn finish(p: Put, out: &mut [u8]) -> Put
     ensures { λ r. ⌜ Ended p (now (out .entry)) r (now (out .exit)) ⌝ }
@@ -53,7 +41,7 @@ pub fn finish(p: Put, out: &mut [u8]) -> Put
     match p {
         Put::Next(n) => Put::Next(n),
         Put::Full => {
-            clear(out);
+            clear_bytes(out);
             Put::Full
         }
     }

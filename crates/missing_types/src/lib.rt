@@ -13,11 +13,11 @@ ghost use Rattle.missing_types.specs.Calls.{listFits, Walked, MissingIn,
 ghost use Rattle.missing_types.specs.State.{Applied};
 use book_check::RootCheck;
 use events::Event;
-use visits::clear;
 use walks::MAX_TYPES_VISITED;
 use walks::SCRATCH;
 use walks::start;
 use walks::step;
+use zeros::clear_numbers;
 
 // What `missing_types` answers.
 pub enum Missing {
@@ -96,9 +96,9 @@ pub fn missing_types_in(
     requires { ⌜ ValidBook (now book) × LinksOf (now book) (now links) × (isType (now book) root ≡ true) × (16384 ≤ length (now scratch)) × (4096 ≤ length (now list)) ⌝ }
     ensures { λ r. ⌜ MissingIn true (now (book .entry)) width root (now (scratch .entry)) (now (list .entry)) r (now (scratch .exit)) (now (list .exit)) ⌝ }
 {
-    clear(scratch);
+    clear_numbers(scratch);
     let answer = missing_walk(book, index, links, width, root, scratch, list);
-    clear(scratch);
+    clear_numbers(scratch);
     answer
 }
 

@@ -16,11 +16,11 @@ ghost use Rattle.read_modify_write.specs.State.{Decided};
 use book_check::RootCheck;
 use events::Event;
 use type_category::type_category::AdsTypeCategory;
-use visits::clear;
 use walks::MAX_TYPES_VISITED;
 use walks::SCRATCH;
 use walks::start;
 use walks::step;
+use zeros::clear_numbers;
 
 // What `requires_read_modify_write` answers.
 pub enum Rmw {
@@ -125,9 +125,9 @@ pub fn requires_read_modify_write_in(
     requires { ⌜ ValidBook (now book) × LinksOf (now book) (now links) × (isType (now book) root ≡ true) × (16384 ≤ length (now scratch)) ⌝ }
     ensures { λ r. ⌜ RmwIn true (now (book .entry)) width root (now (scratch .entry)) r (now (scratch .exit)) ⌝ }
 {
-    clear(scratch);
+    clear_numbers(scratch);
     let answer = rmw_walk(book, index, links, width, root, scratch);
-    clear(scratch);
+    clear_numbers(scratch);
     answer
 }
 

@@ -1,7 +1,6 @@
 // The steps of a read: where the next record and the next text byte go, or the refusal that ended it.
 ghost use mathlib.Core.Path.{_≡_};
 ghost use Prim.Native.Nat.{_-_, _≤_};
-ghost use lib.ListN.{length, replicate};
 ghost use Rattle.utf_8.specs.Buffer.{Wrote};
 ghost use Rattle.steps.specs.Answer.{refusalOf, Finished};
 ghost use Rattle.steps.specs.Text.{decodedBy};
@@ -10,6 +9,7 @@ use tape::record::LENGTH;
 use tape::record::Record;
 use tape::record::TEXT;
 use utf_8::Put;
+use zeros::clear_bytes;
 
 pub enum Step {
     // The next place on the tape, and in the text.
@@ -100,17 +100,6 @@ fn text_record(tape: &mut [u8], at: usize, from: usize, to: usize) -> Put
     )
 }
 
-// Sets a whole buffer to 0.
-fn clear(buffer: &mut [u8])
-    ensures { λ _. ⌜ now (buffer .exit) ≡ replicate (length (now (buffer .entry))) 0 ⌝ }
-{
-    let mut i = 0;
-    while i < buffer.len() {
-        buffer[i] = 0;
-        i += 1;
-    }
-}
-
 // A refusal as an answer.
 fn refusal_of(n: u8, b: u32) -> ReadAnswer
     ensures { λ r. ⌜ r ≡ refusalOf n b ⌝ }
@@ -128,8 +117,8 @@ pub fn finish(s: Step, tape: &mut [u8], text: &mut [u8]) -> ReadAnswer
     match s {
         Step::Next(n, m) => ReadAnswer::Done(n / LENGTH, m),
         Step::Stop(k, b) => {
-            clear(tape);
-            clear(text);
+            clear_bytes(tape);
+            clear_bytes(text);
             refusal_of(k, b)
         }
     }

@@ -1,7 +1,5 @@
 // The look-up of a type by its name with a lent index, which spares the search of the book, and the making of such an index.
-ghost use mathlib.Core.Path.{_≡_};
 ghost use Prim.Native.Nat.{_<_};
-ghost use lib.ListN.{length, replicate};
 ghost use Rattle.type_provider.specs.Find.{searched as searchedOf};
 ghost use Rattle.type_index.specs.Index.{FoundBy, IndexOf};
 ghost use Rattle.type_index.specs.Probe.{Probed, LookedUp, Entered};
@@ -10,6 +8,7 @@ use type_provider::find;
 use type_provider::is_named;
 use type_provider::searched;
 use typebook::block;
+use zeros::clear_numbers;
 
 // How many slots of an index are tried for a name.
 const PROBES: usize = 64;
@@ -143,23 +142,12 @@ fn enter(book: &[u8], index: &mut [u32], n: u32)
     index[at] = n + 1;
 }
 
-// Empties every slot.
-fn clear(index: &mut [u32])
-    ensures { λ _. ⌜ now (index .exit) ≡ replicate (length (now (index .entry))) 0 ⌝ }
-{
-    let mut i = 0;
-    while i < index.len() {
-        index[i] = 0;
-        i += 1;
-    }
-}
-
 // Makes an index of the book's type blocks for `find_by`: a slot is 0, or one more than a block's number. Four slots a
 // type serve well. A block that finds no free slot is left out: `find_by` then searches the book.
 pub fn fill_index(book: &[u8], index: &mut [u32])
     ensures { λ _. ⌜ IndexOf (now (book .entry)) (now (index .entry)) (now (index .exit)) ⌝ }
 {
-    clear(index);
+    clear_numbers(index);
     let n = searched(book);
     let mut i: u32 = 0;
     while i < n {

@@ -4,7 +4,7 @@
 ghost use mathlib.Core.Path.{_≡_};
 ghost use mathlib.Core.Bool.{true};
 ghost use Prim.Native.Nat.{_≤_, _<_};
-ghost use lib.ListN.{length, take as first, replicate};
+ghost use lib.ListN.{length, take as first};
 ghost use Rattle.typebook.specs.Book.{isType};
 ghost use Rattle.book_check.specs.Check.{ValidBook};
 ghost use Rattle.visits.specs.Parts.{partsKind};
@@ -69,17 +69,6 @@ pub fn take(scratch: &mut [u32], depth: usize) -> Taken
     Taken {
         block: t + k,
         depth,
-    }
-}
-
-// Sets the whole scratch to 0.
-pub fn clear(scratch: &mut [u32])
-    ensures { λ _. ⌜ now (scratch .exit) ≡ replicate (length (now (scratch .entry))) 0 ⌝ }
-{
-    let mut i = 0;
-    while i < scratch.len() {
-        scratch[i] = 0;
-        i += 1;
     }
 }
 

@@ -5,14 +5,14 @@ use borrow.Author.Needs.{needs}
 use Rattle.missing_types.proofs.missing_types_in.Statement.{statement}
 use Rattle.missing_types.proofs.missing_types_in.Tie as tie
 
-clear-requires : tie.Need-clear-requires
-clear-requires c κs = search needs
+clear-numbers-requires : tie.Need-clear-numbers-requires
+clear-numbers-requires c κs = search needs
 
 missing-walk-requires : tie.Need-missing-walk-requires
 missing-walk-requires c κs = (search needs, search needs, search needs, search zeros-room, search needs, search zeros)
 
-clear-requires-2 : tie.Need-clear-requires-2
-clear-requires-2 c κs = search needs
+clear-numbers-requires-2 : tie.Need-clear-numbers-requires-2
+clear-numbers-requires-2 c κs = search needs
 
 same-length : tie.Need-same-length
 same-length c = search needs
@@ -27,9 +27,9 @@ pub missing-types-in-spec : {M : Type 1} → statement M
 missing-types-in-spec =
     tie.close
     (tie.spec
-    clear-requires
+    clear-numbers-requires
     missing-walk-requires
-    clear-requires-2
+    clear-numbers-requires-2
     same-length
     same-length-2
     returns)

@@ -5,14 +5,14 @@ use borrow.Author.Needs.{needs}
 use Rattle.read_modify_write.proofs.requires_read_modify_write_in.Statement.{statement}
 use Rattle.read_modify_write.proofs.requires_read_modify_write_in.Tie as tie
 
-clear-requires : tie.Need-clear-requires
-clear-requires c κs = search needs
+clear-numbers-requires : tie.Need-clear-numbers-requires
+clear-numbers-requires c κs = search needs
 
 rmw-walk-requires : tie.Need-rmw-walk-requires
 rmw-walk-requires c κs = (search needs, search needs, search needs, search zeros-room, search zeros)
 
-clear-requires-2 : tie.Need-clear-requires-2
-clear-requires-2 c κs = search needs
+clear-numbers-requires-2 : tie.Need-clear-numbers-requires-2
+clear-numbers-requires-2 c κs = search needs
 
 same-length : tie.Need-same-length
 same-length c = search needs
@@ -24,8 +24,8 @@ pub requires-read-modify-write-in-spec : {M : Type 1} → statement M
 requires-read-modify-write-in-spec =
     tie.close
     (tie.spec
-    clear-requires
+    clear-numbers-requires
     rmw-walk-requires
-    clear-requires-2
+    clear-numbers-requires-2
     same-length
     returns)

@@ -14,8 +14,8 @@ abbrev μ-loop : tie.MeasureT-loop
 μ-loop book index₀ n i₀ index i =
     n - i
 
-clear-requires : tie.Need-clear-requires Inv-loop μ-loop
-clear-requires c κs = search needs
+clear-numbers-requires : tie.Need-clear-numbers-requires Inv-loop μ-loop
+clear-numbers-requires c κs = search needs
 
 searched-requires : tie.Need-searched-requires Inv-loop μ-loop
 searched-requires c κs = search needs
@@ -47,7 +47,7 @@ fill-index-spec =
     (tie.spec
     Inv-loop
     μ-loop
-    clear-requires
+    clear-numbers-requires
     searched-requires
     loop-holds
     enter-requires

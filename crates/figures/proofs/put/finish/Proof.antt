@@ -4,7 +4,7 @@ use Rattle.figures.proofs.put.finish.Statement.{statement}
 use Rattle.figures.proofs.put.finish.Tie as tie
 use Rattle.figures.proofs.put.finish.Reads as reads
 use Rattle.figures.proofs.put.finish.Lts as lts
-use Rattle.figures.proofs.put.clear.Reads as clear-reads
+use Rattle.zeros.proofs.clear_bytes.Reads as clear-bytes-reads
 
 enum-known-p : tie.Need-enum-known-p
 enum-known-p c = search needs
@@ -12,8 +12,8 @@ enum-known-p c = search needs
 enum-told : tie.Need-enum-told
 enum-told c = search needs
 
-clear-requires : tie.Need-clear-requires
-clear-requires c κs = search needs
+clear-bytes-requires : tie.Need-clear-bytes-requires
+clear-bytes-requires c κs = search needs
 
 returns : tie.Need-returns
 returns c = search ended-next
@@ -26,4 +26,4 @@ returns-2 c = search ended-full
 
 pub finish-spec : {M : Type 1} → statement M
 finish-spec =
-    tie.close (tie.spec enum-known-p enum-told clear-requires returns same-length returns-2)
+    tie.close (tie.spec enum-known-p enum-told clear-bytes-requires returns same-length returns-2)

@@ -1,3 +1,4 @@
+-- `clear_bytes` meets its contract. The loop keeps: zeros up to `i`, and the rest as it was. Assumes nothing.
 use borrow.Author.Needs.{needs}
 use borrow.Author.Fill.{fill-more}
 use mathlib.Core.Path.{_≡_, refl, ap, _∙_}
@@ -6,10 +7,8 @@ use Prim.Native.Nat.{ℕ, _≤_, _-_}
 use native.Mathlib.Omega.{arith}
 use lib.ListN.{length, replicate, drop, set, length-set}
 use lib.Seq.{drop-length}
-use Rattle.steps.proofs.clear.Statement.{statement}
-use Rattle.steps.proofs.clear.Tie as tie
-use Rattle.steps.proofs.clear.Reads as reads
-use Rattle.steps.proofs.clear.Lts as lts
+use Rattle.zeros.proofs.clear_bytes.Statement.{statement}
+use Rattle.zeros.proofs.clear_bytes.Tie as tie
 
 abbrev Inv-loop : tie.InvT-loop
 Inv-loop buffer₀ i₀ buffer i = (i ≤ length buffer) × (buffer ≡ replicate i 0 ++ drop i buffer₀) × (length buffer ≡ length buffer₀)
@@ -43,8 +42,8 @@ returns c =
     let e : c .before .loop .i ≡ length (c .before .before .args .buffer .now) = omega arith in
     c .before .loop .inv .1 ∙ rw (e, drop-length, append-nil)
 
-pub clear-spec : {M : Type 1} → statement M
-clear-spec =
+pub clear-bytes-spec : {M : Type 1} → statement M
+clear-bytes-spec =
     tie.close
     (tie.spec
     Inv-loop
