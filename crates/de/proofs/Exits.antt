@@ -53,38 +53,38 @@ map-ready book width t plan k y ey ek z g = g .given (sym (shape-is (ctx book wi
 pub given-none : (c : Ctx) (t : ℕ) (l : List ℕ) → Given c t (take (0 - 0) (drop 0 l))
 given-none c t l = record { given = λ h. ready-none (c .book) (c .width) t }
 
-module _ (c : Ctx) (left t : ℕ) (mem : List ℕ) {tape tape′ txt txt′ : List ℕ} {s r : Step} where
-  pub value-deep : left ≡ 0 → Halts s 14 0 r → From (walk c left (whole t) mem) tape txt s r tape′ txt′
+module _ (c : Ctx) (left t : ℕ) (mem : List ℕ) {tape txt : List ℕ} {s r : Step} where
+  pub value-deep : left ≡ 0 → Halts s 14 0 r → From (walk c left (whole t) mem) tape txt s r tape txt
   value-deep e h = from-as (walks.walk-deep c left mem (whole t) e) (halted h)
 
   module _ (n : left ≡ 0 → ⊥) (k : Shape) (y : AdsTypeCategory) (ey : y ≡ categoryOf (c .book) (c .width) t) (ek : k ≡ shapeOf y) where
-    pub value-map : k ≡ shape.Map → From (mapOf (walk c (left - 1)) c t mem) tape txt s r tape′ txt′ → From (walk c left (whole t) mem) tape txt s r tape′ txt′
+    pub value-map : {tape′ txt′ : List ℕ} → k ≡ shape.Map → From (mapOf (walk c (left - 1)) c t mem) tape txt s r tape′ txt′ → From (walk c left (whole t) mem) tape txt s r tape′ txt′
     unfolding shapeWalk
     value-map q h = from-as (walks.walk-shape c left mem t shape.Map n (sym q ∙ shape-is c t k y ey ek)) h
 
-    pub value-array : k ≡ shape.Array → From (arrayOf (walk c (left - 1)) c t mem) tape txt s r tape′ txt′ → From (walk c left (whole t) mem) tape txt s r tape′ txt′
+    pub value-array : {tape′ txt′ : List ℕ} → k ≡ shape.Array → From (arrayOf (walk c (left - 1)) c t mem) tape txt s r tape′ txt′ → From (walk c left (whole t) mem) tape txt s r tape′ txt′
     unfolding shapeWalk
     value-array q h = from-as (walks.walk-shape c left mem t shape.Array n (sym q ∙ shape-is c t k y ey ek)) h
 
-    pub value-leaf : k ≡ shape.Leaf → From (traceOf (leafAt (c .book) (c .width) t mem) mem) tape txt s r tape′ txt′ → From (walk c left (whole t) mem) tape txt s r tape′ txt′
+    pub value-leaf : {tape′ txt′ : List ℕ} → k ≡ shape.Leaf → From (traceOf (leafAt (c .book) (c .width) t mem) mem) tape txt s r tape′ txt′ → From (walk c left (whole t) mem) tape txt s r tape′ txt′
     unfolding shapeWalk leafOf
     value-leaf q h = from-as (walks.walk-shape c left mem t shape.Leaf n (sym q ∙ shape-is c t k y ey ek)) h
 
 -- ---- member
 
 module _ (child : Child) (c : Ctx) (mem : List ℕ) (f : ℕ) {tape tape₁ txt txt₁ : List ℕ} {s k r : Step} (key : From (one (rec 4 0 f 0)) tape txt s k tape₁ txt₁)
-    (a : Planned) (q : PlannedIs (c .book) (c .width) f a) {tape₂ txt₂ : List ℕ} where
-  pub member-lacks : (b : ℕ) → a ≡ planned.Lacks b → Halts k 7 b r → From (memberOf child c mem f) tape txt s r tape₂ txt₂
+    (a : Planned) (q : PlannedIs (c .book) (c .width) f a) where
+  pub member-lacks : (b : ℕ) → a ≡ planned.Lacks b → Halts k 7 b r → From (memberOf child c mem f) tape txt s r tape₁ txt₁
   member-lacks b e h = from-as (walks.member-lacks child c mem f b (q .lacks b e)) (chain key (halted h))
 
-  pub member-endless : a ≡ planned.Endless → Halts k 8 0 r → From (memberOf child c mem f) tape txt s r tape₂ txt₂
+  pub member-endless : a ≡ planned.Endless → Halts k 8 0 r → From (memberOf child c mem f) tape txt s r tape₁ txt₁
   member-endless e h = from-as (walks.member-endless child c mem f (q .endless e)) (chain key (halted h))
 
   module _ (x : PlannedField) (e : a ≡ planned.Field x) where
-    pub member-over : length mem < x .offset + x .size → Halts k 10 0 r → From (memberOf child c mem f) tape txt s r tape₂ txt₂
+    pub member-over : length mem < x .offset + x .size → Halts k 10 0 r → From (memberOf child c mem f) tape txt s r tape₁ txt₁
     member-over l h = from-as (walks.member-over child c mem f x (q .field x e) l) (chain key (halted h))
 
-    pub member-value : x .offset + x .size ≤ length mem → From (child (whole (x .resolved)) (take (x .offset + x .size - x .offset) (drop (x .offset) mem))) tape₁ txt₁ k r tape₂ txt₂
+    pub member-value : {tape₂ txt₂ : List ℕ} → x .offset + x .size ≤ length mem → From (child (whole (x .resolved)) (take (x .offset + x .size - x .offset) (drop (x .offset) mem))) tape₁ txt₁ k r tape₂ txt₂
         → From (memberOf child c mem f) tape txt s r tape₂ txt₂
     member-value l v =
         let z : x .offset + x .size - x .offset ≡ x .size = omega arith in
@@ -113,63 +113,63 @@ module _ (child : Child) (c : Ctx) (t n : ℕ) (mem : List ℕ) where
 
 -- ---- map
 
-module _ (child : Child) (c : Ctx) (t size : ℕ) (sz : size ≡ sizeOf (c .book) t) (mem : List ℕ) {tape tape′ txt txt′ : List ℕ} {s r : Step} where
-  pub map-odd : (length mem ≡ size → ⊥) → Halts s 10 0 r → From (mapOf child c t mem) tape txt s r tape′ txt′
+module _ (child : Child) (c : Ctx) (t size : ℕ) (sz : size ≡ sizeOf (c .book) t) (mem : List ℕ) {tape txt : List ℕ} {s r : Step} where
+  pub map-odd : (length mem ≡ size → ⊥) → Halts s 10 0 r → From (mapOf child c t mem) tape txt s r tape txt
   map-odd o h = from-as (walks.map-odd child c mem t size sz o) (halted h)
 
-  pub map-given : (plan : List ℕ) → length mem ≡ size → Ready (c .book) (c .width) t plan → 0 < length plan → From (membersOf child c t mem) tape txt s r tape′ txt′ → From (mapOf child c t mem) tape txt s r tape′ txt′
+  pub map-given : {tape′ txt′ : List ℕ} (plan : List ℕ) → length mem ≡ size → Ready (c .book) (c .width) t plan → 0 < length plan → From (membersOf child c t mem) tape txt s r tape′ txt′ → From (mapOf child c t mem) tape txt s r tape′ txt′
   unfolding checked
   map-given plan ev g l h = from-as (walks.map-even child c mem t size sz ev check.Fine (sym (g .fine (λ z. absurd (omega arith))))) h
 
   module _ (ev : length mem ≡ size) (k : FieldsCheck) (after : List ℕ) (p : PlanIs (c .book) (c .width) t k after) where
-    pub map-fine : k ≡ check.Fine → From (membersOf child c t mem) tape txt s r tape′ txt′ → From (mapOf child c t mem) tape txt s r tape′ txt′
+    pub map-fine : {tape′ txt′ : List ℕ} → k ≡ check.Fine → From (membersOf child c t mem) tape txt s r tape′ txt′ → From (mapOf child c t mem) tape txt s r tape′ txt′
     unfolding checked
     map-fine e h = from-as (walks.map-even child c mem t size sz ev check.Fine (sym e ∙ p .is)) h
 
-    pub map-lacks : (b : ℕ) → k ≡ check.Lacks b → Halts s 7 b r → From (mapOf child c t mem) tape txt s r tape′ txt′
+    pub map-lacks : (b : ℕ) → k ≡ check.Lacks b → Halts s 7 b r → From (mapOf child c t mem) tape txt s r tape txt
     unfolding checked
     map-lacks b e h = from-as (walks.map-even child c mem t size sz ev (check.Lacks b) (sym e ∙ p .is)) (halted h)
 
-    pub map-endless : k ≡ check.Endless → Halts s 8 0 r → From (mapOf child c t mem) tape txt s r tape′ txt′
+    pub map-endless : k ≡ check.Endless → Halts s 8 0 r → From (mapOf child c t mem) tape txt s r tape txt
     unfolding checked
     map-endless e h = from-as (walks.map-even child c mem t size sz ev check.Endless (sym e ∙ p .is)) (halted h)
 
 -- ---- array
 
-module _ (child : Child) (c : Ctx) (t size : ℕ) (sz : size ≡ sizeOf (c .book) t) (mem : List ℕ) {tape tape′ txt txt′ : List ℕ} {s r : Step} where
-  pub array-odd : (length mem ≡ size → ⊥) → Halts s 10 0 r → From (arrayOf child c t mem) tape txt s r tape′ txt′
+module _ (child : Child) (c : Ctx) (t size : ℕ) (sz : size ≡ sizeOf (c .book) t) (mem : List ℕ) {tape txt : List ℕ} {s r : Step} where
+  pub array-odd : (length mem ≡ size → ⊥) → Halts s 10 0 r → From (arrayOf child c t mem) tape txt s r tape txt
   array-odd o h = from-as (walks.array-odd child c mem t size sz o) (halted h)
 
   module _ (ev : length mem ≡ size) (k : Resolved) (q : LookedUp (c .book) (c .width) t k) where
-    pub array-lacks : (b : ℕ) → k ≡ resolved.Lacks b → Halts s 7 b r → From (arrayOf child c t mem) tape txt s r tape′ txt′
+    pub array-lacks : (b : ℕ) → k ≡ resolved.Lacks b → Halts s 7 b r → From (arrayOf child c t mem) tape txt s r tape txt
     unfolding arrayBy
     array-lacks b e h = from-as (walks.array-even child c mem t size sz ev (resolved.Lacks b) (sym e ∙ q .is)) (halted h)
 
-    pub array-endless : k ≡ resolved.Endless → Halts s 8 0 r → From (arrayOf child c t mem) tape txt s r tape′ txt′
+    pub array-endless : k ≡ resolved.Endless → Halts s 8 0 r → From (arrayOf child c t mem) tape txt s r tape txt
     unfolding arrayBy
     array-endless e h = from-as (walks.array-even child c mem t size sz ev resolved.Endless (sym e ∙ q .is)) (halted h)
 
     module _ (e : ℕ) (z : k ≡ resolved.Base e) (b : Bool) (p : b ≡ eqb (bytesOf (c .book) t e) (length mem)) where
-      pub array-other : b ≡ false → Halts s 10 0 r → From (arrayOf child c t mem) tape txt s r tape′ txt′
+      pub array-other : b ≡ false → Halts s 10 0 r → From (arrayOf child c t mem) tape txt s r tape txt
       unfolding arrayBy
       array-other h x = from-as (walks.array-even child c mem t size sz ev (resolved.Base e) (sym z ∙ q .is) ∙ rw (← p, h)) (halted x)
 
-      pub array-base : b ≡ true → From (dimensionOf child c 0 t e mem) tape txt s r tape′ txt′ → From (arrayOf child c t mem) tape txt s r tape′ txt′
+      pub array-base : {tape′ txt′ : List ℕ} → b ≡ true → From (dimensionOf child c 0 t e mem) tape txt s r tape′ txt′ → From (arrayOf child c t mem) tape txt s r tape′ txt′
       unfolding arrayBy
       array-base h x = from-as (walks.array-even child c mem t size sz ev (resolved.Base e) (sym z ∙ q .is) ∙ rw (← p, h)) x
 
 -- ---- dimension
 
-module _ (child : Child) (c : Ctx) (d t e : ℕ) (mem : List ℕ) {tape tape′ txt txt′ : List ℕ} {s r : Step} (k : FieldsCheck) (after : List ℕ) (p : ElementChecked c d t e k after) where
-  pub dimension-fine : k ≡ check.Fine → From (elementsOf child c d t e mem) tape txt s r tape′ txt′ → From (dimensionOf child c d t e mem) tape txt s r tape′ txt′
+module _ (child : Child) (c : Ctx) (d t e : ℕ) (mem : List ℕ) {tape txt : List ℕ} {s r : Step} (k : FieldsCheck) (after : List ℕ) (p : ElementChecked c d t e k after) where
+  pub dimension-fine : {tape′ txt′ : List ℕ} → k ≡ check.Fine → From (elementsOf child c d t e mem) tape txt s r tape′ txt′ → From (dimensionOf child c d t e mem) tape txt s r tape′ txt′
   unfolding checked
   dimension-fine z h = from-as (walks.dimension-by child c mem d t e check.Fine (sym z ∙ p .is)) h
 
-  pub dimension-lacks : (b : ℕ) → k ≡ check.Lacks b → Halts s 7 b r → From (dimensionOf child c d t e mem) tape txt s r tape′ txt′
+  pub dimension-lacks : (b : ℕ) → k ≡ check.Lacks b → Halts s 7 b r → From (dimensionOf child c d t e mem) tape txt s r tape txt
   unfolding checked
   dimension-lacks b z h = from-as (walks.dimension-by child c mem d t e (check.Lacks b) (sym z ∙ p .is)) (halted h)
 
-  pub dimension-endless : k ≡ check.Endless → Halts s 8 0 r → From (dimensionOf child c d t e mem) tape txt s r tape′ txt′
+  pub dimension-endless : k ≡ check.Endless → Halts s 8 0 r → From (dimensionOf child c d t e mem) tape txt s r tape txt
   unfolding checked
   dimension-endless z h = from-as (walks.dimension-by child c mem d t e check.Endless (sym z ∙ p .is)) (halted h)
 
@@ -200,14 +200,14 @@ module _ (child : Child) (c : Ctx) (d t e n : ℕ) (mem : List ℕ) where
 
 -- ---- element
 
-module _ (c : Ctx) (left d t e : ℕ) (mem : List ℕ) {tape tape′ txt txt′ : List ℕ} {s r : Step} (b : Bool) (q : b ≡ isLast (c .book) d t) where
-  pub element-last : b ≡ true → From (walk c left (whole e) mem) tape txt s r tape′ txt′ → From (walk c left (elementItem c d t e) mem) tape txt s r tape′ txt′
+module _ (c : Ctx) (left d t e : ℕ) (mem : List ℕ) {tape txt : List ℕ} {s r : Step} (b : Bool) (q : b ≡ isLast (c .book) d t) where
+  pub element-last : {tape′ txt′ : List ℕ} → b ≡ true → From (walk c left (whole e) mem) tape txt s r tape′ txt′ → From (walk c left (elementItem c d t e) mem) tape txt s r tape′ txt′
   element-last h x = rw (walks.item-last c d t e b q h) x
 
-  pub element-deep : b ≡ false → left ≡ 0 → Halts s 14 0 r → From (walk c left (elementItem c d t e) mem) tape txt s r tape′ txt′
+  pub element-deep : b ≡ false → left ≡ 0 → Halts s 14 0 r → From (walk c left (elementItem c d t e) mem) tape txt s r tape txt
   element-deep h z x = from-as (walks.walk-deep c left mem (elementItem c d t e) z) (halted x)
 
-  pub element-further : b ≡ false → (left ≡ 0 → ⊥) → From (dimensionOf (walk c (left - 1)) c (d + 1) t e mem) tape txt s r tape′ txt′
+  pub element-further : {tape′ txt′ : List ℕ} → b ≡ false → (left ≡ 0 → ⊥) → From (dimensionOf (walk c (left - 1)) c (d + 1) t e mem) tape txt s r tape′ txt′
       → From (walk c left (elementItem c d t e) mem) tape txt s r tape′ txt′
   element-further h n x = rw (walks.item-further c d t e b q h) (from-as (walks.walk-further c left mem (d + 1) t e n) x)
 

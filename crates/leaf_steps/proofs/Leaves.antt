@@ -35,14 +35,14 @@ form-single x n e q = rw (e, q)
 pub form-double : {v : LeafValue} (x : Float) (n : ℕ) → v ≡ leaf.Double x → n ≡ realBits (real.Double x) → form.Record 10 0 0 n ≡ formOf v
 form-double x n e q = rw (e, q)
 
-module _ (mem : List ℕ) {tape tape′ txt txt′ : List ℕ} {s r : Step} (v : LeafValue) (f : LeafForm) (q : f ≡ formOf v) where
-  pub leaf-record : (kind width a b : ℕ) → f ≡ form.Record kind width a b → From (one (rec kind width a b)) tape txt s r tape′ txt′ → From (traceOf v mem) tape txt s r tape′ txt′
+module _ (mem : List ℕ) {tape txt : List ℕ} {s r : Step} (v : LeafValue) (f : LeafForm) (q : f ≡ formOf v) where
+  pub leaf-record : {tape′ txt′ : List ℕ} (kind width a b : ℕ) → f ≡ form.Record kind width a b → From (one (rec kind width a b)) tape txt s r tape′ txt′ → From (traceOf v mem) tape txt s r tape′ txt′
   leaf-record kind width a b e h = rw (← q, e) h
 
-  pub leaf-text : (wide : Bool) (n : ℕ) (part : List ℕ) → f ≡ form.Text wide n → part ≡ take n mem → From (one (text (decodedBy wide part))) tape txt s r tape′ txt′ → From (traceOf v mem) tape txt s r tape′ txt′
+  pub leaf-text : {tape′ txt′ : List ℕ} (wide : Bool) (n : ℕ) (part : List ℕ) → f ≡ form.Text wide n → part ≡ take n mem → From (one (text (decodedBy wide part))) tape txt s r tape′ txt′ → From (traceOf v mem) tape txt s r tape′ txt′
   leaf-text wide n part e z h = rw (← q, e, ← z) h
 
-  pub leaf-refused : (k : ℕ) → f ≡ form.Refused k → Halts s k 0 r → From (traceOf v mem) tape txt s r tape′ txt′
+  pub leaf-refused : (k : ℕ) → f ≡ form.Refused k → Halts s k 0 r → From (traceOf v mem) tape txt s r tape txt
   leaf-refused k e h = rw (← q, e) (halted h)
 
 -- the value of type t, by a category that is its own

@@ -10,16 +10,16 @@ use Rattle.steps.specs.declared.ReadAnswer.{ReadAnswer}
 use Rattle.steps.specs.declared.ReadAnswer.the-variants.{Done, NotFound, Refused}
 use Rattle.steps.specs.Trace.{Trace, tapeBytes, textBytes, eventsOf, refuse, stepOf, Ran}
 use Rattle.steps.specs.Answer.{refusalOf, answerOf, bufferAfter, ReadIs, Finished}
-use Rattle.steps.proofs.Runs.{refused, next-stop}
+use Rattle.steps.proofs.Runs.{refused, next-stop, went}
 
 module _ (t : Trace) (tape txt tape₁ txt₁ : List ℕ) (s : Step) (h : Ran t tape txt 0 0 s tape₁ txt₁) (same : length tape₁ ≡ length tape) (same-text : length txt₁ ≡ length txt)
     {r : ReadAnswer} {tape₂ txt₂ : List ℕ} (f : Finished s tape₁ txt₁ r tape₂ txt₂) where
   tape-by : (z : Step) → s ≡ z → tape₂ ≡ bufferAfter z (tapeBytes 0 (eventsOf t)) tape
-  tape-by (Next n m) e = f .on n m e .0 ∙ h .wrote n m e
+  tape-by (Next n m) e = f .on n m e .0 ∙ went (rw e at h) .wrote
   tape-by (Stop n b) e = f .off n b e .0 ∙ ap (λ (k : ℕ). replicate k 0) same
 
   text-by : (z : Step) → s ≡ z → txt₂ ≡ bufferAfter z (textBytes (eventsOf t)) txt
-  text-by (Next n m) e = f .on n m e .1 ∙ h .told n m e
+  text-by (Next n m) e = f .on n m e .1 ∙ went (rw e at h) .told
   text-by (Stop n b) e = f .off n b e .1 ∙ ap (λ (k : ℕ). replicate k 0) same-text
 
   pub read-by : ReadIs t tape txt r tape₂ txt₂

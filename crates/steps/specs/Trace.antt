@@ -1,5 +1,5 @@
 -- A trace: what a read emits, up to its end or its first refusal. It knows of no buffer.
--- `Ran` says what a trace does to a tape and a text buffer, from some places on. Assumes nothing.
+-- `Ran` says what a trace does to a tape and a text buffer, from some places on, in success and in refusal. Assumes nothing.
 use mathlib.Core.Path.{_≡_}
 use mathlib.Core.Bool.{Bool, cond, _&&_}
 use mathlib.Core.List.{List, [], _∷_, _++_}
@@ -69,16 +69,26 @@ fits es at from tapeRoom textRoom = fitsIn (tapeBytes from es) at tapeRoom && fi
 unfoldable pub stepOf : Trace → ℕ → ℕ → ℕ → ℕ → Step
 stepOf t tapeRoom textRoom at from = cond (fits (eventsOf t) at from tapeRoom textRoom) (endOf t at from) (Stop 15 0)
 
--- what a function that runs a trace promises: the answer, and both buffers where it is not refused
+-- the events that are put on the tape and into the text: from the first on, up to one that does not fit
+unfoldable pub fitting : List Event → ℕ → ℕ → ℕ → ℕ → List Event
+fitting [] at from tapeRoom textRoom = []
+fitting (e ∷ es) at from tapeRoom textRoom =
+    cond (fits (e ∷ []) at from tapeRoom textRoom)
+    (e ∷ fitting es (at + length (tapeBytes from (e ∷ []))) (from + length (textBytes (e ∷ []))) tapeRoom textRoom)
+    []
+
+-- what a function that runs a trace promises: the answer, and both buffers, also where it is refused: the events that fit are there
 pub record Ran (t : Trace) (tape txt : List ℕ) (at from : ℕ) (r : Step) (tape′ txt′ : List ℕ) : Type 0 where
   pub answer : r ≡ stepOf t (length tape) (length txt) at from
-  pub wrote : (n m : ℕ) → r ≡ Next n m → tape′ ≡ splice tape at (tapeBytes from (eventsOf t))
-  pub told : (n m : ℕ) → r ≡ Next n m → txt′ ≡ splice txt from (textBytes (eventsOf t))
+  pub wrote : tape′ ≡ splice tape at (tapeBytes from (fitting (eventsOf t) at from (length tape) (length txt)))
+  pub told : txt′ ≡ splice txt from (textBytes (fitting (eventsOf t) at from (length tape) (length txt)))
 
--- a trace that runs after a step: a refusal is handed on
+-- a trace that runs after a step: a refusal is handed on, and leaves both buffers as they were
 pub record From (t : Trace) (tape txt : List ℕ) (s r : Step) (tape′ txt′ : List ℕ) : Type 0 where
   pub on : (at from : ℕ) → s ≡ Next at from → Ran t tape txt at from r tape′ txt′
   pub off : (n b : ℕ) → s ≡ Stop n b → r ≡ Stop n b
+  pub off-tape : (n b : ℕ) → s ≡ Stop n b → tape′ ≡ tape
+  pub off-text : (n b : ℕ) → s ≡ Stop n b → txt′ ≡ txt
 
 -- a refusal after a step
 pub record Halts (s : Step) (n b : ℕ) (r : Step) : Type 0 where

@@ -1,6 +1,8 @@
 // The steps of a read: where the next record and the next text byte go, or the refusal that ended it.
 ghost use mathlib.Core.Path.{_≡_};
-ghost use Prim.Native.Nat.{_-_, _≤_};
+ghost use Prim.Native.Nat.{_+_, _-_, _≤_};
+ghost use lib.Dec.{leb};
+ghost use lib.ListN.{length};
 ghost use Rattle.utf_8.specs.Buffer.{Wrote};
 ghost use Rattle.steps.specs.Answer.{refusalOf, Finished};
 ghost use Rattle.steps.specs.Text.{decodedBy};
@@ -61,22 +63,37 @@ fn decode(wide: bool, bytes: &[u8], text: &mut [u8], at: usize) -> Put
     windows_1252_decoder::decode(bytes, text, at)
 }
 
-// Writes a text and its record, after a step: a refusal is handed on.
+// Whether the tape has room for a record at this place.
+fn has_room(tape: &[u8], at: usize) -> bool
+    ensures { λ r. ⌜ r ≡ leb (at + 24) (length (now (tape .entry))) ⌝ }
+{
+    if tape.len() < at {
+        return false;
+    }
+    LENGTH <= tape.len() - at
+}
+
+// Writes a text and its record, after a step: a refusal is handed on. Room for the record is asked for first, so that a text is
+// written only with its record.
 pub fn put_text(s: Step, wide: bool, bytes: &[u8], tape: &mut [u8], text: &mut [u8]) -> Step
     ensures { λ r. ⌜ From (one (textEvent (decodedBy wide (now (bytes .entry))))) (now (tape .entry)) (now (text .entry)) s r (now (tape .exit)) (now (text .exit)) ⌝ }
 {
     match s {
         Step::Next(at, from) => {
-            let p = decode(wide, bytes, text, from);
-            match p {
-                Put::Next(to) => {
-                    let q = text_record(tape, at, from, to);
-                    match q {
-                        Put::Next(n) => Step::Next(n, to),
-                        Put::Full => Step::Stop(15, 0),
+            if has_room(tape, at) {
+                let p = decode(wide, bytes, text, from);
+                match p {
+                    Put::Next(to) => {
+                        let q = text_record(tape, at, from, to);
+                        match q {
+                            Put::Next(n) => Step::Next(n, to),
+                            Put::Full => Step::Stop(15, 0),
+                        }
                     }
+                    Put::Full => Step::Stop(15, 0),
                 }
-                Put::Full => Step::Stop(15, 0),
+            } else {
+                Step::Stop(15, 0)
             }
         }
         Step::Stop(n, c) => Step::Stop(n, c),

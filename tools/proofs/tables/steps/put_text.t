@@ -1,10 +1,7 @@
 use Rattle.steps.proofs.Runs.{from-next, from-stop}
-use Rattle.steps.proofs.Puts.{text-order, text-full, text-short, text-done}
-ruleset done = (from-next, text-done)
-ruleset short = (from-next, text-short)
-ruleset full = (from-next, text-full)
+use Rattle.steps.proofs.Puts.{text-order, text-full, text-short, text-never, text-done}
+ruleset exits = (from-next, text-done, text-never, text-full, text-short)
 text-record-requires => search text-order
-returns => search done
-returns-2 => search short
-returns-3 => search full
-returns-4 => search from-stop
+returns-5 => search from-stop
+returns.* => search exits
+.* => search needs
