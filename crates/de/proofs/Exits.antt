@@ -121,7 +121,7 @@ module _ (child : Child) (c : Ctx) (t size : ℕ) (sz : size ≡ sizeOf (c .book
   unfolding checked
   map-given plan ev g l h = from-as (walks.map-even child c mem t size sz ev check.Fine (sym (g .fine (λ z. absurd (omega arith))))) h
 
-  module _ (ev : length mem ≡ size) (k : FieldsCheck) (after : List ℕ) (p : PlanIs (c .book) (c .width) t k after) where
+  module _ (ev : length mem ≡ size) (k : FieldsCheck) (before after : List ℕ) (p : PlanIs (c .book) (c .width) t before k after) where
     pub map-fine : {tape′ txt′ : List ℕ} → k ≡ check.Fine → From (membersOf child c t mem) tape txt s r tape′ txt′ → From (mapOf child c t mem) tape txt s r tape′ txt′
     unfolding checked
     map-fine e h = from-as (walks.map-even child c mem t size sz ev check.Fine (sym e ∙ p .is)) h
@@ -235,8 +235,8 @@ pub category-field : {book : List ℕ} {width f : ℕ} {r : Planned} {x : Planne
 category-field {x = x} h q = h .field x q .category-is
 
 -- a plan that was filled has its entries
-pub own-entries : (book : List ℕ) (width t : ℕ) (k : FieldsCheck) (after : List ℕ) → PlanIs book width t k after → k ≡ check.Fine → Entries book width t after
-own-entries book width t k after p z = p .entries z
+pub own-entries : (book : List ℕ) (width t : ℕ) (k : FieldsCheck) (before after : List ℕ) → PlanIs book width t before k after → k ≡ check.Fine → Entries book width t after
+own-entries book width t k before after p z = p .entries z
 
 -- the same for the elements of an array, none of whose fields is refused
 pub own-elements : (c : Ctx) (d t e : ℕ) (k : FieldsCheck) (after : List ℕ) → ElementChecked c d t e k after → k ≡ check.Fine → GivenElement c d t e after

@@ -149,9 +149,9 @@ module _ (c : Ctx) (d t e : ℕ) (b : Bool) (q : b ≡ isLast (c .book) d t) whe
     unfolding shapeAt
     s = ek ∙ ap shapeOf ey
 
-    pub check-map : k ≡ shape.Map → (r : FieldsCheck) → PlanIs (c .book) (c .width) e r plan → ElementChecked c d t e r plan
+    pub check-map : k ≡ shape.Map → (r : FieldsCheck) (before : List ℕ) → PlanIs (c .book) (c .width) e before r plan → ElementChecked c d t e r plan
     unfolding elementCheck shapeCheck
-    check-map z r x = record { is = rw (← q, h, ← s, z) (x .is); entries = λ f l m. x .entries f }
+    check-map z r before x = record { is = rw (← q, h, ← s, z) (x .is); entries = λ f l m. x .entries f }
 
     pub check-array : k ≡ shape.Array → ElementChecked c d t e check.Fine plan
     unfolding elementCheck shapeCheck

@@ -34,7 +34,7 @@ use Rattle.field_types.proofs.Fields.{field-at, field-nothing, fields-more, fie
 use Rattle.field_plan.specs.declared.PlannedField.{PlannedField}
 use Rattle.field_plan.specs.declared.Planned.{Planned}
 use Rattle.field_plan.specs.declared.Planned.the-variants as planned
-use Rattle.field_plan.specs.Plan.{entryOf, FieldIs, PlannedIs, Known, PlanEntry, Entries, Ready, PlanIs}
+use Rattle.field_plan.specs.Plan.{entryOf, FieldIs, PlannedIs, Known, PlanEntry, Entries, Ready, noted, planFrom, planOf, PlanIs}
 
 -- ---- one field
 
@@ -195,10 +195,26 @@ ready-none book width t = record { entries = record { at = λ i l. entry-none bo
 
 -- ---- the loop of `plan_fields_in`
 
--- before the i-th of n fields: the first refusal of all is that of the fields left, and the fields before have their entries
-pub record Planning (book : List ℕ) (width t n i : ℕ) (now : List ℕ) : Type 0 where
+-- the plan after a field, by what it came to
+module _ (book : List ℕ) (width f i k : ℕ) (plan : List ℕ) where
+  plan-lacks : (b : ℕ) → resolveField book width f ≡ answer.Lacks b → planFrom book width f i (suc k) plan ≡ plan
+  unfolding planFrom noted
+  plan-lacks b e = rw e
+
+  plan-endless : resolveField book width f ≡ answer.Endless → planFrom book width f i (suc k) plan ≡ plan
+  unfolding planFrom noted
+  plan-endless e = rw e
+
+  plan-more : (x : PlannedField) → FieldIs book width f x → planFrom book width f i (suc k) plan ≡ planFrom book width (f + 1) (i + 1) k (set plan i (entryOf x))
+  unfolding planFrom noted
+  plan-more x q = rw (q .found, q .resolved-is, ← q .category-is)
+
+-- before the i-th of n fields: the first refusal of all is that of the fields left, the fields before have their entries, and what is
+-- filled from here on is the whole plan
+pub record Planning (book : List ℕ) (width t n : ℕ) (before : List ℕ) (i : ℕ) (now : List ℕ) : Type 0 where
   pub left : fieldsCheck book width t ≡ fieldsFrom book width (t + 1 + i) (n - i)
   pub upto : (j : ℕ) → j < i → PlanEntry book width (t + 1 + j) (getD now j 0)
+  pub rest : planOf book width t before ≡ planFrom book width (t + 1 + i) i (n - i) now
 
 -- one more entry, if there is room
 module _ (book : List ℕ) (width t i : ℕ) (plan : List ℕ) (h : (j : ℕ) → j < i → PlanEntry book width (t + 1 + j) (getD plan j 0)) (x : PlannedField) (q : FieldIs book width (t + 1 + i) x) where
@@ -218,45 +234,56 @@ module _ (book : List ℕ) (width t i : ℕ) (plan : List ℕ) (h : (j : ℕ) �
           rw (getD-set-other plan i j (entryOf x) 0 n) (h j (omega arith))
 
 module _ (book : List ℕ) (width t n : ℕ) where
-  pub planning-start : (plan : List ℕ) → n ≡ fieldsOf book t → Planning book width t n 0 plan
-  unfolding fieldsCheck
+  pub planning-start : (plan : List ℕ) → n ≡ fieldsOf book t → Planning book width t n plan 0 plan
+  unfolding fieldsCheck planOf
   planning-start plan e =
       let a : t + 1 + 0 ≡ t + 1 = omega arith in
       let b : n - 0 ≡ fieldsOf book t = omega arith in
-      record { left = rw (a, b); upto = λ j l. absurd (omega arith) }
+      record { left = rw (a, b); upto = λ j l. absurd (omega arith); rest = rw (a, b) }
 
-  module _ (i : ℕ) (now : List ℕ) (p : Planning book width t n i now) where
-    pub planning-end : n ≡ fieldsOf book t → n ≤ i → PlanIs book width t check.Fine now
+  module _ (before : List ℕ) (i : ℕ) (now : List ℕ) (p : Planning book width t n before i now) where
+    pub planning-end : n ≡ fieldsOf book t → n ≤ i → PlanIs book width t before check.Fine now
+    unfolding planFrom
     planning-end z h =
         let k : n - i ≡ 0 = omega arith in
         record {
           is = sym (p .left ∙ ap (fieldsFrom book width (t + 1 + i)) k ∙ fields-none book width (t + 1 + i));
+          plan = sym (p .rest ∙ ap (λ (m : ℕ). planFrom book width (t + 1 + i) i m now) k);
           entries = λ e. record { at = λ j l. p .upto j (omega arith) };
         }
 
     module _ (l : i < n) (a : Planned) (q : PlannedIs book width (t + 1 + i) a) where
-      turn : fieldsCheck book width t ≡ fieldsFrom book width (t + 1 + i) (suc (n - (i + 1)))
-      turn = let k : n - i ≡ suc (n - (i + 1)) = omega arith in p .left ∙ ap (fieldsFrom book width (t + 1 + i)) k
+      one-more : n - i ≡ suc (n - (i + 1))
+      one-more = omega arith
 
-      pub planning-lacks : (b : ℕ) → a ≡ planned.Lacks b → PlanIs book width t (check.Lacks b) now
+      turn : fieldsCheck book width t ≡ fieldsFrom book width (t + 1 + i) (suc (n - (i + 1)))
+      turn = p .left ∙ ap (fieldsFrom book width (t + 1 + i)) one-more
+
+      fill : planOf book width t before ≡ planFrom book width (t + 1 + i) i (suc (n - (i + 1))) now
+      fill = p .rest ∙ ap (λ (m : ℕ). planFrom book width (t + 1 + i) i m now) one-more
+
+      pub planning-lacks : (b : ℕ) → a ≡ planned.Lacks b → PlanIs book width t before (check.Lacks b) now
       planning-lacks b e = record {
         is = sym (turn ∙ fields-lacks book width (t + 1 + i) (n - (i + 1)) b (q .lacks b e));
+        plan = sym (fill ∙ plan-lacks book width (t + 1 + i) i (n - (i + 1)) now b (q .lacks b e));
         entries = λ f. absurd (let z : _≡_ {A = ℕ} 0 1 = cc in omega arith);
       }
 
-      pub planning-endless : a ≡ planned.Endless → PlanIs book width t check.Endless now
+      pub planning-endless : a ≡ planned.Endless → PlanIs book width t before check.Endless now
       planning-endless e = record {
         is = sym (turn ∙ fields-endless book width (t + 1 + i) (n - (i + 1)) (q .endless e));
+        plan = sym (fill ∙ plan-endless book width (t + 1 + i) i (n - (i + 1)) now (q .endless e));
         entries = λ f. absurd (let z : _≡_ {A = ℕ} 0 1 = cc in omega arith);
       }
 
-      pub planning-again : (x : PlannedField) (later : List ℕ) → a ≡ planned.Field x → later ≡ set now i (entryOf x) → Planning book width t n (i + 1) later
+      pub planning-again : (x : PlannedField) (later : List ℕ) → a ≡ planned.Field x → later ≡ set now i (entryOf x) → Planning book width t n before (i + 1) later
       planning-again x later e s =
           let f : FieldIs book width (t + 1 + i) x = q .field x e in
           let z : t + 1 + (i + 1) ≡ t + 1 + i + 1 = omega arith in
           record {
             left = rw z (turn ∙ fields-more book width (t + 1 + i) (n - (i + 1)) (f .whole) (f .found));
             upto = λ j d. rw s (more book width t i now (p .upto) x f j d);
+            rest = rw (z, s) (fill ∙ plan-more book width (t + 1 + i) i (n - (i + 1)) now x f);
           }
 
 -- the number of a field's block fits

@@ -2,13 +2,14 @@
 use mathlib.Core.Path.{_≡_}
 use mathlib.Core.Bool.{true}
 use mathlib.Core.List.{List}
-use Prim.Native.Nat.{ℕ, _+_, _*_, _<_}
-use lib.ListN.{length, getD}
+use Prim.Native.Nat.{ℕ, zero, suc, _+_, _*_, _<_}
+use lib.ListN.{length, getD, set}
 use Rattle.typebook.specs.Book.{isType, fieldsOf}
 use Rattle.type_category.specs.Category.{categoryOf}
 use Rattle.category_number.specs.Number.{categoryNumber}
 use Rattle.field_types.specs.Fields.{resolveField, fieldsCheck}
 use Rattle.field_types.specs.declared.ResolvedField.{ResolvedField}
+use Rattle.field_types.specs.declared.FieldAnswer.{FieldAnswer}
 use Rattle.field_types.specs.declared.FieldAnswer.the-variants as answer
 use Rattle.field_types.specs.declared.FieldsCheck.{FieldsCheck}
 use Rattle.field_types.specs.declared.FieldsCheck.the-variants as check
@@ -55,7 +56,23 @@ pub record Ready (book : List ℕ) (width t : ℕ) (plan : List ℕ) : Type 0 wh
   pub entries : Entries book width t plan
   pub fine : (length plan ≡ 0 → ⊥) → fieldsCheck book width t ≡ check.Fine
 
--- the answer is the first refusal of the fields; without one the plan has their entries, whatever it held
-pub record PlanIs (book : List ℕ) (width t : ℕ) (r : FieldsCheck) (after : List ℕ) : Type 0 where
+-- a plan after field i was resolved: with its entry the plan is filled further, after a refusal it stays
+unfoldable pub noted : List ℕ → ℕ → (List ℕ → List ℕ) → ℕ → List ℕ → FieldAnswer → List ℕ
+noted book width further i plan (answer.Field x) = further (set plan i (1 + x .resolved * 16 + categoryNumber (categoryOf book width (x .resolved))))
+noted book width further i plan (answer.Lacks b) = plan
+noted book width further i plan answer.Endless = plan
+
+-- a plan with the entries of the k field blocks from block f on, the first at place i, up to the first field that is refused; what has no place is left out
+unfoldable pub planFrom : List ℕ → ℕ → ℕ → ℕ → ℕ → List ℕ → List ℕ
+planFrom book width f i zero plan = plan
+planFrom book width f i (suc k) plan = noted book width (planFrom book width (f + 1) (i + 1) k) i plan (resolveField book width f)
+
+-- a plan with the entries of the fields of type block t
+unfoldable pub planOf : List ℕ → ℕ → ℕ → List ℕ → List ℕ
+planOf book width t plan = planFrom book width (t + 1) 0 (fieldsOf book t) plan
+
+-- the answer is the first refusal of the fields, and the plan has the entries of those before it; without one it serves for all, whatever it held
+pub record PlanIs (book : List ℕ) (width t : ℕ) (before : List ℕ) (r : FieldsCheck) (after : List ℕ) : Type 0 where
   pub is : r ≡ fieldsCheck book width t
+  pub plan : after ≡ planOf book width t before
   pub entries : r ≡ check.Fine → Entries book width t after

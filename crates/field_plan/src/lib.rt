@@ -117,7 +117,7 @@ pub fn plan_fields_in(
     plan: &mut [u32],
 ) -> FieldsCheck
     requires { ⌜ ValidBook (now book) × (isType (now book) t ≡ true) ⌝ }
-    ensures { λ r. ⌜ PlanIs (now (book .entry)) width t r (now (plan .exit)) ⌝ }
+    ensures { λ r. ⌜ PlanIs (now (book .entry)) width t (now (plan .entry)) r (now (plan .exit)) ⌝ }
 {
     let n = block::fields(book, t);
     let mut i: u32 = 0;

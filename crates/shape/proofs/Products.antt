@@ -88,8 +88,8 @@ multiplied-end book t e d n p len h l m =
     rw (m .is, eqb-top (m .so-far) len l, z)
 
 -- the bytes of one of n equal parts
-pub stride-none : (len r : ℕ) → StrideIs 0 len r
-stride-none len r = record { is = λ k l e. absurd (omega arith) }
-
 pub stride-is : (n len : ℕ) → (n ≡ 0 → ⊥) → StrideIs n len (len / n)
-stride-is n len h = record { is = λ k l e. rw (← e) (mul-div-cancel-left k l) }
+stride-is n len h = record { part = rw (ne-eqb n 0 h); is = λ k l e. rw (← e) (mul-div-cancel-left k l) }
+
+pub stride-none : (n len : ℕ) → n ≡ 0 → StrideIs n len 0
+stride-none n len h = record { part = rw h; is = λ k l e. absurd (omega arith) }

@@ -1,9 +1,9 @@
 -- The bytes of an array and of its parts (document 01: the array's access file). Assumes nothing.
 use mathlib.Core.Path.{_≡_}
-use mathlib.Core.Bool.{Bool}
+use mathlib.Core.Bool.{Bool, cond}
 use mathlib.Core.List.{List}
-use Prim.Native.Nat.{ℕ, zero, suc, _+_, _*_, _-_, _<_}
-use lib.Dec.{leb}
+use Prim.Native.Nat.{ℕ, zero, suc, _+_, _*_, _-_, _/_, _<_}
+use lib.Dec.{eqb, leb}
 use Rattle.typebook.specs.Book.{sizeOf, countOf, dimensionsOf}
 
 -- the product of the element counts of the k dimensions from the d-th on
@@ -31,6 +31,11 @@ pub record Fills (book : List ℕ) (d t e len : ℕ) : Type 0 where
 pub record FillsNext (book : List ℕ) (d t e len : ℕ) : Type 0 where
   pub fills : strideOf book d t e ≡ len
 
--- what n equal parts of `len` bytes are long
+-- the length of each of n equal parts of `len` bytes, rounded down; 0 where there is no part
+abbrev pub partOf : ℕ → ℕ → ℕ
+partOf n len = cond (eqb n 0) 0 (len / n)
+
+-- r is the length of each of n equal parts of `len` bytes; where such parts fill them, it is what they are long
 pub record StrideIs (n len r : ℕ) : Type 0 where
+  pub part : r ≡ partOf n len
   pub is : (k : ℕ) → 0 < n → n * k ≡ len → r ≡ k

@@ -559,7 +559,7 @@ map-access·map-slice-aggregate-members : (t : ℕ) → map-access·map-lts.Need
 map-access·map-slice-aggregate-members t c = search needs
 
 map-access·map-members-requires-2 : (t : ℕ) → map-access·map-lts.Need-members-requires-2 (map-access·map-calls t) (map-access·map-at t) map-access·map.Post
-map-access·map-members-requires-2 t c κs = (search needs, (search needs, search needs, own-entries _ _ _ _ _ (c .before .before .before .before .before .before .plan-fields-in .ensures) (search needs)))
+map-access·map-members-requires-2 t c κs = (search needs, (search needs, search needs, own-entries _ _ _ _ _ _ (c .before .before .before .before .before .before .plan-fields-in .ensures) (search needs)))
 
 map-access·map-enum-known-fields : (t : ℕ) → map-access·map-lts.Need-enum-known-fields (map-access·map-calls t) (map-access·map-at t) map-access·map.Post
 map-access·map-enum-known-fields t c = search needs

@@ -15,7 +15,7 @@ ruleset exits = (planning-end, planning-lacks, planning-endless)
 
 abbrev Inv-loop : tie.InvT-loop
 Inv-loop book index width t plan₀ n i₀ plan i =
-    (i ≤ n) × (length plan ≡ length plan₀) × Planning book width t n i plan
+    (i ≤ n) × (length plan ≡ length plan₀) × Planning book width t n plan₀ i plan
 
 abbrev μ-loop : tie.MeasureT-loop
 μ-loop book index width t plan₀ n i₀ plan i =

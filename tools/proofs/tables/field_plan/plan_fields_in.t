@@ -4,7 +4,7 @@ use mathlib.Core.Path.{_≡_}
 use lib.ListN.{length}
 use Rattle.field_plan.proofs.Plans.{typed-small, Planning, planning-start, planning-end, planning-lacks, planning-endless, planning-again, field-first, field-number}
 ruleset exits = (planning-end, planning-lacks, planning-endless)
-def Inv-loop => (i ≤ n) × (length plan ≡ length plan₀) × Planning book width t n i plan
+def Inv-loop => (i ≤ n) × (length plan ≡ length plan₀) × Planning book width t n plan₀ i plan
 def μ-loop => n - i
 loop-holds => (search needs, search needs, search planning-start)
 loop-again => (search needs, search needs, search planning-again)

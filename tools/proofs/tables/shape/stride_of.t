@@ -1,2 +1,3 @@
-use Rattle.shape.proofs.Products.{stride-is}
+use Rattle.shape.proofs.Products.{stride-is, stride-none}
+returns => search stride-none
 returns-2 => search stride-is

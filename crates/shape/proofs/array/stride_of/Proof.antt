@@ -1,4 +1,4 @@
-use Rattle.shape.proofs.Products.{stride-is}
+use Rattle.shape.proofs.Products.{stride-is, stride-none}
 use borrow.Author.Needs.{needs}
 use Rattle.shape.proofs.array.stride_of.Statement.{statement}
 use Rattle.shape.proofs.array.stride_of.Tie as tie
@@ -6,7 +6,7 @@ use Rattle.shape.proofs.array.stride_of.Reads as reads
 use Rattle.shape.proofs.array.stride_of.Lts as lts
 
 returns : tie.Need-returns
-returns c = search needs
+returns c = search stride-none
 
 div-result : tie.Need-div-result
 div-result c = search needs
