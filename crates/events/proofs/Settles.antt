@@ -16,7 +16,7 @@ use Rattle.visits.specs.Parts.{partsOf}
 use Rattle.visits.specs.Scratch.{isPart, Marked, Grown}
 use Rattle.visits.proofs.Places.{part-dimensions}
 use Rattle.events.specs.declared.Event.the-variants.{New, Lacking, Long}
-use Rattle.events.specs.Events.{Dead, Settles}
+use Rattle.events.specs.Events.{settledEvent, settledOn, Dead, Settles}
 
 -- the alias at which a chain breaks is no part
 pub alias-not-part : (book : List ℕ) (width t c : ℕ) → isType book t ≡ true → resolveAlias book width t ≡ Lacks c → isPart book c ≡ false
@@ -28,7 +28,7 @@ alias-not-part book width t c y e =
 -- what a type of category c comes to, and its parts
 expanded : (book : List ℕ) (width : ℕ) (sc : List ℕ) (depth t u : ℕ) (c : AdsTypeCategory) → c ≡ categoryOf book width u → resolveAlias book width t ≡ Base u
     → isType book u ≡ true → {r : ℕ} {sc₂ : List ℕ} → Grown book c sc depth t u r sc₂ → Settles book width sc depth t (New u r c) sc₂
-unfolding partsOf
+unfolding partsOf settledEvent settledOn
 expanded book width sc depth t u c ec to y g =
     record {
       so = record {
@@ -40,6 +40,8 @@ expanded book width sc depth t u c ec to y g =
         more = g .more;
         few = g .few;
       };
+      event = rw (to, ← ec, g .place);
+      numbers = rw (to, ← ec) (g .numbers);
     }
 
 pub settle-own : (book : List ℕ) (width : ℕ) (sc : List ℕ) (depth t : ℕ) (c : AdsTypeCategory) → c ≡ categoryOf book width t → (g : Bool) → g ≡ goesOn false c → g ≡ false
@@ -59,12 +61,16 @@ module _ (book : List ℕ) (width : ℕ) (sc : List ℕ) (depth t : ℕ) (y : is
     dead = record { top = m .stack depth (omega arith); marks = m .marks; more = omega arith }
 
     pub settle-lacks : (c : ℕ) → a ≡ Lacks c → Settles book width sc depth t (Lacking c depth) sc₁
+    unfolding settledEvent settledOn
     settle-lacks c e =
         let q = sym (ra .is) ∙ e in
-        record { so = record { to = q; alias = alias-not-part book width t c y q; dead = dead } }
+        record { so = record { to = q; alias = alias-not-part book width t c y q; dead = dead }; event = rw q; numbers = rw q (m .numbers) }
 
     pub settle-long : a ≡ Endless → Settles book width sc depth t (Long depth) sc₁
-    settle-long e = record { so = record { to = sym (ra .is) ∙ e; dead = dead } }
+    unfolding settledEvent settledOn
+    settle-long e =
+        let q = sym (ra .is) ∙ e in
+        record { so = record { to = q; dead = dead }; event = rw q; numbers = rw q (m .numbers) }
 
 pub base-type : (book : List ℕ) (answer : Resolved) (u : ℕ) {a : Resolved} → ResolvedIs book answer a → a ≡ Base u → isType book u ≡ true
 base-type book answer u r h = r .typed u h

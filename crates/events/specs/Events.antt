@@ -9,12 +9,29 @@ use lib.Dec.{eqb}
 use Rattle.typebook.specs.Book.{isType}
 use Rattle.type_category.specs.declared.type_category.AdsTypeCategory.{AdsTypeCategory}
 use Rattle.type_category.specs.Category.{categoryOf}
+use Rattle.resolvers.specs.declared.Resolved.{Resolved}
 use Rattle.resolvers.specs.declared.Resolved.the-variants.{Base, Lacks, Endless}
 use Rattle.resolvers.specs.Resolve.{resolveAlias}
-use Rattle.visits.specs.Parts.{partsOf}
-use Rattle.visits.specs.Scratch.{stackOf, markedIn, isPart}
+use Rattle.visits.specs.Parts.{partsKind, partsOf}
+use Rattle.visits.specs.Scratch.{stackOf, markedIn, isPart, markedOn, pushedTo, pushedOn}
 use Rattle.events.specs.declared.Event.{Event}
 use Rattle.events.specs.declared.Event.the-variants.{Old, Lacking, New, Long, Full}
+
+-- ---- the event and the numbers
+
+-- the event of a new name, by what it comes to: a type with its category, the alias at which 7 is due, or a chain that is too long
+unfoldable pub settledEvent : List ℕ → ℕ → ℕ → Resolved → Event
+settledEvent book width depth (Base u) = New u (pushedTo book depth u (partsKind (categoryOf book width u))) (categoryOf book width u)
+settledEvent book width depth (Lacks c) = Lacking c depth
+settledEvent book width depth Endless = Long depth
+
+-- the scratch then: type block t is marked, and the parts of the type that it comes to are laid on
+unfoldable pub settledOn : List ℕ → ℕ → List ℕ → ℕ → ℕ → Resolved → List ℕ
+settledOn book width sc depth t (Base u) = pushedOn book (markedOn sc t) depth u (partsKind (categoryOf book width u))
+settledOn book width sc depth t (Lacks c) = markedOn sc t
+settledOn book width sc depth t Endless = markedOn sc t
+
+-- ---- what they stand for
 
 -- type block t is marked, and the parts of type u are laid on, where u is what t comes to, and c its category
 pub record Expanded (book : List ℕ) (width : ℕ) (sc : List ℕ) (depth t u : ℕ) (c : AdsTypeCategory) (r : ℕ) (sc′ : List ℕ) : Type 0 where
@@ -51,6 +68,8 @@ Settled book width sc depth t (New u d c) sc′ = Expanded book width sc depth t
 Settled book width sc depth t (Long d) sc′ = Unending book width sc depth t d sc′
 Settled book width sc depth t Full sc′ = ⊥
 
--- `Settled` of the event r, as a record, which `search` takes as it stands
+-- `Settled` of the event r, as a record, which `search` takes as it stands; the event and every number of the scratch are fixed
 pub record Settles (book : List ℕ) (width : ℕ) (sc : List ℕ) (depth t : ℕ) (r : Event) (sc′ : List ℕ) : Type 0 where
   pub so : Settled book width sc depth t r sc′
+  pub event : r ≡ settledEvent book width depth (resolveAlias book width t)
+  pub numbers : sc′ ≡ settledOn book width sc depth t (resolveAlias book width t)

@@ -216,7 +216,7 @@ falls-pend sc left m (New t d c) f = let g = f .1 in omega arith
 falls-pend sc left m (Long d) f = let g = f .1 in omega arith
 falls-pend sc left m Full f = omega arith
 
-pub pending-start : (book : List ℕ) (width root : ℕ) (list : List ℕ) {sc : List ℕ} {e : Event} → Started book width root e sc → Pending book width (walkOf book width root) list sc list 4096 0 true e
+pub pending-start : (book : List ℕ) (width root : ℕ) (list : List ℕ) {sc₀ sc : List ℕ} {e : Event} → Started book width root sc₀ e sc → Pending book width (walkOf book width root) list sc list 4096 0 true e
 pending-start book width root list s = record { rest = walkOf book width root; reading = reading-all (walkOf book width root) list; after = s .goes; due = record { due = s .due } }
 
 pub pending-due : (book : List ℕ) (width root : ℕ) {list₀ sc list : List ℕ} {left n : ℕ} {ok : Bool} {e : Event} → Pending book width (walkOf book width root) list₀ sc list left n ok e → IsDue left e

@@ -107,7 +107,7 @@ module _ (left : ℕ) {e : Event} where
 
 -- ---- the loop
 
-pub here-start : (book : List ℕ) (width root : ℕ) {sc : List ℕ} {e : Event} {r : Turn} → Started book width root e sc → Decided e 4096 r → Here book width (walkOf book width root) sc r
+pub here-start : (book : List ℕ) (width root : ℕ) {sc₀ sc : List ℕ} {e : Event} {r : Turn} → Started book width root sc₀ e sc → Decided e 4096 r → Here book width (walkOf book width root) sc r
 here-start book width root {sc} s d = record { so = d .goes book width (walkOf book width root) sc (walkOf book width root) refl (s .goes) }
 
 module _ (book : List ℕ) (width root : ℕ) {sc : List ℕ} {here : Turn} (q : Here book width (walkOf book width root) sc here) where

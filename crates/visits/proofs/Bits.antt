@@ -11,7 +11,7 @@ use lib.Bits.{bitOr, or-shr, or-mod, or-zero-r}
 use lib.Pow.{pow-pos, pow-lt, pow-add, shl-shr}
 use lib.Dec.{eqb, ltb}
 use borrow.Author.Tests.{eqb-true, eqb-false, ltb-true, ltb-false}
-use Rattle.visits.specs.Scratch.{markedIn, Marked}
+use Rattle.visits.specs.Scratch.{markedIn, markedOn, Marked}
 use Rattle.visits.proofs.Stacks.{stack-set}
 
 one-bit : (j k : ℕ) → (j ≡ k → ⊥) → 2 ^ j / 2 ^ k % 2 ≡ 0
@@ -39,8 +39,8 @@ bit-other : (x j k : ℕ) → (j ≡ k → ⊥) → bitOr x (2 ^ j) / 2 ^ k % 2 
 bit-other x j k n = or-bit x j k ∙ rw (one-bit j k n) (or-zero-r (x / 2 ^ k % 2))
 
 module _ (sc : List ℕ) (t : ℕ) (z : 4096 + t / 32 < length sc) where
-  marks : (u : ℕ) → markedIn (set sc (4096 + t / 32) (bitOr (getD sc (4096 + t / 32) 0) (2 ^ (t % 32)))) u ≡ eqb t u || markedIn sc u
-  unfolding markedIn
+  marks : (u : ℕ) → markedIn (markedOn sc t) u ≡ eqb t u || markedIn sc u
+  unfolding markedIn markedOn
   marks u = by (eqb t u) refl
     where
       y : ℕ
@@ -67,6 +67,7 @@ module _ (sc : List ℕ) (t : ℕ) (z : 4096 + t / 32 < length sc) where
       by false h = word (eqb (t / 32) (u / 32)) refl h
 
 pub mark-is : (sc : List ℕ) (t : ℕ) → t < 65536 → 16384 ≤ length sc → Marked sc t (set sc (4096 + t / 32) (bitOr (getD sc (4096 + t / 32) 0) (1 * 2 ^ (t % 32) % 4294967296)))
+unfolding markedOn
 mark-is sc t h z =
     let k : t % 32 < 32 = omega arith in
     let b : 2 ^ (t % 32) < 4294967296 = pow-lt k in
@@ -75,6 +76,7 @@ mark-is sc t h z =
     (record {
       stack = λ d l. stack-set sc _ _ d (omega arith);
       marks = marks sc t (omega arith);
+      numbers = refl;
     })
 
 pub marked-is : (sc : List ℕ) (t : ℕ) → eqb (getD sc (4096 + t / 32) 0 / 2 ^ (t % 32) % 2) 1 ≡ markedIn sc t

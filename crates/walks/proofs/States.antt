@@ -23,7 +23,7 @@ falls-due sc left m Full f = f
 pub step-due : (book : List ℕ) (width : ℕ) (ls : List ℕ) (left : ℕ) {sc sc′ : List ℕ} {depth : ℕ} {e : Event} → Stepped book width sc ls left depth e sc′ → IsDue left e
 step-due book width ls left {sc} {sc′} {depth} {e} s = record { due = falls-due sc′ left (work sc left depth) e (s .falls) }
 
-pub start-due : (book : List ℕ) (width root : ℕ) {e : Event} {sc : List ℕ} → Started book width root e sc → IsDue 4096 e
+pub start-due : (book : List ℕ) (width root : ℕ) {sc sc′ : List ℕ} {e : Event} → Started book width root sc e sc′ → IsDue 4096 e
 start-due book width root s = record { due = s .due }
 
 module _ (left : ℕ) {e : Event} (p : IsDue left e) where

@@ -22,11 +22,11 @@ use Rattle.resolvers.specs.Resolve.{onward, resolveAlias}
 use Rattle.visits.specs.declared.Taken.{Taken}
 use Rattle.visits.specs.Scratch.{stackOf, markedIn, isPart, namesIt, hasRef, Took}
 use Rattle.visits.specs.Parts.{partsOf}
-use Rattle.events.specs.Events.{Dead, Settled, Settles}
+use Rattle.events.specs.Events.{settledEvent, Dead, Settled, Settles}
 use Rattle.events.specs.declared.Event.{Event}
 use Rattle.events.specs.declared.Event.the-variants.{Old, Lacking, New, Long, Full}
 use Rattle.walks.specs.Walk.{Walk, met, comesTo, has, push, walk, meet, walkOf}
-use Rattle.walks.specs.State.{seenBy, Left, After, work, Falls, Due, Stepped, Started}
+use Rattle.walks.specs.State.{seenBy, turnEvent, newOn, turnOn, stepEvent, stepOn, Left, After, work, Falls, Due, Stepped, Started}
 use Rattle.walks.proofs.Goes.{walk-old, walk-fresh, walk-stop}
 use Rattle.walks.proofs.Places.{find-name, part-is}
 
@@ -180,8 +180,16 @@ module _ (book : List ℕ) (width : ℕ) (ls : List ℕ) (left : ℕ) {sc sc′ 
   length-top = ap length (took .top)
 
   module _ (f : Found) (ef : f ≡ find book (typeNameOf book (k .block))) where
+    event-is : {r : Event} → r ≡ turnEvent book width sc′ ls left k f → r ≡ stepEvent book width sc ls left depth
+    unfolding stepEvent
+    event-is e = e ∙ rw (ef, took .taken, took .numbers)
+
+    numbers-are : {sc″ : List ℕ} → sc″ ≡ turnOn book width sc′ ls left k f → sc″ ≡ stepOn book width sc ls left depth
+    unfolding stepOn
+    numbers-are e = e ∙ rw (ef, took .taken, took .numbers)
+
     stepped-old : seenBy book sc′ ls (typeNameOf book (k .block)) f ≡ true → Stepped book width sc ls left depth (Old (k .depth)) sc′
-    unfolding work
+    unfolding work turnEvent turnOn
     stepped-old h =
         record {
           goes = λ w l. record {
@@ -193,9 +201,12 @@ module _ (book : List ℕ) (width : ℕ) (ls : List ℕ) (left : ℕ) {sc sc′ 
             parts = parts-after l;
           };
           falls = omega (arith, length-top);
+          event = event-is (rw h);
+          numbers = numbers-are (rw h);
         }
 
     stepped-stop : seenBy book sc′ ls (typeNameOf book (k .block)) f ≡ false → left ≡ 0 → Stepped book width sc ls left depth Full sc′
+    unfolding turnEvent turnOn
     stepped-stop h z =
         record {
           goes = λ w l. record {
@@ -206,6 +217,8 @@ module _ (book : List ℕ) (width : ℕ) (ls : List ℕ) (left : ℕ) {sc sc′ 
                 ∙ walk-stop book width (l .v) (stackOf sc′ (k .depth)) (k .block) (is-seen l f ef ∙ h);
           };
           falls = z;
+          event = event-is (rw (h, z));
+          numbers = numbers-are (rw (h, z));
         }
 
     module _ (h : seenBy book sc′ ls (typeNameOf book (k .block)) f ≡ false) (n : left ≡ 0 → ⊥) {w : Walk} (l : Left book width sc ls left depth w) (g : Found) (eg : f ≡ g) where
@@ -232,16 +245,19 @@ module _ (book : List ℕ) (width : ℕ) (ls : List ℕ) (left : ℕ) {sc sc′ 
         step-full z = stepped-stop fresh z
 
         pub step-new : {sc″ : List ℕ} {r : Event} → (left ≡ 0 → ⊥) → Settles book width sc′ (k .depth) t r sc″ → Stepped book width sc ls left depth r sc″
-        unfolding work
+        unfolding work turnEvent turnOn newOn onward
         step-new {sc″} {r} n x =
             let ey : find book (typeNameOf book (k .block)) ≡ At t = sym ef ∙ ft in
             let p : 0 < left = omega (arith, n) in
+            let z : eqb left 0 ≡ false = ne-eqb left 0 n in
             record {
               goes = λ w l.
                   let rm : k .depth + left ≤ 4096 = let a = l .room in let b = took .less in omega arith in
                   settled-after book width ls (l .v) sc′ left (k .depth) (k .block) (typeNameOf book (k .block)) t (seen-after l) (l .valid) (parts-after l) rm p ey
                   (is-met fresh n l (At t) ft) r sc″ (x .so);
               falls = settled-falls book width sc′ left (k .depth) t (work sc left depth) p (omega (arith, length-top)) r sc″ (x .so);
+              event = event-is (rw (fresh, z, ft) (x .event));
+              numbers = numbers-are (rw (fresh, z, ft) (x .numbers));
             }
 
     -- the book lacks it
@@ -259,9 +275,10 @@ module _ (book : List ℕ) (width : ℕ) (ls : List ℕ) (left : ℕ) {sc sc′ 
         step-full′ z = stepped-stop fresh′ z
 
         pub step-lacking : (left ≡ 0 → ⊥) → Stepped book width sc ls left depth (Lacking (k .block) (k .depth)) sc′
-        unfolding push onward work
+        unfolding push onward work turnEvent turnOn newOn settledEvent
         step-lacking n =
             let ey : find book (typeNameOf book (k .block)) ≡ Nothing = sym ef ∙ ft in
+            let z : eqb left 0 ≡ false = ne-eqb left 0 n in
             record {
               goes = λ w l.
                   let pb : isPart book (k .block) ≡ true = l .parts (k .block) (rw (took .top) (List·Memᴰ·head refl)) in
@@ -280,6 +297,8 @@ module _ (book : List ℕ) (width : ℕ) (ls : List ℕ) (left : ℕ) {sc sc′ 
                     };
                   };
               falls = (omega (arith, n), omega (arith, n, length-top));
+              event = event-is (rw (fresh′, z, ft));
+              numbers = numbers-are (rw (fresh′, z, ft));
             }
 
 -- ---- the start
@@ -307,7 +326,7 @@ settled-due book width sc d t left n (Long k) sc′ s = n
 settled-due book width sc d t left n Full sc′ s = absurd s
 
 pub start-settled : (book : List ℕ) (width root : ℕ) → ValidBook book → isType book root ≡ true → (sc : List ℕ) {sc′ : List ℕ} {r : Event} → sc ≡ replicate (length sc) 0
-    → Settles book width sc 0 root r sc′ → Started book width root r sc′
+    → Settles book width sc 0 root r sc′ → Started book width root sc r sc′
 unfolding stackOf walkOf meet
 start-settled book width root v y sc {sc′} {r} z x =
     let own : find book (nameOf book root) ≡ At root = valid-own book v root y in
@@ -317,4 +336,6 @@ start-settled book width root v y sc {sc′} {r} z x =
           settled-after book width [] [] sc 4096 0 root (nameOf book root) root (λ y. none-seen book sc z y (find book y)) v (λ c m. absurd (List·Memᴰ·not-nil m)) (omega arith) (omega arith)
           own all r sc′ (x .so);
       due = settled-due book width sc 0 root 4096 (omega arith) r sc′ (x .so);
+      event = x .event;
+      numbers = x .numbers;
     }

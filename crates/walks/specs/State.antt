@@ -1,10 +1,12 @@
 -- How a walk's state stands in the scratch of crate `visits`, and what a turn promises the two readings. No contract of a call of
 -- document 01 cites this. Assumes nothing.
 use mathlib.Core.Path.{_≡_}
-use mathlib.Core.Bool.{Bool, true}
+use mathlib.Core.Bool.{Bool, true, cond, _||_}
 use mathlib.Core.List.{List, [], _∷_, _++_, List·Memᴰ}
 use Prim.Native.Nat.{ℕ, _+_, _*_, _-_, _≤_, _<_}
 use lib.ListN.{length}
+use lib.Dec.{eqb}
+use Rattle.typebook.specs.Book.{typeNameOf}
 use Rattle.type_provider.specs.declared.Found.{Found}
 use Rattle.type_provider.specs.declared.Found.the-variants.{At, Nothing}
 use Rattle.type_provider.specs.Find.{find}
@@ -12,15 +14,48 @@ use Rattle.type_category.specs.declared.type_category.AdsTypeCategory.{AdsTypeC
 use Rattle.type_category.specs.Category.{categoryOf}
 use Rattle.book_check.specs.Check.{ValidBook}
 use Rattle.resolvers.specs.declared.Resolved.the-variants.{Base, Lacks, Endless}
-use Rattle.visits.specs.Scratch.{stackOf, markedIn, isPart, hasRef}
+use Rattle.resolvers.specs.Resolve.{resolveAlias}
+use Rattle.visits.specs.declared.Taken.{Taken}
+use Rattle.visits.specs.Scratch.{stackOf, markedIn, isPart, hasRef, takenAt, takenFrom}
+use Rattle.events.specs.Events.{settledEvent, settledOn}
 use Rattle.events.specs.declared.Event.{Event}
 use Rattle.events.specs.declared.Event.the-variants.{Old, Lacking, New, Long, Full}
-use Rattle.walks.specs.Walk.{Walk, full, met, has, walk, walkOf}
+use Rattle.walks.specs.Walk.{Walk, full, met, comesTo, has, walk, walkOf}
 
 -- a name was visited: where the book defines it, by its bit; else a listed block names it as a part
 unfoldable pub seenBy : List ℕ → List ℕ → List ℕ → List ℕ → Found → Bool
 seenBy book sc ls x (At t) = markedIn sc t
 seenBy book sc ls x Nothing = hasRef book ls x
+
+-- ---- the event and the numbers of a turn
+
+-- the event of the block that was taken off, by what the look-up of its type name found: visited before, one name too many, or new
+unfoldable pub turnEvent : List ℕ → ℕ → List ℕ → List ℕ → ℕ → Taken → Found → Event
+turnEvent book width sc ls left k f =
+    cond (seenBy book sc ls (typeNameOf book (k .block)) f) (Old (k .depth))
+    (cond (eqb left 0) Full (settledEvent book width (k .depth) (comesTo book width (k .block) f)))
+
+-- the scratch after a new name, by what its look-up found: a name that the book lacks has no block to mark
+unfoldable pub newOn : List ℕ → ℕ → List ℕ → ℕ → Found → List ℕ
+newOn book width sc depth (At t) = settledOn book width sc depth t (resolveAlias book width t)
+newOn book width sc depth Nothing = sc
+
+-- the scratch then: as the block was taken off it, unless the name is new
+unfoldable pub turnOn : List ℕ → ℕ → List ℕ → List ℕ → ℕ → Taken → Found → List ℕ
+turnOn book width sc ls left k f =
+    cond (seenBy book sc ls (typeNameOf book (k .block)) f || eqb left 0) sc (newOn book width sc (k .depth) f)
+
+-- the event of one turn: the top block is taken off, and its type name looked up
+unfoldable pub stepEvent : List ℕ → ℕ → List ℕ → List ℕ → ℕ → ℕ → Event
+stepEvent book width sc ls left depth =
+    turnEvent book width (takenFrom sc depth) ls left (takenAt sc depth) (find book (typeNameOf book (takenAt sc depth .block)))
+
+-- the scratch after one turn
+unfoldable pub stepOn : List ℕ → ℕ → List ℕ → List ℕ → ℕ → ℕ → List ℕ
+stepOn book width sc ls left depth =
+    turnOn book width (takenFrom sc depth) ls left (takenAt sc depth) (find book (typeNameOf book (takenAt sc depth .block)))
+
+-- ---- what they stand for
 
 -- w is what is left to walk
 pub record Left (book : List ℕ) (width : ℕ) (sc ls : List ℕ) (left depth : ℕ) (w : Walk) : Type 0 where
@@ -82,10 +117,13 @@ Falls sc left n (New t d c) = (0 < left) × (work sc (left - 1) d < n)
 Falls sc left n (Long d) = (0 < left) × (work sc (left - 1) d < n)
 Falls sc left n Full = left ≡ 0
 
--- one turn gives the next event of any walk that the state stands for, and less is left to do
+-- one turn gives the next event of any walk that the state stands for, and less is left to do; its event and every number
+-- of the scratch are fixed
 pub record Stepped (book : List ℕ) (width : ℕ) (sc ls : List ℕ) (left depth : ℕ) (r : Event) (sc′ : List ℕ) : Type 0 where
   pub goes : (w : Walk) → Left book width sc ls left depth w → After book width sc′ ls left w r
   pub falls : Falls sc′ left (work sc left depth) r
+  pub event : r ≡ stepEvent book width sc ls left depth
+  pub numbers : sc′ ≡ stepOn book width sc ls left depth
 
 -- an event after which `left - 1` names are left, and one after which none was
 abbrev pub Due : ℕ → Event → Type 0
@@ -99,7 +137,9 @@ Due left Full = left ≡ 0
 pub record IsDue (left : ℕ) (e : Event) : Type 0 where
   pub due : Due left e
 
--- the root's own name is met, out of 4,096
-pub record Started (book : List ℕ) (width root : ℕ) (r : Event) (sc′ : List ℕ) : Type 0 where
+-- the root's own name is met, out of 4,096; its event and every number of the scratch are fixed
+pub record Started (book : List ℕ) (width root : ℕ) (sc : List ℕ) (r : Event) (sc′ : List ℕ) : Type 0 where
   pub goes : After book width sc′ [] 4096 (walkOf book width root) r
   pub due : Due 4096 r
+  pub event : r ≡ settledEvent book width 0 (resolveAlias book width root)
+  pub numbers : sc′ ≡ settledOn book width sc 0 root (resolveAlias book width root)

@@ -69,7 +69,7 @@ pub fn step(
 // The first event: the root's own name, which finds the root block in a valid book.
 pub fn start(book: &[u8], index: &[u32], width: u8, root: u32, scratch: &mut [u32]) -> Event
     requires { ⌜ ValidBook (now book) × (isType (now book) root ≡ true) × (16384 ≤ length (now scratch)) × (now scratch ≡ replicate (length (now scratch)) 0) ⌝ }
-    ensures { λ r. ⌜ Started (now (book .entry)) width root r (now (scratch .exit)) ⌝ }
+    ensures { λ r. ⌜ Started (now (book .entry)) width root (now (scratch .entry)) r (now (scratch .exit)) ⌝ }
 {
     settle(book, index, width, scratch, 0, root)
 }
