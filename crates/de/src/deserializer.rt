@@ -86,6 +86,43 @@ pub fn read_in(
     }
 }
 
+// The blocks of a book up to which the small index serves: half of its slots stay empty then, whatever the blocks are.
+const SMALL_BOOK: usize = 8192;
+
+// `read_in` with an index on the stack, for a book of at most SMALL_BOOK blocks.
+fn read_small(
+    book: &[u8],
+    width: u8,
+    root: u32,
+    memory: &[u8],
+    tape: &mut [u8],
+    text: &mut [u8],
+) -> ReadAnswer
+    requires { ⌜ ValidBook (now book) × (isType (now book) root ≡ true) ⌝ }
+    ensures { λ r. ⌜ ReadIs (rootTrace (ctx (now (book .entry)) width) root (now (memory .entry))) (now (tape .entry)) (now (text .entry)) r (now (tape .exit)) (now (text .exit)) ⌝ }
+{
+    let mut index = [0u32; 16384];
+    type_index::fill_index(book, &mut index);
+    read_in(book, &index, width, root, memory, tape, text)
+}
+
+// The same for a longer book: two slots for each of the 65,536 blocks that a book may have, so that no type goes without one.
+fn read_large(
+    book: &[u8],
+    width: u8,
+    root: u32,
+    memory: &[u8],
+    tape: &mut [u8],
+    text: &mut [u8],
+) -> ReadAnswer
+    requires { ⌜ ValidBook (now book) × (isType (now book) root ≡ true) ⌝ }
+    ensures { λ r. ⌜ ReadIs (rootTrace (ctx (now (book .entry)) width) root (now (memory .entry))) (now (tape .entry)) (now (text .entry)) r (now (tape .exit)) (now (text .exit)) ⌝ }
+{
+    let mut index = [0u32; 131072];
+    type_index::fill_index(book, &mut index);
+    read_in(book, &index, width, root, memory, tape, text)
+}
+
 // The memory by the type at block `root` of the book in the first `len` bytes of the buffer.
 pub fn read(
     buffer: &[u8],
@@ -102,9 +139,10 @@ pub fn read(
     match checked {
         RootCheck::Root(n) => {
             let book = &buffer[0..len];
-            let mut index = [0u32; 16384];
-            type_index::fill_index(book, &mut index);
-            read_in(book, &index, width, n, memory, tape, text)
+            if typebook::block::blocks(book) <= SMALL_BOOK {
+                return read_small(book, width, n, memory, tape, text);
+            }
+            read_large(book, width, n, memory, tape, text)
         }
         RootCheck::Refused(k) => finish(Step::Stop(k, 0), tape, text),
     }

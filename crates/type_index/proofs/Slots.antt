@@ -2,8 +2,11 @@
 use mathlib.Core.Path.{_≡_, refl, sym, ap, _∙_}
 use mathlib.Core.Bool.{Bool, true, false}
 use mathlib.Core.List.{List}
-use Prim.Native.Nat.{ℕ, _+_, _<_}
+use Prim.Native.Nat.{ℕ, _+_, _*_, _/_, _≤_, _<_}
 use native.Mathlib.Omega.{arith}
+use native.Mathlib.Nat.{mul-lt-mul-of-pos-right}
+use mir.Syntax.{w64}
+use mir.Val.{Fits}
 use lib.ListN.{length, getD, set, replicate, length-set, length-replicate, getD-replicate, List·getD-eq-default}
 use lib.Seq.{getD-set-same, getD-set-other}
 use lib.Dec.{eqb, ltb}
@@ -87,3 +90,17 @@ module _ (book : List ℕ) where
 
   pub fill-again : (before xs ys : List ℕ) → IndexOf book before xs → Entered book xs ys → IndexOf book before ys
   fill-again before xs ys f t = record { kept = t .kept ∙ f .kept; slots = t .slots (f .slots) }
+
+-- ---- the first slot of a name
+
+module _ (h n : ℕ) (small : h < 4294967296) (some : 0 < n) where
+  share : h * n < 4294967296 * n
+  share = mul-lt-mul-of-pos-right small some
+
+  -- the product of a hash and a length of 32 bits fits
+  pub slot-fits : n ≤ 4294967295 → Fits w64 (h * n)
+  slot-fits l = record { fits = omega (arith, share) }
+
+  -- the hash's share of the index is one of its slots
+  pub slot-below : h * n / 4294967296 < n
+  slot-below = omega (arith, share)

@@ -20,7 +20,8 @@ fn wide(x: u8) -> u64
     x as u64
 }
 
-// The slot of an index of len slots at which a name is tried first: a product hash of all its bytes.
+// The slot of an index of len slots at which a name is tried first: a product hash of all its bytes, of 32 bits. The slot is the hash
+// in the proportion of len to 2^32, which needs no division; it goes by the high bits, which depend on all bytes.
 fn first_slot(name: &[u8], len: usize) -> usize
     requires { ⌜ 0 < len ⌝ }
     ensures { λ r. ⌜ r < len ⌝ }
@@ -31,8 +32,10 @@ fn first_slot(name: &[u8], len: usize) -> usize
         h = (h + wide(name[i])) * 0x9e37_79b1 % 0x1_0000_0000;
         i += 1;
     }
-    // The high bits depend on all bytes, the low ones only on the low bits of each.
-    (h / 1024 % (len as u64)) as usize
+    if 0xffff_ffff < len {
+        return (h * 0xffff_ffff / 0x1_0000_0000) as usize;
+    }
+    (h * (len as u64) / 0x1_0000_0000) as usize
 }
 
 // The slot that is tried after another: the last one is followed by the first.
