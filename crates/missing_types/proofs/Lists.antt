@@ -19,7 +19,7 @@ use Rattle.walks.proofs.States.{step-due, due-as, due-new, due-lacking, due-lon
 use Rattle.missing_types.specs.declared.Turn.{Turn}
 use Rattle.missing_types.specs.declared.Turn.the-variants as turn
 use Rattle.missing_types.specs.declared.Missing.the-variants as missing
-use Rattle.missing_types.specs.State.{Reading, Pending, pend, Now, Stopped, Then, Less, Applied}
+use Rattle.missing_types.specs.State.{OneMore, Reading, Pending, pend, Now, Stopped, Then, Less, Applied}
 use Rattle.missing_types.specs.Calls.{Walked, missingAnswer, missingList}
 
 -- ---- a walk's readings, event by event
@@ -114,8 +114,8 @@ module _ (list : List ℕ) (left n : ℕ) (ok : Bool) {e : Event} (p : IsDue lef
         falls = λ sc m f. subst (λ (y : Event). Falls sc left m y) h f .1;
       }
 
-  pub apply-lacking : (b d : ℕ) → e ≡ Lacking b d → 4096 ≤ length list → n + left ≤ 4096 → Applied e list left n ok (turn.More (left - 1) d (n + 1) ok) (set list n b)
-  apply-lacking b d h z r =
+  listed-block : (b d : ℕ) → e ≡ Lacking b d → 4096 ≤ length list → n + left ≤ 4096 → Applied e list left n ok (turn.More (left - 1) d (n + 1) ok) (set list n b)
+  listed-block b d h z r =
       let l = due-lacking left p b d h in
       let i : n < length list = omega arith in
       let k : take (n + 1) (set list n b) ≡ take n list ++ (b ∷ []) = ap (λ (k : ℕ). take k (set list n b)) (add-one n) ∙ take-suc-set list n b i in
@@ -140,6 +140,9 @@ module _ (list : List ℕ) (left n : ℕ) (ok : Bool) {e : Event} (p : IsDue lef
             };
         falls = λ sc m f. subst (λ (y : Event). Falls sc left m y) h f .1;
       }
+
+  pub apply-lacking : (b d : ℕ) → e ≡ Lacking b d → 4096 ≤ length list → n + left ≤ 4096 → {k : ℕ} {list′ : List ℕ} → OneMore list n b k list′ → Applied e list left n ok (turn.More (left - 1) d k ok) list′
+  apply-lacking b d h z r o = rw (o .count, o .blocks) (listed-block b d h z r)
 
   pub apply-full : e ≡ Full → Applied e list left n ok turn.Full list
   unfolding names listed whole

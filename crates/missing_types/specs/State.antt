@@ -4,7 +4,7 @@ use mathlib.Core.Path.{_≡_}
 use mathlib.Core.Bool.{Bool, false, _&&_}
 use mathlib.Core.List.{List, _++_}
 use Prim.Native.Nat.{ℕ, _+_, _-_, _≤_, _<_}
-use lib.ListN.{length, take, drop}
+use lib.ListN.{length, take, drop, set}
 use Rattle.events.specs.declared.Event.{Event}
 use Rattle.events.specs.declared.Event.the-variants.{Old, Lacking, New, Long, Full}
 use Rattle.walks.specs.Walk.{Walk}
@@ -36,6 +36,11 @@ pub record Stopped (all : Walk) (list₀ list : List ℕ) (n : ℕ) : Type 0 whe
   pub kept : drop n list ≡ drop n list₀
   pub long : length list ≡ length list₀
   pub room : n ≤ 4096
+
+-- block b is listed after n others
+pub record OneMore (list : List ℕ) (n b r : ℕ) (list′ : List ℕ) : Type 0 where
+  pub count : r ≡ n + 1
+  pub blocks : list′ ≡ set list n b
 
 -- what the state is after an event was applied
 abbrev pub Then : List ℕ → ℕ → Walk → List ℕ → List ℕ → List ℕ → ℕ → Turn → Type 0

@@ -2,7 +2,7 @@
 // `missing_types_in` takes a book that was checked once; `missing_types` checks it.
 ghost use mathlib.Core.Path.{_≡_};
 ghost use mathlib.Core.Bool.{true, _&&_};
-ghost use Prim.Native.Nat.{_≤_, _+_};
+ghost use Prim.Native.Nat.{_≤_, _<_, _+_};
 ghost use lib.ListN.{length, replicate};
 ghost use Rattle.typebook.specs.Book.{isType};
 ghost use Rattle.book_check.specs.Check.{ValidBook};
@@ -10,7 +10,7 @@ ghost use Rattle.links.specs.Links.{LinksOf};
 ghost use Rattle.walks.specs.Scratch.{scratchFits};
 ghost use Rattle.walks.specs.State.{IsDue};
 ghost use Rattle.missing_types.specs.Calls.{listFits, Walked, MissingIn, MissingIs};
-ghost use Rattle.missing_types.specs.State.{Applied};
+ghost use Rattle.missing_types.specs.State.{OneMore, Applied};
 use book_check::RootCheck;
 use events::Event;
 use walks::MAX_TYPES_VISITED;
@@ -34,6 +34,15 @@ enum Turn {
     Full,
 }
 
+// Lists block b after n others, also where one of them names the same type: how many are listed then.
+fn list_block(list: &mut [u32], n: usize, b: u32) -> usize
+    requires { ⌜ n < length (now list) ⌝ }
+    ensures { λ r. ⌜ OneMore (now (list .entry)) n b r (now (list .exit)) ⌝ }
+{
+    list[n] = b;
+    n + 1
+}
+
 // What an event is for the missing list.
 fn apply(e: Event, list: &mut [u32], left: usize, n: usize, ok: bool) -> Turn
     requires { ⌜ IsDue left e × (4096 ≤ length (now list)) × (n + left ≤ 4096) ⌝ }
@@ -41,12 +50,18 @@ fn apply(e: Event, list: &mut [u32], left: usize, n: usize, ok: bool) -> Turn
 {
     match e {
         Event::Old(d) => Turn::More(left, d, n, ok),
-        Event::New(_, d, _) => Turn::More(left - 1, d, n, ok),
-        Event::Lacking(b, d) => {
-            list[n] = b;
-            Turn::More(left - 1, d, n + 1, ok)
+        Event::New(_, d, _) => {
+            let rest = left - 1;
+            Turn::More(rest, d, n, ok)
         }
-        Event::Long(d) => Turn::More(left - 1, d, n, false),
+        Event::Lacking(b, d) => {
+            let rest = left - 1;
+            Turn::More(rest, d, list_block(list, n, b), ok)
+        }
+        Event::Long(d) => {
+            let rest = left - 1;
+            Turn::More(rest, d, n, false)
+        }
         Event::Full => Turn::Full,
     }
 }

@@ -78,7 +78,7 @@ module _ (k w a b : ℕ) (tape txt : List ℕ) (at from : ℕ) {p : Put} {tape�
 pub text-short : (xs tape txt : List ℕ) (at from : ℕ) (b : Bool) → b ≡ leb (at + 24) (length tape) → b ≡ false → Ran (one (text xs)) tape txt at from (Stop 15 0) tape txt
 unfolding fits tapeBytes
 text-short xs tape txt at from b e h =
-    none-put (text xs) tape txt at from (rw (append-nil (bytesOf 11 0 from (length xs)), unfit) )
+    none-put (text xs) tape txt at from (rw (append-nil (bytesOf 11 0 from (length xs)), unfit))
   where
     unfit : fitsIn (bytesOf 11 0 from (length xs)) at (length tape) ≡ false
     unfit =
