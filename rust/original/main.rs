@@ -255,6 +255,20 @@ fn walks() {
         || port.missing_types_with(WIDTH, &mut scratch),
         || missing_types(&original, &cache),
     );
+    let unlinked = TypeBook::unlinked(&bytes[..]).expect("valid");
+    let by_index = unlinked.root(0).expect("a type");
+    pair(
+        "requires_read_modify_write, by the index alone",
+        41,
+        || by_index.requires_read_modify_write_with(WIDTH, &mut scratch),
+        || requires_read_modify_write(&original, &cache),
+    );
+    pair(
+        "missing_types, by the index alone",
+        41,
+        || by_index.missing_types_with(WIDTH, &mut scratch),
+        || missing_types(&original, &cache),
+    );
     let (mut numbers, mut list) = (vec![0; 16_384], vec![0; 4_096]);
     pair(
         "missing_types, whole call with its checks",
@@ -271,6 +285,12 @@ fn prepared(bytes: &[u8]) {
         "once: checks, index, links; decoding into the HashMap",
         7,
         || TypeBook::new(bytes),
+        || cache(bytes),
+    );
+    pair(
+        "once: checks, index; decoding into the HashMap",
+        7,
+        || TypeBook::unlinked(bytes),
         || cache(bytes),
     );
 }

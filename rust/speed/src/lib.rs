@@ -74,6 +74,16 @@ pub fn array_of_10_000() -> (Vec<u8>, Vec<u8>) {
     (among(vec![root, element]), memory(size as usize))
 }
 
+/// A struct of 5,000 fields, each of a type of its own, in a book of 60,000 types, and a memory of it.
+pub fn struct_among_60_000() -> (Vec<u8>, Vec<u8>) {
+    let root = (0..5_000).fold(Type::new("ST_Machine").size(10_000), |t, i| {
+        t.field(&format!("nField{i}"), &name(12 * i), 2 * i as u32, 2)
+    });
+    let mut types = vec![root];
+    types.extend((0..60_000).map(|n| Type::new(&name(n)).id(2).size(2)));
+    (book(&types), memory(10_000))
+}
+
 fn memory(size: usize) -> Vec<u8> {
     b"recipe 12\0glue 7\0bind".iter().copied().cycle().take(size).collect()
 }

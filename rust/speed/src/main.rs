@@ -75,6 +75,25 @@ fn reads(what: &str, (bytes, memory): (Vec<u8>, Vec<u8>)) {
     assert!(tape == other && text == others);
 }
 
+/// The whole call with its checks and its own index, in a book that has more types than the index of a short book has slots.
+fn long_read((bytes, memory): (Vec<u8>, Vec<u8>)) {
+    let len = bytes.len();
+    let (mut tape, mut other) = (vec![0; 24 * 10_002], vec![0; 24 * 10_002]);
+    let t = turns(
+        5,
+        &mut [
+            &mut || keep(calls::read(&bytes, len, WIDTH, 0, &memory, &mut tape, &mut [], &mut [0; 2])),
+            &mut || keep(twin::calls::read(&bytes, len, WIDTH, 0, &memory, &mut other, &mut [], &mut [0; 2])),
+            &mut || keep(calls::check_book(&bytes, len)),
+            &mut || keep(twin::check::check_book(&bytes, len)),
+        ],
+    );
+    assert!(tape == other);
+    head("read, a struct of 5,000 fields among 60,000 types", "twin");
+    line("whole call", t[0], t[1]);
+    line("  of which the check", t[2], t[3]);
+}
+
 /// So many types without fields.
 fn types(n: usize) -> Vec<u8> {
     let types = (0..n).map(|i| Type::new(&format!("ST_Recipe{i}")).id(2).size(2));
@@ -168,6 +187,7 @@ fn main() {
     walks();
     reads("a struct of 200 fields among 4,096 types", speed::struct_of_200());
     reads("an array of 10,000 structs of 6 fields", speed::array_of_10_000());
+    long_read(speed::struct_among_60_000());
     checks();
     look_ups();
     head("texts of about 1 MB", "twin");

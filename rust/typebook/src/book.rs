@@ -48,6 +48,23 @@ impl<'a> TypeBook<'a> {
         }
     }
 
+    /// Checks a book of which only one or two walks are asked, as while it is completed type by type: the link of each block
+    /// to the type that it names, which costs more than one walk saves by it, is not made. Every answer is the same.
+    ///
+    /// ```
+    /// use typebook::{Refusal, TypeBook};
+    /// # let bytes = twin::make::example();
+    /// let book = TypeBook::unlinked(&bytes[..])?;
+    /// assert!(!book.root(0)?.requires_read_modify_write(8)?);
+    /// # Ok::<(), Refusal>(())
+    /// ```
+    pub fn unlinked(bytes: impl Into<Cow<'a, [u8]>>) -> Result<Self, Refusal> {
+        match Checked::unlinked(bytes.into()) {
+            Ok(checked) => Ok(Self { checked }),
+            Err(number) => Err(Refusal::from_number(number, 0)),
+        }
+    }
+
     /// The book's bytes.
     pub fn bytes(&self) -> &[u8] {
         self.checked.bytes()

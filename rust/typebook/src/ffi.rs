@@ -545,19 +545,26 @@ impl Links {
 }
 
 impl<'a> Checked<'a> {
-    /// The checks of document 01's refusals 1 to 4; the number of the one that is met first.
-    pub(crate) fn new(bytes: Cow<'a, [u8]>) -> Result<Self, u8> {
+    /// The checks of document 01's refusals 1 to 4; the number of the one that is met first. The walks go by the index alone.
+    pub(crate) fn unlinked(bytes: Cow<'a, [u8]>) -> Result<Self, u8> {
         match total::check_book(&bytes, bytes.len()) {
             0 => {
                 // Four slots a type serve well; more would only fill the processor's caches.
                 let types = bytes.chunks_exact(512).filter(|block| block[0] == 1).count();
                 let mut index = vec![0; 4 * types];
                 total::fill_index(&bytes, &mut index);
-                let links = Links::of_checked(&bytes, &index);
+                let links = Links(Vec::new());
                 Ok(Self { bytes, index, links })
             }
             number => Err(number),
         }
+    }
+
+    /// The same, with the links of all blocks.
+    pub(crate) fn new(bytes: Cow<'a, [u8]>) -> Result<Self, u8> {
+        let mut checked = Self::unlinked(bytes)?;
+        checked.links = Links::of_checked(&checked.bytes, &checked.index);
+        Ok(checked)
     }
 
     pub(crate) fn bytes(&self) -> &[u8] {

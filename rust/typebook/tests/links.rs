@@ -41,6 +41,8 @@ fn every_type_of_a_book() {
     for seed in 0..1_000 {
         let made = made(&mut Rng::new(seed + 2_000_000));
         let (m, y) = alike(&TypeBook::new(&made.book[..]).unwrap(), made.width);
+        // By the index alone the answers are the same.
+        assert_eq!(alike(&TypeBook::unlinked(&made.book[..]).unwrap(), made.width), (m, y));
         missing += m;
         yes += y;
     }
