@@ -1,10 +1,12 @@
 #!/usr/bin/env python3
 """Tries the must-fail edits of some crates alone, those in must-fail/more too, which the gate leaves out.
 
-    python3 tools/try_edits.py CRATE ...
+    python3 tools/try_edits.py CRATE ...           # all edits of these crates
+    python3 tools/try_edits.py --more [CRATE ...]  # only those that the gate leaves out, of these crates or of all
 
-The crates below must be proved (`rt check CRATE`). For each edit one line: refused with the place of the first error, or NOT
-REFUSED. (`rt must-fail CRATE` tries the edits of every crate below as well.) An edit's form is rt's: lines `file:`, `old:`, `new:`.
+The crates must be proved (`rt check CRATE`). For each edit one line: refused with the place of the first error, or NOT
+REFUSED; the last line counts them. (`rt must-fail CRATE` tries the edits of every crate below as well.) An edit's form is rt's: lines
+`file:`, `old:`, `new:`.
 """
 
 import os
@@ -75,14 +77,23 @@ def tried(name, edit):
 
 
 def main():
-    if len(sys.argv) < 2:
+    names = sys.argv[1:]
+    more = names[:1] == ["--more"]
+    if more:
+        names = names[1:] or sorted(folder.name for folder in (ROOT / "crates").iterdir())
+    if not names:
         sys.exit(__doc__)
-    left = 0
-    for name in sys.argv[1:]:
-        for edit in sorted((ROOT / "crates" / name / "must-fail").rglob("*.edit")):
+    refused = left = 0
+    for name in names:
+        folder = ROOT / "crates" / name / "must-fail"
+        for edit in sorted((folder / "more").glob("*.edit") if more else folder.rglob("*.edit")):
             said = tried(name, edit)
-            left += not said.startswith("refused")
+            if said.startswith("refused"):
+                refused += 1
+            else:
+                left += 1
             print(f"{name}/{edit.stem}: {said}", flush=True)
+    print(f"{refused} refused, {left} not")
     sys.exit(left > 0)
 
 

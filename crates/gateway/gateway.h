@@ -25,7 +25,8 @@
  * gateway_fill_index made of the book makes look-ups quick. `links`, which the two walks take, is believed: it must be empty, or as
  * gateway_fill_links left it for this book, unchanged since. The other calls take any bytes and any numbers.
  *
- * A call takes up to 320 KiB of stack (measured: a read of 63 arrays in one another takes the most), and no other memory.
+ * A call takes up to 704 KiB of stack (measured: a read of 63 arrays in one another takes the most; 512 KiB of it is the index of names
+ * that a read of a long book makes, for which the room is taken in any read that checks its book), and no other memory.
  */
 #ifndef GATEWAY_H
 #define GATEWAY_H

@@ -48,8 +48,8 @@ impl<'a> TypeBook<'a> {
         }
     }
 
-    /// Checks a book of which only one or two walks are asked, as while it is completed type by type: the link of each block
-    /// to the type that it names, which costs more than one walk saves by it, is not made. Every answer is the same.
+    /// Checks a book of which only a walk or two are asked, as while it is completed type by type: the links from the blocks to
+    /// the types that they name, which cost about what one walk saves by them, are not made. Every answer is the same.
     ///
     /// ```
     /// use typebook::{Refusal, TypeBook};
