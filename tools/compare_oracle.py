@@ -8,7 +8,7 @@
 ORACLE is the oracle's folder, built: its book.py makes the books, its program answers for the original. Every call is
 compared on that many cases. What isn't compared is counted: memories in which a text may open with a byte order mark, array
 products of 2^64 or more (there the original panics), and 14 against another answer (the original has no limit of levels).
-Ends with 1 if anything else differs. Run by hand: it takes a quarter of an hour.
+Ends with 1 if anything else differs. Run by hand: it takes three to fifteen minutes.
 """
 
 import argparse

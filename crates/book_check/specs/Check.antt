@@ -67,6 +67,11 @@ bookRefusal Doubled = 4
 abbrev pub ValidBook : List ℕ → Type 0
 ValidBook book = checkBook book (length book) ≡ Valid
 
+-- document 01's number of a root's check, 0 for a root that is not refused
+abbrev pub rootRefusal : RootCheck → ℕ
+rootRefusal (Root n) = 0
+rootRefusal (Refused n) = n
+
 -- 5: the root is the number of a type block
 unfoldable pub rootOf : List ℕ → ℕ → RootCheck
 rootOf book root = cond (ltb root (blocks book) && isType book root) (Root root) (Refused 5)

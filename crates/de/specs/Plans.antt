@@ -1,4 +1,4 @@
--- What a plan of fields is worth to the functions of the reader. No contract of a public function cites this. Assumes nothing.
+-- What the functions of the reader know of a plan of fields. No contract of a public function cites this. Assumes nothing.
 use mathlib.Core.Path.{_≡_}
 use mathlib.Core.Bool.{true}
 use mathlib.Core.List.{List}

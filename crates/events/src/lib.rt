@@ -1,5 +1,5 @@
 // What one turn of a walk finds, and the event of a new name: the type that it comes to is marked visited and its parts are laid on the
-// stack. These functions are for the walks alone, which know that their `requires` hold.
+// stack. These functions are for the walks alone, which show what their `requires` ask for.
 ghost use mathlib.Core.Path.{_≡_};
 ghost use mathlib.Core.Bool.{true};
 ghost use Prim.Native.Nat.{_≤_, _<_};

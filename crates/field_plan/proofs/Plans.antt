@@ -34,7 +34,7 @@ use Rattle.field_types.proofs.Fields.{field-at, field-nothing, fields-more, fie
 use Rattle.field_plan.specs.declared.PlannedField.{PlannedField}
 use Rattle.field_plan.specs.declared.Planned.{Planned}
 use Rattle.field_plan.specs.declared.Planned.the-variants as planned
-use Rattle.field_plan.specs.Plan.{entryOf, FieldIs, PlannedIs, Known, PlanEntry, Entries, Ready, noted, planFrom, planOf, PlanIs}
+use Rattle.field_plan.specs.Plan.{entryOf, plannedOf, FieldIs, PlannedIs, Known, PlanEntry, Entries, Ready, noted, planFrom, planOf, PlanIs}
 
 -- ---- one field
 
@@ -62,14 +62,18 @@ module _ (book : List ℕ) (width f : ℕ) (x : ResolvedField) where
   parts e = parts-found (find book (typeNameOf book f)) e
 
 lacks-only : {book : List ℕ} {width f : ℕ} (b : ℕ) → resolveField book width f ≡ answer.Lacks b → PlannedIs book width f (planned.Lacks b)
+unfolding plannedOf
 lacks-only b h = record {
+  is = rw h;
   field = λ y g. absurd (let z : _≡_ {A = ℕ} 0 1 = cc in omega arith);
   lacks = λ d g. let z : b ≡ d = cc in h ∙ ap answer.Lacks z;
   endless = λ g. absurd (let z : _≡_ {A = ℕ} 0 1 = cc in omega arith);
 }
 
 field-only : {book : List ℕ} {width f : ℕ} (x : PlannedField) → FieldIs book width f x → PlannedIs book width f (planned.Field x)
+unfolding plannedOf
 field-only {book} {width} {f} x h = record {
+  is = rw (h .found, h .offset-is, h .size-is, h .resolved-is, ← h .category-is);
   field = λ y g. let a : _≡_ {A = PlannedField} x y = cc in subst (FieldIs book width f) a h;
   lacks = λ b g. absurd (let z : _≡_ {A = ℕ} 0 1 = cc in omega arith);
   endless = λ g. absurd (let z : _≡_ {A = ℕ} 0 1 = cc in omega arith);
@@ -100,10 +104,11 @@ module _ (book : List ℕ) (width f n : ℕ) (w : find book (typeNameOf book f) 
   alias-lacks b e = lacks-only b (at ∙ ap (fieldOf book f n) e)
 
   pub alias-endless : r ≡ resolved.Endless → PlannedIs book width f planned.Endless
-  unfolding fieldOf
+  unfolding fieldOf plannedOf
   alias-endless e =
       let z : resolveField book width f ≡ answer.Endless = at ∙ ap (fieldOf book f n) e in
       record {
+        is = rw z;
         field = λ y g. absurd (let z : _≡_ {A = ℕ} 0 1 = cc in omega arith);
         lacks = λ d g. absurd (let z : _≡_ {A = ℕ} 0 1 = cc in omega arith);
         endless = λ g. z;

@@ -21,6 +21,19 @@ use Rattle.field_plan.specs.declared.Planned.the-variants as planned
 abbrev pub entryOf : PlannedField → ℕ
 entryOf x = 1 + x .resolved * 16 + categoryNumber (x .category)
 
+-- document 01's number of a planned field, 0 where its type is found; 7 comes with the block that `Lacks` carries
+abbrev pub plannedRefusal : Planned → ℕ
+plannedRefusal (planned.Field x) = 0
+plannedRefusal (planned.Lacks b) = 7
+plannedRefusal planned.Endless = 8
+
+-- what a field came to, with the category of its type
+unfoldable pub plannedOf : List ℕ → ℕ → FieldAnswer → Planned
+plannedOf book width (answer.Field x) =
+    planned.Field (record { offset = x .offset; size = x .size; resolved = x .resolved; category = categoryOf book width (x .resolved) })
+plannedOf book width (answer.Lacks b) = planned.Lacks b
+plannedOf book width answer.Endless = planned.Endless
+
 -- x is what field block f resolves to, with the category of its type
 pub record FieldIs (book : List ℕ) (width f : ℕ) (x : PlannedField) : Type 0 where
   pub whole : ResolvedField
@@ -31,8 +44,9 @@ pub record FieldIs (book : List ℕ) (width f : ℕ) (x : PlannedField) : Type 0
   pub typed : isType book (x .resolved) ≡ true
   pub category-is : x .category ≡ categoryOf book width (x .resolved)
 
--- an answer is that of resolving field block f
+-- an answer is that of resolving field block f; what each of its cases tells
 pub record PlannedIs (book : List ℕ) (width f : ℕ) (r : Planned) : Type 0 where
+  pub is : r ≡ plannedOf book width (resolveField book width f)
   pub field : (x : PlannedField) → r ≡ planned.Field x → FieldIs book width f x
   pub lacks : (b : ℕ) → r ≡ planned.Lacks b → resolveField book width f ≡ answer.Lacks b
   pub endless : r ≡ planned.Endless → resolveField book width f ≡ answer.Endless

@@ -15,7 +15,7 @@ use Rattle.tape.specs.declared.cursor.Cursor.{Cursor}
 use Rattle.tape.specs.declared.cursor.Step.the-variants as step
 use Rattle.tape.specs.Record.{recordOf, stepAt}
 use Rattle.figures.specs.Puts.{Puts, Ended, Printed}
-use Rattle.figures.proofs.Joins.{chain, chain-3, Rest, rest-next, rest-end, printed}
+use Rattle.figures.proofs.Joins.{chain, chain-3, Rest, rest-all, rest-next, rest-end, printed}
 use Rattle.record_line.specs.Line.{countedLine, lineOf}
 use Rattle.lines.specs.Lines.{before, recordsAt, linesOf, headLine, walkLines, refusedLine}
 
@@ -57,6 +57,10 @@ module _ (book text tape : List ℕ) (all out₀ : List ℕ) (p₀ : Put) (at le
 
   pub lines-over : s ≡ step.End → Puts all out₀ p₀ p out
   lines-over t = rest-end inv (ap (λ (k : ℕ). linesOf book text (recordsAt tape k at)) as-suc ∙ lines-none book text tape at (left - 1) (sym t ∙ e))
+
+-- at the first record all lines are left
+pub lines-start : (book text tape out : List ℕ) (p : Put) (records at : ℕ) → at ≡ 0 → Rest (linesOf book text (recordsAt tape records 0)) out p (linesOf book text (recordsAt tape records at)) out p
+lines-start book text tape out p records at e = rest-all (rw e)
 
 pub lines-done : (book text tape all out₀ : List ℕ) (p₀ : Put) (at left : ℕ) (out : List ℕ) (p : Put) → Rest all out₀ p₀ (linesOf book text (recordsAt tape left at)) out p → left ≤ 0 → Puts all out₀ p₀ p out
 unfolding linesOf recordsAt

@@ -31,14 +31,14 @@ fn record_lines<'a>(
     ensures { λ q. ⌜ Puts (linesOf (now (book .entry)) (now (text .entry)) (recordsAt (now (tape .entry)) records 0)) (now (out .entry)) p q (now (out .exit)) ⌝ }
 {
     let mut next = p;
-    let mut at: usize = 0;
+    let mut cursor = Cursor::new();
     let mut left = records;
     while left > 0 {
-        let step = Cursor { at }.next(tape);
+        let step = cursor.next(tape);
         match step {
             Step::Record(r, after) => {
                 next = line(next, book, text, r, out);
-                at = after.at;
+                cursor = after;
                 left -= 1;
             }
             Step::End => {

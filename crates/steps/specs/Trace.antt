@@ -77,7 +77,8 @@ fitting (e ∷ es) at from tapeRoom textRoom =
     (e ∷ fitting es (at + length (tapeBytes from (e ∷ []))) (from + length (textBytes (e ∷ []))) tapeRoom textRoom)
     []
 
--- what a function that runs a trace promises: the answer, and both buffers, also where it is refused: the events that fit are there
+-- what a function that runs a trace promises: the answer, and both buffers, also where it is refused: the events up to one that does not fit
+-- are there
 pub record Ran (t : Trace) (tape txt : List ℕ) (at from : ℕ) (r : Step) (tape′ txt′ : List ℕ) : Type 0 where
   pub answer : r ≡ stepOf t (length tape) (length txt) at from
   pub wrote : tape′ ≡ splice tape at (tapeBytes from (fitting (eventsOf t) at from (length tape) (length txt)))
@@ -90,7 +91,13 @@ pub record From (t : Trace) (tape txt : List ℕ) (s r : Step) (tape′ txt′ :
   pub off-tape : (n b : ℕ) → s ≡ Stop n b → tape′ ≡ tape
   pub off-text : (n b : ℕ) → s ≡ Stop n b → txt′ ≡ txt
 
--- a refusal after a step
+-- a refusal after a step: an earlier one is handed on
+abbrev pub stopAfter : Step → ℕ → ℕ → Step
+stopAfter (Next at from) n b = Stop n b
+stopAfter (Stop k c) n b = Stop k c
+
+-- the step after a refusal, and what it is in each case
 pub record Halts (s : Step) (n b : ℕ) (r : Step) : Type 0 where
+  pub is : r ≡ stopAfter s n b
   pub on : (at from : ℕ) → s ≡ Next at from → r ≡ Stop n b
   pub off : (k c : ℕ) → s ≡ Stop k c → r ≡ Stop k c

@@ -1,6 +1,6 @@
 // The blocks that a walk has still to visit and those that it has visited, as numbers in the lent scratch: a stack in 0 to 4,095, a bit
 // for each of 65,536 blocks in 4,096 to 6,143. A name that the book lacks has no block: it was visited if a listed block names it.
-// These functions are for the walks alone, which know that their `requires` hold.
+// These functions are for the walks alone, which show what their `requires` ask for.
 ghost use mathlib.Core.Path.{_≡_};
 ghost use mathlib.Core.Bool.{true};
 ghost use Prim.Native.Nat.{_≤_, _<_};

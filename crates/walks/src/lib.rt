@@ -1,6 +1,6 @@
 // The walk of the types that a type is made of (the Rust's resolvers.rs), event by event. Whether the memory of a value must be read
 // before it is written, and which types the book lacks, are two readings of this one walk: crates `read_modify_write` and
-// `missing_types`. These functions are for the two alone, which know that their `requires` hold.
+// `missing_types`. These functions are for the two alone, which show what their `requires` ask for.
 ghost use mathlib.Core.Path.{_≡_};
 ghost use mathlib.Core.Bool.{true};
 ghost use Prim.Native.Nat.{_≤_, _<_, _+_};

@@ -1,4 +1,4 @@
-//! The story of a save: our book begins with little more than the root, asks what it lacks, gets each listed type from the controller's
+//! A save from its beginning: our book begins with little more than the root, asks what it lacks, gets each listed type from the controller's
 //! book, and asks again, until nothing is listed. Then it must answer as the controller's book does.
 
 use std::collections::BTreeSet;

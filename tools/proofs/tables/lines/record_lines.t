@@ -2,11 +2,11 @@ use borrow.Author.Needs.{needs}
 use mathlib.Core.Path.{_≡_, refl}
 use lib.ListN.{length}
 use Rattle.lines.specs.Lines.{linesOf, recordsAt}
-use Rattle.figures.proofs.Joins.{Rest, rest-all}
-use Rattle.lines.proofs.Prints.{lines-again, lines-over, lines-done}
-def Inv-loop => (length out ≡ length out₀) × Rest (linesOf book text (recordsAt tape records 0)) out₀ next₀ (linesOf book text (recordsAt tape left at)) out next
+use Rattle.figures.proofs.Joins.{Rest}
+use Rattle.lines.proofs.Prints.{lines-start, lines-again, lines-over, lines-done}
+def Inv-loop => (length out ≡ length out₀) × Rest (linesOf book text (recordsAt tape records 0)) out₀ next₀ (linesOf book text (recordsAt tape left (cursor .at))) out next
 def μ-loop => left
-loop-holds => (refl, rest-all refl)
+loop-holds => (refl, search lines-start)
 loop-again => (search needs, search lines-again)
 returns => search lines-over
 returns-2 => search lines-done
