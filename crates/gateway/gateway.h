@@ -22,8 +22,7 @@
  * The calls whose names end in _in are for many calls on one book and test neither book nor root. They may only be called with a
  * `book` for which gateway_check_book(book, book_len, book_len) returned 0, unchanged since, and a `root` for which gateway_is_type
  * returned 1. With any other book or root nothing is known of what they do. `index` may hold anything and may be empty; one that
- * gateway_fill_index made of the book makes look-ups quick. `links`, which the two walks take, is believed: it must be empty, or as
- * gateway_fill_links left it for this book, unchanged since. The other calls take any bytes and any numbers.
+ * gateway_fill_index or gateway_fill_names made of the book makes look-ups quick. The other calls take any bytes and any numbers.
  *
  * A call takes up to 704 KiB of stack (measured: a read of 63 arrays in one another takes the most; 512 KiB of it is the index of names
  * that a read of a long book makes, for which the room is taken in any read that checks its book), and no other memory.
@@ -70,8 +69,13 @@ uint32_t gateway_find(const uint8_t *book, size_t book_len, const uint8_t *name,
 uint32_t gateway_find_by(const uint8_t *book, size_t book_len, const uint32_t *index, size_t index_len, const uint8_t *name,
                          size_t name_len);
 
-/* Fills `index` for the book: each element is 0, or one more than a type block's number. Four elements for each type serve well; 16,384
- * do for any book of 4,096 types. */
+/* Fills `index` with the names of the book's types: each element is 0, or one more than a type block's number. Four elements for each
+ * type serve well; 16,384 do for any book of 4,096 types. For a call or two. */
+void gateway_fill_names(const uint8_t *book, size_t book_len, uint32_t *index, size_t index_len);
+
+/* The same, and the type that each block names, which makes the walks of a checked book quick: at the end of the index, one element for
+ * each block, where it has three or more for each block (with fewer it is as by gateway_fill_names). Four for each type and one for each
+ * block serve well, where those are three for each block. */
 void gateway_fill_index(const uint8_t *book, size_t book_len, uint32_t *index, size_t index_len);
 
 /* ---- the book */
@@ -137,20 +141,13 @@ uint8_t gateway_requires_read_modify_write(const uint8_t *buffer, size_t buffer_
 uint8_t gateway_missing_types(const uint8_t *buffer, size_t buffer_len, size_t len, uint8_t width, uint64_t root, uint32_t *scratch,
                               size_t scratch_len, uint32_t *list, size_t list_len, uint64_t *values, size_t values_len);
 
-/* Fills `links` for a checked book: element b is 0, or one more than the type block that block b's type name finds. One element for
- * each block serves best. It goes by the index alone: a name to which that does not lead is 0, and a walk looks it up. */
-void gateway_fill_links(const uint8_t *book, size_t book_len, const uint32_t *index, size_t index_len, uint32_t *links,
-                        size_t links_len);
-
 /* gateway_requires_read_modify_write in a checked book: 0, 6, 7, 8, 9. Scratch: as before after 6, else all zero. */
 uint8_t gateway_requires_read_modify_write_in(const uint8_t *book, size_t book_len, const uint32_t *index, size_t index_len,
-                                              const uint32_t *links, size_t links_len, uint8_t width, uint32_t root,
-                                              uint32_t *scratch, size_t scratch_len, uint64_t *values, size_t values_len);
+                                              uint8_t width, uint32_t root, uint32_t *scratch, size_t scratch_len, uint64_t *values, size_t values_len);
 
 /* gateway_missing_types in a checked book: 0 or 6; after 6 scratch and list are as before. */
 uint8_t gateway_missing_types_in(const uint8_t *book, size_t book_len, const uint32_t *index, size_t index_len,
-                                 const uint32_t *links, size_t links_len, uint8_t width, uint32_t root, uint32_t *scratch,
-                                 size_t scratch_len, uint32_t *list, size_t list_len, uint64_t *values, size_t values_len);
+                                 uint8_t width, uint32_t root, uint32_t *scratch, size_t scratch_len, uint32_t *list, size_t list_len, uint64_t *values, size_t values_len);
 
 /* ---- read */
 

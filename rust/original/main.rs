@@ -255,18 +255,18 @@ fn walks() {
         || port.missing_types_with(WIDTH, &mut scratch),
         || missing_types(&original, &cache),
     );
-    let unlinked = TypeBook::unlinked(&bytes[..]).expect("valid");
-    let by_index = unlinked.root(0).expect("a type");
+    let names_only = TypeBook::names_only(&bytes[..]).expect("valid");
+    let by_names = names_only.root(0).expect("a type");
     pair(
-        "requires_read_modify_write, by the index alone",
+        "requires_read_modify_write, by an index of names only",
         41,
-        || by_index.requires_read_modify_write_with(WIDTH, &mut scratch),
+        || by_names.requires_read_modify_write_with(WIDTH, &mut scratch),
         || requires_read_modify_write(&original, &cache),
     );
     pair(
-        "missing_types, by the index alone",
+        "missing_types, by an index of names only",
         41,
-        || by_index.missing_types_with(WIDTH, &mut scratch),
+        || by_names.missing_types_with(WIDTH, &mut scratch),
         || missing_types(&original, &cache),
     );
     let (mut numbers, mut list) = (vec![0; 16_384], vec![0; 4_096]);
@@ -282,15 +282,15 @@ fn walks() {
 /// What each side does once for a book.
 fn prepared(bytes: &[u8]) {
     pair(
-        "once: checks, index, links; decoding into the HashMap",
+        "once: checks, index; decoding into the HashMap",
         7,
         || TypeBook::new(bytes),
         || cache(bytes),
     );
     pair(
-        "once: checks, index; decoding into the HashMap",
+        "once: checks, names only; decoding into the HashMap",
         7,
-        || TypeBook::unlinked(bytes),
+        || TypeBook::names_only(bytes),
         || cache(bytes),
     );
 }

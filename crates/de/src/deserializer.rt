@@ -102,7 +102,7 @@ fn read_small(
     ensures { λ r. ⌜ ReadIs (rootTrace (ctx (now (book .entry)) width) root (now (memory .entry))) (now (tape .entry)) (now (text .entry)) r (now (tape .exit)) (now (text .exit)) ⌝ }
 {
     let mut index = [0u32; 16384];
-    type_index::fill_index(book, &mut index);
+    type_index::fill_names(book, &mut index);
     read_in(book, &index, width, root, memory, tape, text)
 }
 
@@ -119,7 +119,7 @@ fn read_large(
     ensures { λ r. ⌜ ReadIs (rootTrace (ctx (now (book .entry)) width) root (now (memory .entry))) (now (tape .entry)) (now (text .entry)) r (now (tape .exit)) (now (text .exit)) ⌝ }
 {
     let mut index = [0u32; 131072];
-    type_index::fill_index(book, &mut index);
+    type_index::fill_names(book, &mut index);
     read_in(book, &index, width, root, memory, tape, text)
 }
 

@@ -119,13 +119,13 @@ pub alias-typed : (book : List ℕ) (f n : ℕ) → find book (typeNameOf book f
 alias-typed book f n w = found-type book (typeNameOf book f) n w
 
 -- by what the field's type name finds
-module _ (book : List ℕ) (width f : ℕ) (v : ValidBook book) (name : List ℕ) (en : name ≡ typeNameOf book f) (x : Found) (ex : FoundBy book name x) where
+module _ (book : List ℕ) (width f : ℕ) (x : Found) (ex : x ≡ find book (typeNameOf book f)) where
   pub plan-nothing : x ≡ Nothing → PlannedIs book width f (planned.Lacks f)
-  plan-nothing h = lacks-only f (field-nothing book width f (sym (found-is book v f name en x ex) ∙ h))
+  plan-nothing h = lacks-only f (field-nothing book width f (sym ex ∙ h))
 
   module _ (n : ℕ) (h : x ≡ At n) where
     pub plan-found : find book (typeNameOf book f) ≡ At n
-    plan-found = sym (found-is book v f name en x ex) ∙ h
+    plan-found = sym ex ∙ h
 
     -- a type that is no alias is what it resolves to
     pub plan-plain : (o s : ℕ) (c : AdsTypeCategory) (b : Bool) → c ≡ categoryOf book width n → b ≡ goesOn false c → b ≡ false → o ≡ offsetOf book f → s ≡ sizeOf book f

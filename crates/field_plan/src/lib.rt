@@ -55,7 +55,7 @@ fn plan_field(book: &[u8], index: &[u32], width: u8, f: u32) -> Planned
     requires { ⌜ ValidBook (now book) ⌝ }
     ensures { λ r. ⌜ PlannedIs (now (book .entry)) width f r ⌝ }
 {
-    let found = type_index::find_by(book, index, block::type_name(book, f));
+    let found = resolvers::named_in(book, index, f);
     let Found::At(named) = found else {
         return Planned::Lacks(f);
     };

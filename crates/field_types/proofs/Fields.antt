@@ -35,17 +35,17 @@ module _ (book : List ℕ) (width f : ℕ) where
   unfolding resolveField fieldFound
   field-nothing e = rw e
 
-  module _ (v : ValidBook book) (name : List ℕ) (en : name ≡ typeNameOf book f) (x : Found) (ex : FoundBy book name x) where
+  module _ (x : Found) (ex : x ≡ find book (typeNameOf book f)) where
     pub resolved-nothing : x ≡ Nothing → FieldResolved book width f (answer.Lacks f)
     resolved-nothing h =
         record {
-          is = sym (field-nothing (sym (found-is book v f name en x ex) ∙ h));
+          is = sym (field-nothing (sym ex ∙ h));
           typed = λ y e. absurd (let z : _≡_ {A = ℕ} 0 1 = cc in omega arith);
         }
 
     module _ (n : ℕ) (h : x ≡ At n) (r : Resolved) (q : ResolvedIs book (resolveAlias book width n) r) where
       found : resolveField book width f ≡ fieldOf book f n r
-      found = field-at n (sym (found-is book v f name en x ex) ∙ h) ∙ ap (fieldOf book f n) (sym (q .is))
+      found = field-at n (sym ex ∙ h) ∙ ap (fieldOf book f n) (sym (q .is))
 
       pub resolved-lacks : (c : ℕ) → r ≡ Lacks c → FieldResolved book width f (answer.Lacks c)
       unfolding fieldOf

@@ -54,7 +54,7 @@ pub fn resolve_field_in(book: &[u8], index: &[u32], width: u8, f: u32) -> FieldA
     requires { ⌜ ValidBook (now book) ⌝ }
     ensures { λ r. ⌜ FieldResolved (now (book .entry)) width f r ⌝ }
 {
-    let found = type_index::find_by(book, index, block::type_name(book, f));
+    let found = resolvers::named_in(book, index, f);
     let Found::At(named) = found else {
         return FieldAnswer::Lacks(f);
     };
@@ -164,7 +164,7 @@ fn fill_fields(book: &[u8], width: u8, t: u32, records: &mut [u32]) -> FieldsAns
     ensures { λ r. ⌜ Filled (fieldsAnswer (now (book .entry)) width t (length (now (records .entry)))) (fieldRecords (now (book .entry)) width t) (now (records .entry)) r (now (records .exit)) ⌝ }
 {
     let mut index = [0u32; 16384];
-    type_index::fill_index(book, &mut index);
+    type_index::fill_names(book, &mut index);
     let answer = fields_answer(book, &index, width, t, records.len());
     match answer {
         FieldsAnswer::Done(n) => {

@@ -58,6 +58,15 @@ pub extern "C" fn gateway_find_by(book: &[u8], index: &[u32], name: &[u8]) -> u3
     codes::found(type_index::find_by(book, index, name))
 }
 
+// An index of the names alone, for a call or two.
+#[no_mangle]
+pub extern "C" fn gateway_fill_names(book: &[u8], index: &mut [u32])
+    ensures { λ _. ⌜ IndexOf (now (book .entry)) (now (index .entry)) (now (index .exit)) ⌝ }
+{
+    type_index::fill_names(book, index);
+}
+
+// An index of the names and, where it is long enough, with a hint for each block.
 #[no_mangle]
 pub extern "C" fn gateway_fill_index(book: &[u8], index: &mut [u32])
     ensures { λ _. ⌜ IndexOf (now (book .entry)) (now (index .entry)) (now (index .exit)) ⌝ }

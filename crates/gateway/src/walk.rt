@@ -3,21 +3,11 @@ ghost use mathlib.Core.Path.{_≡_};
 ghost use mathlib.Core.Bool.{true, _&&_};
 ghost use Rattle.typebook.specs.Book.{isType};
 ghost use Rattle.book_check.specs.Check.{ValidBook};
-ghost use Rattle.links.specs.Links.{LinksOf, LinksMade};
 ghost use Rattle.walks.specs.Scratch.{scratchFits};
 ghost use Rattle.missing_types.specs.Calls.{listFits};
 ghost use Rattle.gateway.specs.Calls.{RmwGiven, RmwInGiven, MissingGiven, MissingInGiven};
 use walk_answers::give_missing;
 use walk_answers::give_rmw;
-
-// The type that each block's type name finds, looked up once for the two calls by a checked book.
-#[no_mangle]
-pub extern "C" fn gateway_fill_links(book: &[u8], index: &[u32], links: &mut [u32])
-    requires { ⌜ ValidBook (now book) ⌝ }
-    ensures { λ _. ⌜ LinksMade (now (book .entry)) (now (links .entry)) (now (links .exit)) ⌝ }
-{
-    links::fill_links(book, index, links);
-}
 
 // 1 where a value's memory must be read before it is written, else 0.
 #[no_mangle]
@@ -41,17 +31,16 @@ pub extern "C" fn gateway_requires_read_modify_write(
 pub extern "C" fn gateway_requires_read_modify_write_in(
     book: &[u8],
     index: &[u32],
-    links: &[u32],
     width: u8,
     root: u32,
     scratch: &mut [u32],
     values: &mut [u64],
 ) -> u8
-    requires { ⌜ ValidBook (now book) × LinksOf (now book) (now links) × (isType (now book) root ≡ true) ⌝ }
+    requires { ⌜ ValidBook (now book) × (isType (now book) root ≡ true) ⌝ }
     ensures { λ r. ⌜ RmwInGiven (scratchFits (now (scratch .entry))) (now (book .entry)) width root (now (scratch .entry)) (now (values .entry)) r (now (scratch .exit)) (now (values .exit)) ⌝ }
 {
     give_rmw(
-        once_checked::rmw_in(book, index, links, width, root, scratch),
+        once_checked::rmw_in(book, index, width, root, scratch),
         values,
     )
 }
@@ -79,18 +68,17 @@ pub extern "C" fn gateway_missing_types(
 pub extern "C" fn gateway_missing_types_in(
     book: &[u8],
     index: &[u32],
-    links: &[u32],
     width: u8,
     root: u32,
     scratch: &mut [u32],
     list: &mut [u32],
     values: &mut [u64],
 ) -> u8
-    requires { ⌜ ValidBook (now book) × LinksOf (now book) (now links) × (isType (now book) root ≡ true) ⌝ }
+    requires { ⌜ ValidBook (now book) × (isType (now book) root ≡ true) ⌝ }
     ensures { λ r. ⌜ MissingInGiven (scratchFits (now (scratch .entry)) && listFits (now (list .entry))) (now (book .entry)) width root (now (scratch .entry)) (now (list .entry)) (now (values .entry)) r (now (scratch .exit)) (now (list .exit)) (now (values .exit)) ⌝ }
 {
     give_missing(
-        once_checked::missing_in(book, index, links, width, root, scratch, list),
+        once_checked::missing_in(book, index, width, root, scratch, list),
         values,
     )
 }

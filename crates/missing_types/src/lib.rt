@@ -6,7 +6,6 @@ ghost use Prim.Native.Nat.{_≤_, _<_, _+_};
 ghost use lib.ListN.{length, replicate};
 ghost use Rattle.typebook.specs.Book.{isType};
 ghost use Rattle.book_check.specs.Check.{ValidBook};
-ghost use Rattle.links.specs.Links.{LinksOf};
 ghost use Rattle.walks.specs.Scratch.{scratchFits};
 ghost use Rattle.walks.specs.State.{IsDue};
 ghost use Rattle.missing_types.specs.Calls.{listFits, Walked, MissingIn, MissingIs};
@@ -70,13 +69,12 @@ fn apply(e: Event, list: &mut [u32], left: usize, n: usize, ok: bool) -> Turn
 fn missing_walk(
     book: &[u8],
     index: &[u32],
-    links: &[u32],
     width: u8,
     root: u32,
     scratch: &mut [u32],
     list: &mut [u32],
 ) -> Missing
-    requires { ⌜ ValidBook (now book) × LinksOf (now book) (now links) × (isType (now book) root ≡ true) × (16384 ≤ length (now scratch)) × (4096 ≤ length (now list)) × (now scratch ≡ replicate (length (now scratch)) 0) ⌝ }
+    requires { ⌜ ValidBook (now book) × (isType (now book) root ≡ true) × (16384 ≤ length (now scratch)) × (4096 ≤ length (now list)) × (now scratch ≡ replicate (length (now scratch)) 0) ⌝ }
     ensures { λ r. ⌜ Walked (now (book .entry)) width root (now (list .entry)) r (now (list .exit)) ⌝ }
 {
     let mut e = start(book, index, width, root, scratch);
@@ -94,25 +92,24 @@ fn missing_walk(
         left = l;
         n = k;
         ok = o;
-        e = step(book, index, links, width, scratch, list, n, left, d);
+        e = step(book, index, width, scratch, list, n, left, d);
     }
 }
 
-// `missing_types` for a book that was checked, with an index of its names and its links.
+// `missing_types` for a book that was checked, with an index.
 pub fn missing_types_in(
     book: &[u8],
     index: &[u32],
-    links: &[u32],
     width: u8,
     root: u32,
     scratch: &mut [u32],
     list: &mut [u32],
 ) -> Missing
-    requires { ⌜ ValidBook (now book) × LinksOf (now book) (now links) × (isType (now book) root ≡ true) × (16384 ≤ length (now scratch)) × (4096 ≤ length (now list)) ⌝ }
+    requires { ⌜ ValidBook (now book) × (isType (now book) root ≡ true) × (16384 ≤ length (now scratch)) × (4096 ≤ length (now list)) ⌝ }
     ensures { λ r. ⌜ MissingIn true (now (book .entry)) width root (now (scratch .entry)) (now (list .entry)) r (now (scratch .exit)) (now (list .exit)) ⌝ }
 {
     clear_numbers(scratch);
-    let answer = missing_walk(book, index, links, width, root, scratch, list);
+    let answer = missing_walk(book, index, width, root, scratch, list);
     clear_numbers(scratch);
     answer
 }
@@ -129,10 +126,8 @@ fn missing_at(book: &[u8], width: u8, root: u32, scratch: &mut [u32], list: &mut
         return Missing::Refused(6);
     }
     let mut index = [0u32; 16384];
-    type_index::fill_index(book, &mut index);
-    // To make the links of a whole book costs more than one walk saves by them.
-    let unlinked: [u32; 1] = [0];
-    missing_types_in(book, &index, &unlinked, width, root, scratch, list)
+    type_index::fill_names(book, &mut index);
+    missing_types_in(book, &index, width, root, scratch, list)
 }
 
 // Lists every type that the root is made of and the book lacks, each by the block that names it, in the order found: without an

@@ -3,7 +3,6 @@ ghost use mathlib.Core.Path.{_≡_};
 ghost use mathlib.Core.Bool.{true, _&&_};
 ghost use Rattle.typebook.specs.Book.{isType};
 ghost use Rattle.book_check.specs.Check.{ValidBook};
-ghost use Rattle.links.specs.Links.{LinksOf};
 ghost use Rattle.walks.specs.Scratch.{scratchFits};
 ghost use Rattle.missing_types.specs.Calls.{listFits, MissingIn};
 ghost use Rattle.read_modify_write.specs.Calls.{RmwIn};
@@ -16,34 +15,26 @@ const SCRATCH: usize = 16384;
 const LIST: usize = 4096;
 
 // 6 for a short scratch, then the walk.
-pub fn rmw_in(
-    book: &[u8],
-    index: &[u32],
-    links: &[u32],
-    width: u8,
-    root: u32,
-    scratch: &mut [u32],
-) -> Rmw
-    requires { ⌜ ValidBook (now book) × LinksOf (now book) (now links) × (isType (now book) root ≡ true) ⌝ }
+pub fn rmw_in(book: &[u8], index: &[u32], width: u8, root: u32, scratch: &mut [u32]) -> Rmw
+    requires { ⌜ ValidBook (now book) × (isType (now book) root ≡ true) ⌝ }
     ensures { λ r. ⌜ RmwIn (scratchFits (now (scratch .entry))) (now (book .entry)) width root (now (scratch .entry)) r (now (scratch .exit)) ⌝ }
 {
     if scratch.len() < SCRATCH {
         return Rmw::Refused(6);
     }
-    read_modify_write::requires_read_modify_write_in(book, index, links, width, root, scratch)
+    read_modify_write::requires_read_modify_write_in(book, index, width, root, scratch)
 }
 
 // 6 for a short scratch or a short list, then the walk.
 pub fn missing_in(
     book: &[u8],
     index: &[u32],
-    links: &[u32],
     width: u8,
     root: u32,
     scratch: &mut [u32],
     list: &mut [u32],
 ) -> Missing
-    requires { ⌜ ValidBook (now book) × LinksOf (now book) (now links) × (isType (now book) root ≡ true) ⌝ }
+    requires { ⌜ ValidBook (now book) × (isType (now book) root ≡ true) ⌝ }
     ensures { λ r. ⌜ MissingIn (scratchFits (now (scratch .entry)) && listFits (now (list .entry))) (now (book .entry)) width root (now (scratch .entry)) (now (list .entry)) r (now (scratch .exit)) (now (list .exit)) ⌝ }
 {
     if scratch.len() < SCRATCH {
@@ -52,5 +43,5 @@ pub fn missing_in(
     if list.len() < LIST {
         return Missing::Refused(6);
     }
-    missing_types::missing_types_in(book, index, links, width, root, scratch, list)
+    missing_types::missing_types_in(book, index, width, root, scratch, list)
 }

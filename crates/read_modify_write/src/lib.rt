@@ -7,7 +7,6 @@ ghost use Prim.Native.Nat.{_≤_};
 ghost use lib.ListN.{length, replicate};
 ghost use Rattle.typebook.specs.Book.{isType};
 ghost use Rattle.book_check.specs.Check.{ValidBook};
-ghost use Rattle.links.specs.Links.{LinksOf};
 ghost use Rattle.walks.specs.Scratch.{scratchFits};
 ghost use Rattle.walks.specs.State.{IsDue};
 ghost use Rattle.read_modify_write.specs.Reads.{keepsState};
@@ -83,15 +82,8 @@ fn decide(e: Event, left: usize) -> Turn
 }
 
 // The walk for read-modify-write, over a scratch of zeros. It ends at the first name that the book lacks, so it keeps no list.
-fn rmw_walk(
-    book: &[u8],
-    index: &[u32],
-    links: &[u32],
-    width: u8,
-    root: u32,
-    scratch: &mut [u32],
-) -> Rmw
-    requires { ⌜ ValidBook (now book) × LinksOf (now book) (now links) × (isType (now book) root ≡ true) × (16384 ≤ length (now scratch)) × (now scratch ≡ replicate (length (now scratch)) 0) ⌝ }
+fn rmw_walk(book: &[u8], index: &[u32], width: u8, root: u32, scratch: &mut [u32]) -> Rmw
+    requires { ⌜ ValidBook (now book) × (isType (now book) root ≡ true) × (16384 ≤ length (now scratch)) × (now scratch ≡ replicate (length (now scratch)) 0) ⌝ }
     ensures { λ r. ⌜ r ≡ rmwAnswer true (now (book .entry)) width root ⌝ }
 {
     let none: [u32; 1] = [0];
@@ -106,27 +98,26 @@ fn rmw_walk(
                 if depth == 0 {
                     return Rmw::No;
                 }
-                let e = step(book, index, links, width, scratch, &none, 0, left, depth);
+                let e = step(book, index, width, scratch, &none, 0, left, depth);
                 here = decide(e, left);
             }
         }
     }
 }
 
-// `requires_read_modify_write` for a book that was checked, with an index of its names and its links.
+// `requires_read_modify_write` for a book that was checked, with an index.
 pub fn requires_read_modify_write_in(
     book: &[u8],
     index: &[u32],
-    links: &[u32],
     width: u8,
     root: u32,
     scratch: &mut [u32],
 ) -> Rmw
-    requires { ⌜ ValidBook (now book) × LinksOf (now book) (now links) × (isType (now book) root ≡ true) × (16384 ≤ length (now scratch)) ⌝ }
+    requires { ⌜ ValidBook (now book) × (isType (now book) root ≡ true) × (16384 ≤ length (now scratch)) ⌝ }
     ensures { λ r. ⌜ RmwIn true (now (book .entry)) width root (now (scratch .entry)) r (now (scratch .exit)) ⌝ }
 {
     clear_numbers(scratch);
-    let answer = rmw_walk(book, index, links, width, root, scratch);
+    let answer = rmw_walk(book, index, width, root, scratch);
     clear_numbers(scratch);
     answer
 }
@@ -140,10 +131,8 @@ fn rmw_at(book: &[u8], width: u8, root: u32, scratch: &mut [u32]) -> Rmw
         return Rmw::Refused(6);
     }
     let mut index = [0u32; 16384];
-    type_index::fill_index(book, &mut index);
-    // To make the links of a whole book costs more than one walk saves by them.
-    let unlinked: [u32; 1] = [0];
-    requires_read_modify_write_in(book, &index, &unlinked, width, root, scratch)
+    type_index::fill_names(book, &mut index);
+    requires_read_modify_write_in(book, &index, width, root, scratch)
 }
 
 // Whether the memory of a value of the root's type must be read, changed and written back: it is, or is made of, a function block.

@@ -135,12 +135,11 @@ alias-breaks book width t c e = followed-alias book width c (follow-breaks (isFo
 
 -- ---- the look-up by an index, in a valid book
 
-module _ (book : List ℕ) (v : ValidBook book) (b : ℕ) (name : List ℕ) (en : name ≡ typeNameOf book b) (f : Found) (ef : FoundBy book name f) where
-  pub found-is : f ≡ find book (typeNameOf book b)
-  found-is = rw (← en) (ef .unique (valid-unique book v))
+pub found-is : (book : List ℕ) → ValidBook book → (name : List ℕ) (f : Found) → FoundBy book name f → f ≡ find book name
+found-is book v name f ef = ef .unique (valid-unique book v)
 
-  pub found-typed : (u : ℕ) → f ≡ At u → isType book u ≡ true
-  found-typed u h = found-type book (typeNameOf book b) u (sym found-is ∙ h)
+pub found-typed : (book : List ℕ) (b : ℕ) (f : Found) → f ≡ find book (typeNameOf book b) → (u : ℕ) → f ≡ At u → isType book u ≡ true
+found-typed book b f ef u h = found-type book (typeNameOf book b) u (sym ef ∙ h)
 
 -- ---- the loop of `follow`
 
@@ -165,19 +164,19 @@ module _ (references : Bool) (book : List ℕ) (width : ℕ) (whole : Resolved) 
           typed = λ u e. let q : at ≡ u = cc in rw (← q) y;
         }
 
-    module _ (h : not g ≡ false) (v : ValidBook book) (name : List ℕ) (en : name ≡ typeNameOf book at) (f : Found) (ef : FoundBy book name f) where
+    module _ (h : not g ≡ false) (f : Found) (ef : f ≡ find book (typeNameOf book at)) where
       goes-on : isFollowed references book width at ≡ true
       goes-on = sym eg ∙ not-false g h
 
       pub chain-lacks : f ≡ Nothing → ResolvedIs book whole (Lacks at)
       chain-lacks n =
           record {
-            is = sym (turn ∙ follow-lacks (isFollowed references book width) book (left - 1) at goes-on (sym (found-is book v at name en f ef) ∙ n));
+            is = sym (turn ∙ follow-lacks (isFollowed references book width) book (left - 1) at goes-on (sym ef ∙ n));
             typed = λ u e. absurd (let z : _≡_ {A = ℕ} 0 1 = cc in omega arith);
           }
 
       pub chain-again : (u : ℕ) → f ≡ At u → whole ≡ follow (isFollowed references book width) book (left - 1) u
-      chain-again u n = turn ∙ follow-on (isFollowed references book width) book (left - 1) at u goes-on (sym (found-is book v at name en f ef) ∙ n)
+      chain-again u n = turn ∙ follow-on (isFollowed references book width) book (left - 1) at u goes-on (sym ef ∙ n)
 
 -- ---- the look-up of what a block names
 
@@ -206,17 +205,17 @@ module _ (book : List ℕ) (width b : ℕ) where
       by (At n) q = follow-breaks (isFollowed false book width) book 32 n c (sym (look-at n q) ∙ e) .nothing
       by Nothing q = let z : lookUp book width b ≡ Lacks b = look-nothing q in let o : b ≡ c = cc in rw (← o) q
 
-  module _ (v : ValidBook book) (name : List ℕ) (en : name ≡ typeNameOf book b) (f : Found) (ef : FoundBy book name f) where
+  module _ (f : Found) (ef : f ≡ find book (typeNameOf book b)) where
     pub looked-nothing : f ≡ Nothing → LookedUp book width b (Lacks b)
     looked-nothing n =
         record {
-          is = sym (look-nothing (sym (found-is book v b name en f ef) ∙ n));
+          is = sym (look-nothing (sym ef ∙ n));
           typed = λ u e. absurd (let z : _≡_ {A = ℕ} 0 1 = cc in omega arith);
         }
 
     pub looked-at : (u : ℕ) → f ≡ At u → (r : Resolved) → ResolvedIs book (resolveAlias book width u) r → LookedUp book width b r
     looked-at u n r q =
         record {
-          is = q .is ∙ sym (look-at u (sym (found-is book v b name en f ef) ∙ n));
+          is = q .is ∙ sym (look-at u (sym ef ∙ n));
           typed = q .typed;
         }

@@ -2,14 +2,14 @@
 // a book that was checked once; the others check it.
 ghost use mathlib.Core.Path.{_≡_};
 ghost use mathlib.Core.Bool.{true};
-ghost use Rattle.typebook.specs.Book.{isType};
+ghost use Rattle.typebook.specs.Book.{isType, typeNameOf};
+ghost use Rattle.type_provider.specs.Find.{find};
 ghost use Rattle.book_check.specs.Check.{ValidBook};
 ghost use Rattle.resolvers.specs.Resolve.{goesOn, isFollowed, resolveType, resolveAlias, resolveIndirection, ResolvedIs, LookedUp};
 ghost use Rattle.resolvers.specs.Calls.{resolution, rootAlias, rootIndirection};
 use book_check::RootCheck;
 use type_category::type_category::AdsTypeCategory;
 use type_provider::Found;
-use typebook::block;
 
 // The maximum number of look-ups on a chain of aliases, or of aliases and references (the Rust's MAX_INDIRECTION_DEPTH is the same
 // number). A cycle in the book ends there.
@@ -66,6 +66,14 @@ fn is_followed(book: &[u8], width: u8, n: u32, references: bool) -> bool
     goes_on(AdsTypeCategory::determine(book, width, n), references)
 }
 
+// The type that block b names, as a field, as an array or as an alias.
+pub fn named_in(book: &[u8], index: &[u32], b: u32) -> Found
+    requires { ⌜ ValidBook (now book) ⌝ }
+    ensures { λ r. ⌜ r ≡ find (now (book .entry)) (typeNameOf (now (book .entry)) b) ⌝ }
+{
+    type_index::type_of(book, index, b)
+}
+
 // Follows the chain from type block t on.
 fn follow(book: &[u8], index: &[u32], width: u8, t: u32, references: bool) -> Resolved
     requires { ⌜ ValidBook (now book) × (isType (now book) t ≡ true) ⌝ }
@@ -77,7 +85,7 @@ fn follow(book: &[u8], index: &[u32], width: u8, t: u32, references: bool) -> Re
         if !is_followed(book, width, at, references) {
             return Resolved::Base(at);
         }
-        let found = type_index::find_by(book, index, block::type_name(book, at));
+        let found = named_in(book, index, at);
         let Found::At(u) = found else {
             return Resolved::Lacks(at);
         };
@@ -108,7 +116,7 @@ pub fn look_up_in(book: &[u8], index: &[u32], width: u8, b: u32) -> Resolved
     requires { ⌜ ValidBook (now book) ⌝ }
     ensures { λ r. ⌜ LookedUp (now (book .entry)) width b r ⌝ }
 {
-    let found = type_index::find_by(book, index, block::type_name(book, b));
+    let found = named_in(book, index, b);
     let Found::At(u) = found else {
         return Resolved::Lacks(b);
     };
@@ -122,7 +130,7 @@ fn resolve_root(book: &[u8], width: u8, t: u32, references: bool) -> Resolution
     ensures { λ r. ⌜ r ≡ resolution (resolveType references (now (book .entry)) width t) ⌝ }
 {
     let mut index = [0u32; 16384];
-    type_index::fill_index(book, &mut index);
+    type_index::fill_names(book, &mut index);
     let resolved = follow(book, &index, width, t, references);
     match resolved {
         Resolved::Base(u) => Resolution::Block(u),

@@ -2,7 +2,7 @@
 use mathlib.Core.Path.{_≡_, refl, sym, ap, _∙_}
 use mathlib.Core.Bool.{Bool, true, false}
 use mathlib.Core.List.{List}
-use Prim.Native.Nat.{ℕ, _+_, _*_, _/_, _≤_, _<_}
+use Prim.Native.Nat.{ℕ, _+_, _*_, _/_, _≤_, _<_, min}
 use native.Mathlib.Omega.{arith}
 use native.Mathlib.Nat.{mul-lt-mul-of-pos-right}
 use mir.Syntax.{w64}
@@ -13,11 +13,11 @@ use lib.Dec.{eqb, ltb}
 use borrow.Author.Tests.{eq-eqb, eqb-true, eqb-false, ltb-true, ltb-false}
 use Rattle.type_provider.specs.declared.Found.{Found}
 use Rattle.type_provider.specs.declared.Found.the-variants.{At, Nothing}
-use Rattle.typebook.specs.Book.{isNamed, kindOf}
+use Rattle.typebook.specs.Book.{blocks, typeNameOf, isNamed, kindOf}
 use Rattle.type_provider.specs.Find.{searched, find, TypeBlock}
-use Rattle.type_provider.proofs.Finds.{find-named, unique-find}
+use Rattle.type_provider.proofs.Finds.{find-named, named-kind, unique-find}
 use Rattle.type_index.specs.Index.{FoundBy, Slots, IndexOf}
-use Rattle.type_index.specs.Probe.{Probed, LookedUp, Entered}
+use Rattle.type_index.specs.Probe.{Probed, IsHint, Entered}
 
 module _ (book name : List ℕ) where
   pub probed-none : Probed book name Nothing
@@ -29,7 +29,7 @@ module _ (book name : List ℕ) where
         at = λ m e. let q : n ≡ m = cc in record { below = omega arith; named = rw (← q) (sym et ∙ h) };
       }
 
-  by-search : (r : Found) → r ≡ find book name → FoundBy book name r
+  pub by-search : (r : Found) → r ≡ find book name → FoundBy book name r
   by-search r e =
       record {
         at = λ n h. find-named book name n (sym e ∙ h);
@@ -37,7 +37,7 @@ module _ (book name : List ℕ) where
         unique = λ u. e;
       }
 
-  by-probe : (r : Found) (n : ℕ) → Probed book name r → r ≡ At n → FoundBy book name (At n)
+  pub by-probe : (r : Found) (n : ℕ) → Probed book name r → r ≡ At n → FoundBy book name (At n)
   by-probe r n p e =
       record {
         at = λ m h. p .at m (e ∙ h);
@@ -45,34 +45,47 @@ module _ (book name : List ℕ) where
         unique = λ u. sym (unique-find book u name n (p .at n e));
       }
 
-  module _ (search : Bool) where
-    pub looked-search : search ≡ true → (r : Found) → r ≡ find book name → LookedUp book name search r
-    looked-search s r e = let f = by-search r e in record { probed = record { at = f .at }; whole = λ t. f }
+-- the same of the type name of a block, by its hint or by its name
+module _ (book : List ℕ) (b : ℕ) (name : List ℕ) (en : name ≡ typeNameOf book b) (r : Found) where
+  pub of-hint : Probed book name r → (n : ℕ) → r ≡ At n → FoundBy book (typeNameOf book b) (At n)
+  of-hint p n e = rw (← en) (by-probe book name r n p e)
 
-    pub looked-none : search ≡ false → LookedUp book name search Nothing
-    looked-none s = record { probed = probed-none; whole = λ t. absurd (let z : _≡_ {A = ℕ} 0 1 = cc in omega arith) }
-
-    pub looked-at : (r : Found) (n : ℕ) → Probed book name r → r ≡ At n → LookedUp book name search (At n)
-    looked-at r n p e = let f = by-probe r n p e in record { probed = record { at = f .at }; whole = λ t. f }
-
-  pub by-look-up : {r : Found} → LookedUp book name true r → FoundBy book name r
-  by-look-up l = l .whole refl
+  pub of-name : FoundBy book name r → FoundBy book (typeNameOf book b) r
+  of-name f = rw (← en) f
 
 module _ (book : List ℕ) where
-  pub entered-at : (xs : List ℕ) (at n k : ℕ) → k ≡ kindOf book n → k ≡ 1 → n < searched book → at < length xs → Entered book xs (set xs at (n + 1))
-  entered-at xs at n k ek e l b =
-      record { kept = length-set xs at (n + 1); slots = λ s i m h. by s i m h (eqb i at) refl }
+  -- one number more that is 0 or leads to a type block
+  pub entered-hint : (xs : List ℕ) (at r : ℕ) → IsHint book r → at < length xs → Entered book xs (set xs at r)
+  entered-hint xs at r p b =
+      record { kept = length-set xs at r; slots = λ s i m h. by s i m h (eqb i at) refl }
     where
-      own : TypeBlock book n
-      own = record { below = l; kind = eq-eqb (kindOf book n) 1 (sym ek ∙ e) }
-
-      by : Slots book xs → (i m : ℕ) → getD (set xs at (n + 1)) i 0 ≡ m + 1 → (g : Bool) → eqb i at ≡ g → TypeBlock book m
+      by : Slots book xs → (i m : ℕ) → getD (set xs at r) i 0 ≡ m + 1 → (g : Bool) → eqb i at ≡ g → TypeBlock book m
       by s i m h true q =
-          let p : i ≡ at = eqb-true i at q in
-          let v : n + 1 ≡ m + 1 = sym (getD-set-same xs at (n + 1) 0 b) ∙ ap (λ (j : ℕ). getD (set xs at (n + 1)) j 0) (sym p) ∙ h in
-          let w : n ≡ m = omega arith in
-          rw (← w) own
-      by s i m h false q = s i m (sym (getD-set-other xs at i (n + 1) 0 (eqb-false i at q)) ∙ h)
+          let e : i ≡ at = eqb-true i at q in
+          p .at m (sym (getD-set-same xs at r 0 b) ∙ ap (λ (j : ℕ). getD (set xs at r) j 0) (sym e) ∙ h)
+      by s i m h false q = s i m (sym (getD-set-other xs at i r 0 (eqb-false i at q)) ∙ h)
+
+  pub hint-none : IsHint book 0
+  hint-none = record { at = λ m e. absurd (omega arith) }
+
+  hint-block : (n : ℕ) → TypeBlock book n → IsHint book (n + 1)
+  hint-block n t = record { at = λ m e. let w : n ≡ m = omega arith in rw (← w) t }
+
+  pub hint-found : (name : List ℕ) (f : Found) → Probed book name f → (t : ℕ) → f ≡ At t → IsHint book (t + 1)
+  hint-found name f p t e = hint-block t (record { below = p .at t e .below; kind = named-kind book name t (p .at t e .named) })
+
+  -- its number has room for one more
+  pub hint-fits : (name : List ℕ) (f : Found) → Probed book name f → (t : ℕ) → f ≡ At t → t + 1 < 4294967296
+  hint-fits name f p t e = let l : t < min (blocks book) 65536 = p .at t e .below in omega arith
+
+  pub entered-at : (xs : List ℕ) (at n k : ℕ) → k ≡ kindOf book n → k ≡ 1 → n < searched book → at < length xs → Entered book xs (set xs at (n + 1))
+  entered-at xs at n k ek e l b = entered-hint xs at (n + 1) (hint-block n (record { below = l; kind = eq-eqb (kindOf book n) 1 (sym ek ∙ e) })) b
+
+  pub entered-none : (xs : List ℕ) → Entered book xs xs
+  entered-none xs = record { kept = refl; slots = λ s. s }
+
+  pub entered-more : (before xs ys : List ℕ) → Entered book before xs → Entered book xs ys → Entered book before ys
+  entered-more before xs ys f t = record { kept = t .kept ∙ f .kept; slots = λ s. t .slots (f .slots s) }
 
   module _ (before mid : List ℕ) (e : mid ≡ replicate (length before) 0) where
     empty : (i : ℕ) → getD mid i 0 ≡ 0

@@ -2,3 +2,4 @@
 mod Parts
 pub mod Blocks
 pub mod Names
+mod Words

@@ -30,14 +30,18 @@ same-eq (x ∷ xs) (y ∷ ys) h = both (eqb x y) refl (same-eq xs ys) h
 pub eq-same : (a b : List ℕ) → a ≡ b → sameName a b ≡ true
 eq-same a b e = rw e (same-refl b)
 
--- ---- the loop of `same_name`
+-- ---- the loop of `same_bytes`
 
-pub same-lengths : (a b : List ℕ) → (length a ≡ length b → ⊥) → false ≡ sameName a b
-same-lengths a b n = by (sameName a b) refl
+-- other bytes are another name
+pub other-name : (a b : List ℕ) → (a ≡ b → ⊥) → false ≡ sameName a b
+other-name a b n = by (sameName a b) refl
   where
     by : (g : Bool) → sameName a b ≡ g → false ≡ sameName a b
-    by true h = absurd (n (ap length (same-eq a b h)))
+    by true h = absurd (n (same-eq a b h))
     by false h = sym h
+
+pub same-lengths : (a b : List ℕ) → (length a ≡ length b → ⊥) → false ≡ sameName a b
+same-lengths a b n = other-name a b (λ e. n (ap length e))
 
 module _ (a b : List ℕ) (i : ℕ) (inv : sameName a b ≡ sameName (drop i a) (drop i b)) where
   turn : i < length a → i < length b → sameName a b ≡ eqb (getD a i 0) (getD b i 0) && sameName (drop (i + 1) a) (drop (i + 1) b)

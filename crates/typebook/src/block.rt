@@ -1,12 +1,13 @@
 // What the blocks of a type book say. A block is 512 bytes; document 01, "The type book", has its layout.
 // Every function takes any bytes and any block number: past the end a byte is 0 and a part is empty.
 ghost use mathlib.Core.Path.{_≡_};
-ghost use Prim.Native.Nat.{_+_, _*_, _/_, _%_, _<_};
-ghost use lib.ListN.{take, drop};
+ghost use Prim.Native.Nat.{_+_, _*_, _/_, _%_, _≤_, _<_};
+ghost use lib.ListN.{length, take, drop};
 ghost use lib.Dec.{eqb};
 ghost use Rattle.type_id.specs.TypeId.{idOf};
 ghost use Rattle.typebook.specs.Book.{blocks as blocksOf, byteAt, u32At, kindOf, isType, flagOf, dimensionsOf, typeIdOf, offsetOf, sizeOf, fieldsOf, entriesOf, countOf, valueOf, nameOf, typeNameOf, sameName};
 use number::le::le_u32;
+use number::le::le_value;
 use type_id::AdsTypeId;
 
 pub const BLOCK: usize = 512;
@@ -183,13 +184,11 @@ pub fn type_name(book: &[u8], n: u32) -> &[u8]
     counted(book, n, 53, 254)
 }
 
-// Whether two names are the same bytes.
-pub fn same_name(a: &[u8], b: &[u8]) -> bool
+// Whether two short names of one length are the same bytes.
+fn same_bytes(a: &[u8], b: &[u8]) -> bool
+    requires { ⌜ length (now a) ≡ length (now b) ⌝ }
     ensures { λ r. ⌜ r ≡ sameName (now (a .entry)) (now (b .entry)) ⌝ }
 {
-    if a.len() != b.len() {
-        return false;
-    }
     let mut i = 0;
     while i < a.len() {
         if a[i] != b[i] {
@@ -198,4 +197,35 @@ pub fn same_name(a: &[u8], b: &[u8]) -> bool
         i += 1;
     }
     true
+}
+
+// Whether the eight bytes from place i on are the same, compared as one number.
+fn same_word(a: &[u8], b: &[u8], i: usize) -> bool
+    requires { ⌜ (i + 8 ≤ length (now a)) × (i + 8 ≤ length (now b)) ⌝ }
+    ensures { λ r. ⌜ r ≡ sameName (take 8 (drop i (now (a .entry)))) (take 8 (drop i (now (b .entry)))) ⌝ }
+{
+    le_value(&a[i..]) == le_value(&b[i..])
+}
+
+// Whether two names are the same bytes. Longer ones are compared by eight bytes; the last eight may overlap those before.
+pub fn same_name(a: &[u8], b: &[u8]) -> bool
+    ensures { λ r. ⌜ r ≡ sameName (now (a .entry)) (now (b .entry)) ⌝ }
+{
+    let n = a.len();
+    if n != b.len() {
+        return false;
+    }
+    if n < 8 {
+        return same_bytes(a, b);
+    }
+    let last = n - 8;
+    let mut i = 0;
+    while i < last {
+        if same_word(a, b, i) {
+            i += 8;
+        } else {
+            return false;
+        }
+    }
+    same_word(a, b, last)
 }

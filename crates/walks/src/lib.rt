@@ -7,10 +7,10 @@ ghost use Prim.Native.Nat.{_≤_, _<_, _+_};
 ghost use lib.ListN.{length, take as first, replicate};
 ghost use Rattle.typebook.specs.Book.{isType};
 ghost use Rattle.book_check.specs.Check.{ValidBook};
-ghost use Rattle.links.specs.Links.{LinksOf};
 ghost use Rattle.walks.specs.State.{Stepped, Started};
 use events::Event;
 use events::settle;
+use resolvers::named_in;
 use type_provider::Found;
 use typebook::block;
 use visits::in_list;
@@ -29,7 +29,6 @@ pub const SCRATCH: usize = 16384;
 pub fn step(
     book: &[u8],
     index: &[u32],
-    links: &[u32],
     width: u8,
     scratch: &mut [u32],
     list: &[u32],
@@ -37,13 +36,13 @@ pub fn step(
     left: usize,
     depth: usize,
 ) -> Event
-    requires { ⌜ ValidBook (now book) × LinksOf (now book) (now links) × (16384 ≤ length (now scratch)) × (n ≤ length (now list)) × (0 < depth) × (depth + left ≤ 4096) ⌝ }
+    requires { ⌜ ValidBook (now book) × (16384 ≤ length (now scratch)) × (n ≤ length (now list)) × (0 < depth) × (depth + left ≤ 4096) ⌝ }
     ensures { λ r. ⌜ Stepped (now (book .entry)) width (now (scratch .entry)) (first n (now (list .entry))) left depth r (now (scratch .exit)) ⌝ }
 {
     let taken = take(scratch, depth);
     let b = taken.block;
     let d = taken.depth;
-    let found = links::type_of(book, index, links, b);
+    let found = named_in(book, index, b);
     match found {
         Found::At(t) => {
             if marked(scratch, t) {

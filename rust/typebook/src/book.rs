@@ -21,8 +21,8 @@ fn done(number: u8, values: &[u64]) -> Result<(), Refusal> {
 
 /// A type book that was checked: document 01's refusals 1 to 4 are behind it.
 ///
-/// It owns its bytes or borrows them, and keeps an index of its names and a link from each block to the type that it names, so
-/// that look-ups and walks are quick. Nothing changes a checked book; [`append`](TypeBook::append) gives back a new one.
+/// It owns its bytes or borrows them, and keeps an index, of its names and of the type that each block names, so that look-ups and
+/// walks are quick. Nothing changes a checked book; [`append`](TypeBook::append) gives back a new one.
 #[derive(Clone)]
 pub struct TypeBook<'a> {
     checked: Checked<'a>,
@@ -48,18 +48,18 @@ impl<'a> TypeBook<'a> {
         }
     }
 
-    /// Checks a book of which only a walk or two are asked, as while it is completed type by type: the links from the blocks to
-    /// the types that they name, which cost about what one walk saves by them, are not made. Every answer is the same.
+    /// Checks a book of which only a walk or two are asked, as while it is completed type by type: its index is one of the names
+    /// alone, since the part for the blocks costs about what one walk gains by it. Every answer is the same.
     ///
     /// ```
     /// use typebook::{Refusal, TypeBook};
     /// # let bytes = twin::make::example();
-    /// let book = TypeBook::unlinked(&bytes[..])?;
+    /// let book = TypeBook::names_only(&bytes[..])?;
     /// assert!(!book.root(0)?.requires_read_modify_write(8)?);
     /// # Ok::<(), Refusal>(())
     /// ```
-    pub fn unlinked(bytes: impl Into<Cow<'a, [u8]>>) -> Result<Self, Refusal> {
-        match Checked::unlinked(bytes.into()) {
+    pub fn names_only(bytes: impl Into<Cow<'a, [u8]>>) -> Result<Self, Refusal> {
+        match Checked::names_only(bytes.into()) {
             Ok(checked) => Ok(Self { checked }),
             Err(number) => Err(Refusal::from_number(number, 0)),
         }

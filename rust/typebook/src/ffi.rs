@@ -1,8 +1,8 @@
 //! The library's functions, declared, and this crate's only unsafe code.
 //!
 //! The calls of [`total`] take any bytes: each is proved for all of them. The forms whose names end in `_in` need a book
-//! that was checked and a root that is one of its type blocks, and the two walks a table of links that was made for that book;
-//! [`Checked`] and [`TypeBlock`] can only be had by those checks, and their bytes can't change while they are lent.
+//! that was checked and a root that is one of its type blocks; [`Checked`] and [`TypeBlock`] can only be had by those checks, and
+//! their bytes can't change while they are lent. An index may hold any numbers.
 
 use std::borrow::Cow;
 
@@ -35,6 +35,7 @@ mod raw {
             name: *const u8,
             name_len: usize,
         ) -> u32;
+        pub fn gateway_fill_names(book: *const u8, book_len: usize, index: *mut u32, index_len: usize);
         pub fn gateway_fill_index(book: *const u8, book_len: usize, index: *mut u32, index_len: usize);
         pub fn gateway_check_book(buffer: *const u8, buffer_len: usize, len: usize) -> u8;
         pub fn gateway_is_type(book: *const u8, book_len: usize, block: u32) -> u8;
@@ -151,21 +152,11 @@ mod raw {
             values: *mut u64,
             values_len: usize,
         ) -> u8;
-        pub fn gateway_fill_links(
-            book: *const u8,
-            book_len: usize,
-            index: *const u32,
-            index_len: usize,
-            links: *mut u32,
-            links_len: usize,
-        );
         pub fn gateway_requires_read_modify_write_in(
             book: *const u8,
             book_len: usize,
             index: *const u32,
             index_len: usize,
-            links: *const u32,
-            links_len: usize,
             width: u8,
             root: u32,
             scratch: *mut u32,
@@ -178,8 +169,6 @@ mod raw {
             book_len: usize,
             index: *const u32,
             index_len: usize,
-            links: *const u32,
-            links_len: usize,
             width: u8,
             root: u32,
             scratch: *mut u32,
@@ -263,7 +252,12 @@ pub mod total {
         block(unsafe { raw::gateway_find_by(b.as_ptr(), b.len(), i.as_ptr(), i.len(), name.as_ptr(), name.len()) })
     }
 
-    /// Makes an index of the book's names for [`find_by`]; four slots a type serve well.
+    /// Makes an index of the book's names for [`find_by`]; four numbers a type serve well.
+    pub fn fill_names(book: &[u8], index: &mut [u32]) {
+        unsafe { raw::gateway_fill_names(book.as_ptr(), book.len(), index.as_mut_ptr(), index.len()) }
+    }
+
+    /// The same with a hint for each block, the type that it names, where the index has three numbers or more for each block.
     pub fn fill_index(book: &[u8], index: &mut [u32]) {
         unsafe { raw::gateway_fill_index(book.as_ptr(), book.len(), index.as_mut_ptr(), index.len()) }
     }
@@ -451,6 +445,7 @@ pub mod total {
                 assert_eq!(raw::gateway_check_book(null(), 0, usize::MAX), 1);
                 assert_eq!(raw::gateway_find(null(), 0, null(), 0), u32::MAX);
                 assert_eq!(raw::gateway_find_by(null(), 0, null(), 0, null(), 0), u32::MAX);
+                raw::gateway_fill_names(null(), 0, null_mut(), 0);
                 raw::gateway_fill_index(null(), 0, null_mut(), 0);
                 assert_eq!(raw::gateway_is_type(null(), 0, 0), 0);
                 assert_eq!(raw::gateway_name(null(), 0, 7, null_mut(), 0), 0);
@@ -513,57 +508,44 @@ pub mod total {
     }
 }
 
-/// A book that the library has found valid, with an index of its names and the links of its blocks.
+/// A book that the library has found valid, with an index.
 #[derive(Clone)]
 pub(crate) struct Checked<'a> {
     bytes: Cow<'a, [u8]>,
     index: Vec<u32>,
-    links: Links,
-}
-
-/// For each block the type that its type name finds. The walks believe it, so it is made for one book and never changed.
-#[derive(Clone)]
-struct Links(Vec<u32>);
-
-impl Links {
-    /// The links of a book that was checked; any index gives right ones.
-    fn of_checked(book: &[u8], index: &[u32]) -> Self {
-        let mut links = vec![0; book.len() / 512];
-        // SAFETY: the book was checked, and every pointer and length is one slice's, lent for the call alone.
-        unsafe {
-            raw::gateway_fill_links(
-                book.as_ptr(),
-                book.len(),
-                index.as_ptr(),
-                index.len(),
-                links.as_mut_ptr(),
-                links.len(),
-            );
-        }
-        Self(links)
-    }
 }
 
 impl<'a> Checked<'a> {
-    /// The checks of document 01's refusals 1 to 4; the number of the one that is met first. The walks go by the index alone.
-    pub(crate) fn unlinked(bytes: Cow<'a, [u8]>) -> Result<Self, u8> {
+    /// The checks of document 01's refusals 1 to 4, or the number of the one that is met first; no index yet.
+    fn bare(bytes: Cow<'a, [u8]>) -> Result<Self, u8> {
         match total::check_book(&bytes, bytes.len()) {
-            0 => {
-                // Four slots a type serve well; more would only fill the processor's caches.
-                let types = bytes.chunks_exact(512).filter(|block| block[0] == 1).count();
-                let mut index = vec![0; 4 * types];
-                total::fill_index(&bytes, &mut index);
-                let links = Links(Vec::new());
-                Ok(Self { bytes, index, links })
-            }
+            0 => Ok(Self {
+                bytes,
+                index: Vec::new(),
+            }),
             number => Err(number),
         }
     }
 
-    /// The same, with the links of all blocks.
+    /// Four slots a type serve well; more would only fill the processor's caches.
+    fn slots(&self) -> usize {
+        4 * self.bytes.chunks_exact(512).filter(|block| block[0] == 1).count()
+    }
+
+    /// A checked book with an index of its names.
+    pub(crate) fn names_only(bytes: Cow<'a, [u8]>) -> Result<Self, u8> {
+        let mut checked = Self::bare(bytes)?;
+        checked.index = vec![0; checked.slots()];
+        total::fill_names(&checked.bytes, &mut checked.index);
+        Ok(checked)
+    }
+
+    /// A checked book with an index of its names and a hint for each block.
     pub(crate) fn new(bytes: Cow<'a, [u8]>) -> Result<Self, u8> {
-        let mut checked = Self::unlinked(bytes)?;
-        checked.links = Links::of_checked(&checked.bytes, &checked.index);
+        let mut checked = Self::bare(bytes)?;
+        let blocks = checked.bytes.len() / 512;
+        checked.index = vec![0; blocks + checked.slots().max(2 * blocks)];
+        total::fill_index(&checked.bytes, &mut checked.index);
         Ok(checked)
     }
 
@@ -592,8 +574,8 @@ pub(crate) struct TypeBlock<'b> {
     block: u32,
 }
 
-// SAFETY, in each call below: the book was checked and its bytes are lent unchanged, the root is one of its type blocks, the
-// links are those of this book, and every pointer and length is one slice's, lent for the call alone.
+// SAFETY, in each call below: the book was checked and its bytes are lent unchanged, the root is one of its type blocks, and every
+// pointer and length is one slice's, lent for the call alone.
 impl<'b> TypeBlock<'b> {
     pub(crate) fn book(self) -> &'b Checked<'b> {
         self.book
@@ -636,15 +618,13 @@ impl<'b> TypeBlock<'b> {
     }
 
     pub(crate) fn requires_read_modify_write(self, width: u8, scratch: &mut [u32], values: &mut [u64]) -> u8 {
-        let (b, i, l, v) = (self.book.bytes(), self.book.index(), &self.book.links.0, values);
+        let (b, i, v) = (self.book.bytes(), self.book.index(), values);
         unsafe {
             raw::gateway_requires_read_modify_write_in(
                 b.as_ptr(),
                 b.len(),
                 i.as_ptr(),
                 i.len(),
-                l.as_ptr(),
-                l.len(),
                 width,
                 self.block,
                 scratch.as_mut_ptr(),
@@ -656,15 +636,13 @@ impl<'b> TypeBlock<'b> {
     }
 
     pub(crate) fn missing_types(self, width: u8, scratch: &mut [u32], list: &mut [u32], values: &mut [u64]) -> u8 {
-        let (b, i, l, v) = (self.book.bytes(), self.book.index(), &self.book.links.0, values);
+        let (b, i, v) = (self.book.bytes(), self.book.index(), values);
         unsafe {
             raw::gateway_missing_types_in(
                 b.as_ptr(),
                 b.len(),
                 i.as_ptr(),
                 i.len(),
-                l.as_ptr(),
-                l.len(),
                 width,
                 self.block,
                 scratch.as_mut_ptr(),
@@ -722,18 +700,19 @@ mod tests {
         (numbers, v, [scratch, list].concat(), [tape, text].concat())
     }
 
-    /// A table of fewer links, of more, and of none gives the same answers.
+    /// An index of any length gives the same answers: without hints, with them, and with none but a slot or two.
     #[test]
-    fn fewer_links_change_no_answer() {
+    fn indexes_of_any_length_change_no_answer() {
         for seed in 0..400 {
             let rng = &mut Rng::new(seed);
             let made = made(rng);
             let memory = memory(rng, &made);
             let mut book = Checked::new(Cow::Borrowed(&made.book)).expect("valid");
             let told = answers(book.type_block(made.root).expect("a type"), made.width, &memory);
-            let full = [&book.links.0[..], &[0; 3]].concat();
-            for len in [0, 1, full.len() / 2, full.len()] {
-                book.links = Links(full[..len].to_vec());
+            let blocks = made.book.len() / 512;
+            for len in [0, 1, 2, blocks, 3 * blocks - 1, 3 * blocks, 3 * blocks + 1, 10 * blocks] {
+                book.index = vec![0; len];
+                total::fill_index(&book.bytes, &mut book.index);
                 assert_eq!(
                     answers(book.type_block(made.root).expect("a type"), made.width, &memory),
                     told
@@ -742,21 +721,22 @@ mod tests {
         }
     }
 
-    /// A slot is one more than the block that the type name finds, or 0 where it finds none.
+    /// The last numbers of an index are one more than the type that each block's type name finds, or 0 where it finds none.
     #[test]
-    fn links_are_what_the_names_find() {
+    fn hints_are_what_the_names_find() {
         for seed in 0..400 {
             let made = made(&mut Rng::new(seed));
             let checked = Checked::new(Cow::Borrowed(&made.book)).expect("valid");
             let twin = twin::Book::new(&made.book);
-            for (b, &link) in checked.links.0.iter().enumerate() {
+            let hints = &checked.index[checked.index.len() - made.book.len() / 512..];
+            for (b, &hint) in hints.iter().enumerate() {
                 let found = twin.find(twin::block::type_name(&made.book, b as u32));
-                assert_eq!(link, found.map_or(0, |t| t + 1), "block {b} of {seed}");
+                assert_eq!(hint, found.map_or(0, |t| t + 1), "block {b} of {seed}");
             }
         }
     }
 
-    /// Any index is allowed, also to make the links by: an empty one, one of another book, one of random numbers.
+    /// Any index is allowed: an empty one, one of another book, one of random numbers, one whose hints all lead to one block.
     #[test]
     fn foreign_indexes_change_no_answer() {
         for seed in 0..400 {
@@ -768,8 +748,8 @@ mod tests {
             assert_eq!((told.0[5], told.0[6], told.1[8]), (6, 6, 9));
             let blocks = book.bytes().len() as u64 / 512;
             for most in [1, 2, blocks + 3, u64::from(u32::MAX) + 1] {
-                book.index = (0..rng.below(200)).map(|_| (rng.number() % most) as u32).collect();
-                book.links = Links::of_checked(&book.bytes, &book.index);
+                let len = rng.below(6 * blocks as usize + 3);
+                book.index = (0..len).map(|_| (rng.number() % most) as u32).collect();
                 assert_eq!(
                     answers(book.type_block(made.root).expect("a type"), made.width, &memory),
                     told

@@ -8,16 +8,11 @@ use Rattle.field_plan.proofs.plan_alias.Reads as plan-alias-reads
 use Rattle.type_category.proofs.type_category.AdsTypeCategory.determine.Reads as determine-reads
 use Rattle.typebook.proofs.block.offset.Reads as offset-reads
 use Rattle.typebook.proofs.block.size.Reads as size-reads
-use Rattle.typebook.proofs.block.type_name.Reads as type-name-reads
-use Rattle.type_index.proofs.find_by.Reads as find-by-reads
 
 ruleset exits = (plan-nothing, plan-plain)
 
-type-name-requires : tie.Need-type-name-requires
-type-name-requires c κs = search needs
-
-find-by-requires : tie.Need-find-by-requires
-find-by-requires c κs = search needs
+named-in-requires : tie.Need-named-in-requires
+named-in-requires c κs = search needs
 
 enum-known-found : tie.Need-enum-known-found
 enum-known-found c = search needs
@@ -53,8 +48,7 @@ pub plan-field-spec : {M : Type 1} → statement M
 plan-field-spec =
     tie.close
     (tie.spec
-    type-name-requires
-    find-by-requires
+    named-in-requires
     enum-known-found
     enum-told
     returns

@@ -6,11 +6,11 @@ use Rattle.field_types.proofs.fill_fields.Tie as tie
 
 ruleset exits = (filled-lacks, filled-refused, filled-done)
 
-slice-aggregate-fill-index : tie.Need-slice-aggregate-fill-index
-slice-aggregate-fill-index c = search needs
+slice-aggregate-fill-names : tie.Need-slice-aggregate-fill-names
+slice-aggregate-fill-names c = search needs
 
-fill-index-requires : tie.Need-fill-index-requires
-fill-index-requires c κs = search needs
+fill-names-requires : tie.Need-fill-names-requires
+fill-names-requires c κs = search needs
 
 slice-aggregate-fields-answer : tie.Need-slice-aggregate-fields-answer
 slice-aggregate-fields-answer c = search needs
@@ -49,8 +49,8 @@ pub fill-fields-spec : {M : Type 1} → statement M
 fill-fields-spec =
     tie.close
     (tie.spec
-    slice-aggregate-fill-index
-    fill-index-requires
+    slice-aggregate-fill-names
+    fill-names-requires
     slice-aggregate-fields-answer
     fields-answer-requires
     enum-known-answer

@@ -1,6 +1,5 @@
 -- `missing_at` meets its contract. Assumes nothing.
 use Rattle.missing_types.proofs.Ends.{missing-scratch, missing-list, missing-fits}
-use Rattle.links.proofs.Tables.{silent}
 use borrow.Author.Needs.{needs}
 use Rattle.missing_types.proofs.missing_at.Statement.{statement}
 use Rattle.missing_types.proofs.missing_at.Tie as tie
@@ -13,20 +12,17 @@ returns c = search exits
 returns-2 : tie.Need-returns-2
 returns-2 c = search exits
 
-slice-aggregate-fill-index : tie.Need-slice-aggregate-fill-index
-slice-aggregate-fill-index c = search needs
+slice-aggregate-fill-names : tie.Need-slice-aggregate-fill-names
+slice-aggregate-fill-names c = search needs
 
-fill-index-requires : tie.Need-fill-index-requires
-fill-index-requires c κs = search needs
+fill-names-requires : tie.Need-fill-names-requires
+fill-names-requires c κs = search needs
 
 slice-aggregate-missing-types-in : tie.Need-slice-aggregate-missing-types-in
 slice-aggregate-missing-types-in c = search needs
 
-slice-aggregate-missing-types-in-2 : tie.Need-slice-aggregate-missing-types-in-2
-slice-aggregate-missing-types-in-2 c = search needs
-
 missing-types-in-requires : tie.Need-missing-types-in-requires
-missing-types-in-requires c κs = (search needs, search silent, search needs, search needs, search needs)
+missing-types-in-requires c κs = search needs
 
 same-length : tie.Need-same-length
 same-length c = search needs
@@ -43,10 +39,9 @@ missing-at-spec =
     (tie.spec
     returns
     returns-2
-    slice-aggregate-fill-index
-    fill-index-requires
+    slice-aggregate-fill-names
+    fill-names-requires
     slice-aggregate-missing-types-in
-    slice-aggregate-missing-types-in-2
     missing-types-in-requires
     same-length
     same-length-2

@@ -9,7 +9,7 @@ clear-numbers-requires : tie.Need-clear-numbers-requires
 clear-numbers-requires c κs = search needs
 
 missing-walk-requires : tie.Need-missing-walk-requires
-missing-walk-requires c κs = (search needs, search needs, search needs, search zeros-room, search needs, search zeros)
+missing-walk-requires c κs = (search needs, search needs, search zeros-room, search needs, search zeros)
 
 clear-numbers-requires-2 : tie.Need-clear-numbers-requires-2
 clear-numbers-requires-2 c κs = search needs

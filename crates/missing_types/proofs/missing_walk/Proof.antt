@@ -12,11 +12,11 @@ use Rattle.missing_types.proofs.missing_walk.Tie as tie
 ruleset exits = (pending-stop, pending-end)
 
 abbrev Inv-loop : tie.InvT-loop
-Inv-loop book index links width root scratch₀ list₀ e₀ left₀ n₀ ok₀ scratch list e left n ok =
+Inv-loop book index width root scratch₀ list₀ e₀ left₀ n₀ ok₀ scratch list e left n ok =
     Pending book width (walkOf book width root) list₀ scratch list left n ok e × (length scratch ≡ length scratch₀)
 
 abbrev μ-loop : tie.MeasureT-loop
-μ-loop book index links width root scratch₀ list₀ e₀ left₀ n₀ ok₀ scratch list e left n ok =
+μ-loop book index width root scratch₀ list₀ e₀ left₀ n₀ ok₀ scratch list e left n ok =
     pend scratch left e
 
 start-requires : tie.Need-start-requires Inv-loop μ-loop
@@ -34,8 +34,8 @@ enum-known-turn c = search needs
 enum-told : tie.Need-enum-told Inv-loop μ-loop
 enum-told c = search needs
 
-add-t21 : tie.Need-add-t21 Inv-loop μ-loop
-add-t21 c = search needs
+add-t20 : tie.Need-add-t20 Inv-loop μ-loop
+add-t20 c = search needs
 
 same-length : tie.Need-same-length Inv-loop μ-loop
 same-length c = search needs
@@ -46,8 +46,8 @@ same-length-2 c = search needs
 returns : tie.Need-returns Inv-loop μ-loop
 returns c = search exits
 
-sub-t23 : tie.Need-sub-t23 Inv-loop μ-loop
-sub-t23 c = search pending-left
+sub-t22 : tie.Need-sub-t22 Inv-loop μ-loop
+sub-t22 c = search pending-left
 
 same-length-3 : tie.Need-same-length-3 Inv-loop μ-loop
 same-length-3 c = search needs
@@ -59,7 +59,7 @@ returns-2 : tie.Need-returns-2 Inv-loop μ-loop
 returns-2 c = search exits
 
 step-requires : tie.Need-step-requires Inv-loop μ-loop
-step-requires c κs = let applied = c .before .before .before .before .before .before .before .before in (search needs, search needs, search needs, search (pending-list, applied .apply .ensures, applied .before .before .loop .inv .0), search needs, search pending-room)
+step-requires c κs = let applied = c .before .before .before .before .before .before .before .before in (search needs, search needs, search (pending-list, applied .apply .ensures, applied .before .before .loop .inv .0), search needs, search pending-room)
 
 loop-less : tie.Need-loop-less Inv-loop μ-loop
 loop-less c = search pending-falls
@@ -78,11 +78,11 @@ missing-walk-spec =
     apply-requires
     enum-known-turn
     enum-told
-    add-t21
+    add-t20
     same-length
     same-length-2
     returns
-    sub-t23
+    sub-t22
     same-length-3
     same-length-4
     returns-2

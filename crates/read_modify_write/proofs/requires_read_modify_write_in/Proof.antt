@@ -9,7 +9,7 @@ clear-numbers-requires : tie.Need-clear-numbers-requires
 clear-numbers-requires c κs = search needs
 
 rmw-walk-requires : tie.Need-rmw-walk-requires
-rmw-walk-requires c κs = (search needs, search needs, search needs, search zeros-room, search zeros)
+rmw-walk-requires c κs = (search needs, search needs, search zeros-room, search zeros)
 
 clear-numbers-requires-2 : tie.Need-clear-numbers-requires-2
 clear-numbers-requires-2 c κs = search needs

@@ -1,6 +1,5 @@
 -- `rmw_at` meets its contract. Assumes nothing.
 use Rattle.read_modify_write.proofs.Ends.{rmw-scratch, rmw-fits}
-use Rattle.links.proofs.Tables.{silent}
 use borrow.Author.Needs.{needs}
 use Rattle.read_modify_write.proofs.rmw_at.Statement.{statement}
 use Rattle.read_modify_write.proofs.rmw_at.Tie as tie
@@ -10,20 +9,17 @@ ruleset exits = (rmw-scratch, rmw-fits)
 returns : tie.Need-returns
 returns c = search exits
 
-slice-aggregate-fill-index : tie.Need-slice-aggregate-fill-index
-slice-aggregate-fill-index c = search needs
+slice-aggregate-fill-names : tie.Need-slice-aggregate-fill-names
+slice-aggregate-fill-names c = search needs
 
-fill-index-requires : tie.Need-fill-index-requires
-fill-index-requires c κs = search needs
+fill-names-requires : tie.Need-fill-names-requires
+fill-names-requires c κs = search needs
 
 slice-aggregate-requires-read-modify-write-in : tie.Need-slice-aggregate-requires-read-modify-write-in
 slice-aggregate-requires-read-modify-write-in c = search needs
 
-slice-aggregate-requires-read-modify-write-in-2 : tie.Need-slice-aggregate-requires-read-modify-write-in-2
-slice-aggregate-requires-read-modify-write-in-2 c = search needs
-
 requires-read-modify-write-in-requires : tie.Need-requires-read-modify-write-in-requires
-requires-read-modify-write-in-requires c κs = (search needs, search silent, search needs, search needs)
+requires-read-modify-write-in-requires c κs = search needs
 
 same-length : tie.Need-same-length
 same-length c = search needs
@@ -36,10 +32,9 @@ rmw-at-spec =
     tie.close
     (tie.spec
     returns
-    slice-aggregate-fill-index
-    fill-index-requires
+    slice-aggregate-fill-names
+    fill-names-requires
     slice-aggregate-requires-read-modify-write-in
-    slice-aggregate-requires-read-modify-write-in-2
     requires-read-modify-write-in-requires
     same-length
     returns-2)

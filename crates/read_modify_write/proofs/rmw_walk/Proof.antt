@@ -12,11 +12,11 @@ use Rattle.read_modify_write.proofs.rmw_walk.Tie as tie
 ruleset exits = (here-is, here-end)
 
 abbrev Inv-loop : tie.InvT-loop
-Inv-loop book index links width root scratch₀ none here₀ scratch here =
+Inv-loop book index width root scratch₀ none here₀ scratch here =
     Here book width (walkOf book width root) scratch here × (length scratch ≡ length scratch₀)
 
 abbrev μ-loop : tie.MeasureT-loop
-μ-loop book index links width root scratch₀ none here₀ scratch here =
+μ-loop book index width root scratch₀ none here₀ scratch here =
     loopWork scratch here
 
 start-requires : tie.Need-start-requires Inv-loop μ-loop
@@ -50,7 +50,7 @@ slice-aggregate-step : tie.Need-slice-aggregate-step Inv-loop μ-loop
 slice-aggregate-step c = search needs
 
 step-requires : tie.Need-step-requires Inv-loop μ-loop
-step-requires c κs = (search needs, search needs, search needs, search needs, search needs, search here-room)
+step-requires c κs = (search needs, search needs, search needs, search needs, search here-room)
 
 decide-requires-2 : tie.Need-decide-requires-2 Inv-loop μ-loop
 decide-requires-2 c κs = search step-due

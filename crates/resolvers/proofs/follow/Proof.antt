@@ -27,11 +27,8 @@ is-followed-requires c κs = search needs
 returns : tie.Need-returns Inv-loop μ-loop
 returns c = search exits
 
-type-name-requires : tie.Need-type-name-requires Inv-loop μ-loop
-type-name-requires c κs = search needs
-
-find-by-requires : tie.Need-find-by-requires Inv-loop μ-loop
-find-by-requires c κs = search needs
+named-in-requires : tie.Need-named-in-requires Inv-loop μ-loop
+named-in-requires c κs = search needs
 
 enum-known-found : tie.Need-enum-known-found Inv-loop μ-loop
 enum-known-found c = search needs
@@ -63,8 +60,7 @@ follow-spec =
     loop-holds
     is-followed-requires
     returns
-    type-name-requires
-    find-by-requires
+    named-in-requires
     enum-known-found
     enum-told
     returns-2

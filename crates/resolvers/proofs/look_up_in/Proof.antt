@@ -6,11 +6,8 @@ use Rattle.resolvers.proofs.look_up_in.Tie as tie
 
 ruleset exits = (looked-nothing, looked-at)
 
-type-name-requires : tie.Need-type-name-requires
-type-name-requires c κs = search needs
-
-find-by-requires : tie.Need-find-by-requires
-find-by-requires c κs = search needs
+named-in-requires : tie.Need-named-in-requires
+named-in-requires c κs = search needs
 
 enum-known-found : tie.Need-enum-known-found
 enum-known-found c = search needs
@@ -31,8 +28,7 @@ pub look-up-in-spec : {M : Type 1} → statement M
 look-up-in-spec =
     tie.close
     (tie.spec
-    type-name-requires
-    find-by-requires
+    named-in-requires
     enum-known-found
     enum-told
     returns

@@ -6,11 +6,11 @@ use Rattle.resolvers.proofs.resolve_root.Tie as tie
 
 ruleset exits = (resolution-base, resolution-lacks, resolution-endless)
 
-slice-aggregate-fill-index : tie.Need-slice-aggregate-fill-index
-slice-aggregate-fill-index c = search needs
+slice-aggregate-fill-names : tie.Need-slice-aggregate-fill-names
+slice-aggregate-fill-names c = search needs
 
-fill-index-requires : tie.Need-fill-index-requires
-fill-index-requires c κs = search needs
+fill-names-requires : tie.Need-fill-names-requires
+fill-names-requires c κs = search needs
 
 slice-aggregate-follow : tie.Need-slice-aggregate-follow
 slice-aggregate-follow c = search needs
@@ -40,8 +40,8 @@ pub resolve-root-spec : {M : Type 1} → statement M
 resolve-root-spec =
     tie.close
     (tie.spec
-    slice-aggregate-fill-index
-    fill-index-requires
+    slice-aggregate-fill-names
+    fill-names-requires
     slice-aggregate-follow
     follow-requires
     enum-known-resolved

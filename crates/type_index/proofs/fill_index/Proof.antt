@@ -1,58 +1,20 @@
--- `type_index::fill_index` meets its contract. The loop keeps an index of the book. Assumes nothing.
+-- `type_index::fill_index` meets its contract. Assumes nothing.
+use Rattle.type_index.proofs.Slots.{fill-again}
 use borrow.Author.Needs.{needs}
-use Prim.Native.Nat.{_≤_, _-_}
-use Rattle.type_index.specs.Index.{IndexOf}
-use Rattle.type_index.proofs.Slots.{fill-start, fill-again, fill-end}
 use Rattle.type_index.proofs.fill_index.Statement.{statement}
 use Rattle.type_index.proofs.fill_index.Tie as tie
 
-abbrev Inv-loop : tie.InvT-loop
-Inv-loop book index₀ n i₀ index i =
-    (i ≤ n) × IndexOf book index₀ index
+fill-names-requires : tie.Need-fill-names-requires
+fill-names-requires c κs = search needs
 
-abbrev μ-loop : tie.MeasureT-loop
-μ-loop book index₀ n i₀ index i =
-    n - i
+enter-hints-requires : tie.Need-enter-hints-requires
+enter-hints-requires c κs = search needs
 
-clear-numbers-requires : tie.Need-clear-numbers-requires Inv-loop μ-loop
-clear-numbers-requires c κs = search needs
-
-searched-requires : tie.Need-searched-requires Inv-loop μ-loop
-searched-requires c κs = search needs
-
-loop-holds : tie.Need-loop-holds Inv-loop μ-loop
-loop-holds c = (search needs, search fill-start)
-
-enter-requires : tie.Need-enter-requires Inv-loop μ-loop
-enter-requires c κs = search needs
-
-add-i : tie.Need-add-i Inv-loop μ-loop
-add-i c = search needs
-
-loop-less : tie.Need-loop-less Inv-loop μ-loop
-loop-less c = search needs
-
-loop-again : tie.Need-loop-again Inv-loop μ-loop
-loop-again c = (search needs, search fill-again)
-
-same-length : tie.Need-same-length Inv-loop μ-loop
+same-length : tie.Need-same-length
 same-length c = search needs
 
-returns : tie.Need-returns Inv-loop μ-loop
-returns c = search fill-end
+returns : tie.Need-returns
+returns c = search fill-again
 
 pub fill-index-spec : {M : Type 1} → statement M
-fill-index-spec =
-    tie.close
-    (tie.spec
-    Inv-loop
-    μ-loop
-    clear-numbers-requires
-    searched-requires
-    loop-holds
-    enter-requires
-    add-i
-    loop-less
-    loop-again
-    same-length
-    returns)
+fill-index-spec = tie.close (tie.spec fill-names-requires enter-hints-requires same-length returns)

@@ -1,17 +1,20 @@
--- `type_index::free_slot` meets its contract. The loop keeps the slot within the index. Assumes nothing.
+-- `type_index::free_slot` is safe and ends. The loop keeps the slot among the slots. Assumes nothing.
 use borrow.Author.Needs.{needs}
-use Prim.Native.Nat.{_<_}
+use Prim.Native.Nat.{_≤_, _<_}
 use lib.ListN.{length}
 use Rattle.type_index.proofs.free_slot.Statement.{statement}
 use Rattle.type_index.proofs.free_slot.Tie as tie
 
 abbrev Inv-loop : tie.InvT-loop
-Inv-loop index name at₀ left₀ at left =
-    at < length index
+Inv-loop book index name slots at₀ left₀ at left =
+    (at < slots) × (slots ≤ length index)
 
 abbrev μ-loop : tie.MeasureT-loop
-μ-loop index name at₀ left₀ at left =
+μ-loop book index name slots at₀ left₀ at left =
     left
+
+hints-at-requires : tie.Need-hints-at-requires Inv-loop μ-loop
+hints-at-requires c κs = search needs
 
 returns : tie.Need-returns Inv-loop μ-loop
 returns c = search needs
@@ -52,6 +55,7 @@ free-slot-spec =
     (tie.spec
     Inv-loop
     μ-loop
+    hints-at-requires
     returns
     first-slot-requires
     loop-holds

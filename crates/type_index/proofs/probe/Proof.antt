@@ -1,18 +1,21 @@
--- `type_index::probe` meets its contract. The loop keeps the slot within the index. Assumes nothing.
+-- `type_index::probe` meets its contract. The loop keeps the slot among the slots. Assumes nothing.
 use borrow.Author.Needs.{needs}
-use Prim.Native.Nat.{_<_}
+use Prim.Native.Nat.{_≤_, _<_}
 use lib.ListN.{length}
 use Rattle.type_index.proofs.Slots.{probed-none}
 use Rattle.type_index.proofs.probe.Statement.{statement}
 use Rattle.type_index.proofs.probe.Tie as tie
 
 abbrev Inv-loop : tie.InvT-loop
-Inv-loop book index name at₀ left₀ at left =
-    at < length index
+Inv-loop book index name slots at₀ left₀ at left =
+    (at < slots) × (slots ≤ length index)
 
 abbrev μ-loop : tie.MeasureT-loop
-μ-loop book index name at₀ left₀ at left =
+μ-loop book index name slots at₀ left₀ at left =
     left
+
+hints-at-requires : tie.Need-hints-at-requires Inv-loop μ-loop
+hints-at-requires c κs = search needs
 
 returns : tie.Need-returns Inv-loop μ-loop
 returns c = search probed-none
@@ -65,6 +68,7 @@ probe-spec =
     (tie.spec
     Inv-loop
     μ-loop
+    hints-at-requires
     returns
     first-slot-requires
     loop-holds

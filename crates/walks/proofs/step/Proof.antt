@@ -10,8 +10,8 @@ ruleset exits = (step-marked, step-full, step-new, step-listed, step-full′, st
 take-requires : tie.Need-take-requires
 take-requires c κs = search needs
 
-type-of-requires : tie.Need-type-of-requires
-type-of-requires c κs = search needs
+named-in-requires : tie.Need-named-in-requires
+named-in-requires c κs = search needs
 
 enum-known-found : tie.Need-enum-known-found
 enum-known-found c = search needs
@@ -72,7 +72,7 @@ step-spec =
     tie.close
     (tie.spec
     take-requires
-    type-of-requires
+    named-in-requires
     enum-known-found
     marked-requires
     same-length

@@ -1,35 +1,34 @@
--- `block::same_name` meets its contract. The loop keeps: the whole comparison is that of what is left. Assumes nothing.
+-- `block::same_name` meets its contract. The loop keeps: the first i bytes are the same. Assumes nothing.
 use borrow.Author.Needs.{needs}
-use mathlib.Core.Path.{_≡_, refl}
 use Prim.Native.Nat.{_≤_, _-_}
-use lib.ListN.{length, drop}
-use Rattle.typebook.specs.Book.{sameName}
-use Rattle.typebook.proofs.Names.{same-lengths, same-differ, same-again, same-end}
+use lib.ListN.{length}
+use Rattle.typebook.proofs.Names.{same-lengths}
+use Rattle.typebook.proofs.Words.{SameTo, none-compared, word-differs, word-again, word-last}
 use Rattle.typebook.proofs.block.same_name.Statement.{statement}
 use Rattle.typebook.proofs.block.same_name.Tie as tie
 
 abbrev Inv-loop : tie.InvT-loop
-Inv-loop a b i₀ i =
-    (i ≤ length a) × (sameName a b ≡ sameName (drop i a) (drop i b))
+Inv-loop a b n last i₀ i =
+    (i ≤ length a) × SameTo a b i
 
 abbrev μ-loop : tie.MeasureT-loop
-μ-loop a b i₀ i =
+μ-loop a b n last i₀ i =
     length a - i
 
 returns : tie.Need-returns Inv-loop μ-loop
 returns c = search same-lengths
 
-loop-holds : tie.Need-loop-holds Inv-loop μ-loop
-loop-holds c = (search needs, refl)
-
-shared-slice-read-if2 : tie.Need-shared-slice-read-if2 Inv-loop μ-loop
-shared-slice-read-if2 c = search needs
-
-shared-slice-read-if2-2 : tie.Need-shared-slice-read-if2-2 Inv-loop μ-loop
-shared-slice-read-if2-2 c = search needs
+same-bytes-requires : tie.Need-same-bytes-requires Inv-loop μ-loop
+same-bytes-requires c κs = search needs
 
 returns-2 : tie.Need-returns-2 Inv-loop μ-loop
-returns-2 c = search same-differ
+returns-2 c = search needs
+
+loop-holds : tie.Need-loop-holds Inv-loop μ-loop
+loop-holds c = (search needs, search none-compared)
+
+same-word-requires : tie.Need-same-word-requires Inv-loop μ-loop
+same-word-requires c κs = search needs
 
 add-i : tie.Need-add-i Inv-loop μ-loop
 add-i c = search needs
@@ -38,10 +37,16 @@ loop-less : tie.Need-loop-less Inv-loop μ-loop
 loop-less c = search needs
 
 loop-again : tie.Need-loop-again Inv-loop μ-loop
-loop-again c = (search needs, search same-again)
+loop-again c = (search needs, search word-again)
 
 returns-3 : tie.Need-returns-3 Inv-loop μ-loop
-returns-3 c = search same-end
+returns-3 c = search word-differs
+
+same-word-requires-2 : tie.Need-same-word-requires-2 Inv-loop μ-loop
+same-word-requires-2 c κs = search needs
+
+returns-4 : tie.Need-returns-4 Inv-loop μ-loop
+returns-4 c = search word-last
 
 pub same-name-spec : {M : Type 1} → statement M
 same-name-spec =
@@ -50,11 +55,13 @@ same-name-spec =
     Inv-loop
     μ-loop
     returns
-    loop-holds
-    shared-slice-read-if2
-    shared-slice-read-if2-2
+    same-bytes-requires
     returns-2
+    loop-holds
+    same-word-requires
     add-i
     loop-less
     loop-again
-    returns-3)
+    returns-3
+    same-word-requires-2
+    returns-4)

@@ -1,5 +1,5 @@
-//! The walks of a checked book go by links, made once: they must answer as the twin's do, which look up every name, also where the
-//! book grew since, where it lacks a name, and where types name themselves.
+//! The walks of a checked book go by an index with a hint for each block, made once: they must answer as the twin's do, which look up
+//! every name, also where the book grew since, where it lacks a name, and where types name themselves.
 
 use twin::make::{Type, book, chain, int};
 use twin::random::{Rng, made};
@@ -41,8 +41,8 @@ fn every_type_of_a_book() {
     for seed in 0..1_000 {
         let made = made(&mut Rng::new(seed + 2_000_000));
         let (m, y) = alike(&TypeBook::new(&made.book[..]).unwrap(), made.width);
-        // By the index alone the answers are the same.
-        assert_eq!(alike(&TypeBook::unlinked(&made.book[..]).unwrap(), made.width), (m, y));
+        // By an index of the names alone the answers are the same.
+        assert_eq!(alike(&TypeBook::names_only(&made.book[..]).unwrap(), made.width), (m, y));
         missing += m;
         yes += y;
     }
@@ -69,7 +69,7 @@ fn after_each_append() {
     assert!(missing > 1_000, "{missing} missing");
 }
 
-/// A name that is missing when the links are made is found once its type is appended.
+/// A name that is missing when the index is made is found once its type is appended.
 #[test]
 fn a_missing_name_that_comes_later() {
     let root = Type::new("S").size(14).field("a", "FB", 0, 12).field("b", "INT", 12, 2);

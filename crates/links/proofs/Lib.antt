@@ -1,2 +1,0 @@
--- Laws on links; the crates above cite those that say what a table of links is.
-pub mod Tables

@@ -1,0 +1,14 @@
+-- `named_in` meets its contract. Assumes nothing.
+use Rattle.resolvers.proofs.Chains.{found-is}
+use borrow.Author.Needs.{needs}
+use Rattle.resolvers.proofs.named_in.Statement.{statement}
+use Rattle.resolvers.proofs.named_in.Tie as tie
+
+type-of-requires : tie.Need-type-of-requires
+type-of-requires c κs = search needs
+
+returns : tie.Need-returns
+returns c = search found-is
+
+pub named-in-spec : {M : Type 1} → statement M
+named-in-spec = tie.close (tie.spec type-of-requires returns)
