@@ -31,19 +31,7 @@ pub(crate) fn memory_buffer() -> [u8; 4097]
     [0; 4097]
 }
 
-// 2,730 records.
-pub(crate) fn tape_buffer() -> [u8; 65520]
-    ensures { λ r. ⌜ 65520 ≡ length r ⌝ }
-{
-    [0; 65520]
-}
-
-pub(crate) fn text_buffer() -> [u8; 12288]
-    ensures { λ r. ⌜ 12288 ≡ length r ⌝ }
-{
-    [0; 12288]
-}
-
+// Long enough for the lines of any book and memory.
 pub(crate) fn line_buffer() -> [u8; 589824]
     ensures { λ r. ⌜ 589824 ≡ length r ⌝ }
 {

@@ -21,10 +21,10 @@ use Rattle.lines.proofs.Lengths.{refused-short, head-short}
 use Rattle.steps.specs.declared.Step.the-variants.{Stop}
 use Rattle.steps.specs.Trace.{Event, rec, text, textBytes, tapeBytes, Trace, done, stop, eventsOf, endOf, fits, stepOf}
 use Rattle.de.specs.Read.{readTrace}
-use Rattle.adswalk.specs.Answer.{eventLine, eventLines, stepLines, readLines, walked, checkedLines, printed}
-use Rattle.adswalk.proofs.Limits.{briefly, check-brief}
-use Rattle.adswalk.proofs.Emits.{Plain, record-more, text-more, Emits, emits-read}
-use Rattle.adswalk.proofs.Parses.{tape-long, fits-room, and-right}
+use Rattle.printout.specs.Printout.{eventLine, eventLines, stepLines, readLines, walked, checkedLines, printed}
+use Rattle.printout.proofs.Limits.{briefly, check-brief}
+use Rattle.printout.proofs.Emits.{Plain, record-more, text-more, Emits, emits-read}
+use Rattle.printout.proofs.Parses.{tape-long, fits-room, and-right}
 
 and-left : (a b : Bool) → a && b ≡ true → a ≡ true
 and-left true b h = refl
@@ -77,26 +77,26 @@ module _ (book : List ℕ) (v : ValidBook book) where
     unfolding readLines stepOf
     read-fits t i = step-fits t i (fits (eventsOf t) 0 0 x y) refl
 
-  walked-fits : (mem : List ℕ) (x y : ℕ) → x ≤ 65520 → y ≤ 12288 → length (walked book mem x y) ≤ 589824
+  walked-fits : (mem : List ℕ) → length (walked book mem) ≤ 589824
   unfolding walked
-  walked-fits mem x y k l = by (ltb 4096 (length mem)) refl
+  walked-fits mem = by (ltb 4096 (length mem)) refl
     where
-      by : (b : Bool) → ltb 4096 (length mem) ≡ b → length (cond b (refusedLine 10) (readLines book (length mem) x y (readTrace book (length book) 8 0 mem))) ≤ 589824
+      by : (b : Bool) → ltb 4096 (length mem) ≡ b → length (cond b (refusedLine 10) (readLines book (length mem) (24 * 2730) 12288 (readTrace book (length book) 8 0 mem))) ≤ 589824
       by true e = refused-fits 10 refl
-      by false e = read-fits (length mem) x y (ltb-false 4096 (length mem) e) k l (readTrace book (length book) 8 0 mem) (emits-read book (length book) 8 0 mem)
+      by false e = read-fits (length mem) (24 * 2730) 12288 (ltb-false 4096 (length mem) e) (omega arith) (omega arith) (readTrace book (length book) 8 0 mem) (emits-read book (length book) 8 0 mem)
 
--- ---- any book and memory, with a tape of at most 2,730 records and a text of at most 12,288 bytes
+-- ---- any book and memory
 
-module _ (book mem : List ℕ) (x y : ℕ) (k : x ≤ 65520) (l : y ≤ 12288) where
-  checked-fits : (c : RootCheck) → checkRoot book (length book) 0 ≡ c → briefly c ≡ true → length (checkedLines c book mem x y) ≤ 589824
+module _ (book mem : List ℕ) where
+  checked-fits : (c : RootCheck) → checkRoot book (length book) 0 ≡ c → briefly c ≡ true → length (checkedLines c book mem) ≤ 589824
   unfolding checkedLines
-  checked-fits (root.Root n) e h = walked-fits book (rw (take-length book) at (root-valid book (length book) 0 n e .valid)) mem x y k l
+  checked-fits (root.Root n) e h = walked-fits book (rw (take-length book) at (root-valid book (length book) 0 n e .valid)) mem
   checked-fits (root.Refused n) e h = refused-fits n h
 
-  pub printed-fits : length (printed book mem x y) ≤ 589824
+  pub printed-fits : length (printed book mem) ≤ 589824
   unfolding printed
   printed-fits = by (ltb 65536 (length book))
     where
-      by : (b : Bool) → length (cond b (refusedLine 1) (checkedLines (checkRoot book (length book) 0) book mem x y)) ≤ 589824
+      by : (b : Bool) → length (cond b (refusedLine 1) (checkedLines (checkRoot book (length book) 0) book mem)) ≤ 589824
       by true = refused-fits 1 refl
       by false = checked-fits (checkRoot book (length book) 0) refl (check-brief book (length book) 0)

@@ -2,9 +2,12 @@
 use mathlib.Core.Path.{_≡_}
 use mathlib.Core.Bool.{cond}
 use mathlib.Core.List.{List, [], _∷_, _++_}
-use Prim.Native.Nat.{ℕ, _%_, _≤_}
-use lib.ListN.{length, take, drop}
+use Prim.Native.Nat.{ℕ, _*_, _%_, _≤_}
+use lib.ListN.{length}
 use lib.Dec.{ltb}
+use Rattle.utf_8.specs.declared.Put.{Put}
+use Rattle.utf_8.specs.declared.Put.the-variants as put
+use Rattle.figures.specs.Puts.{Printed}
 use Rattle.book_check.specs.Check.{checkRoot}
 use Rattle.book_check.specs.declared.RootCheck.{RootCheck}
 use Rattle.book_check.specs.declared.RootCheck.the-variants as root
@@ -38,27 +41,25 @@ stepLines book memory es (Stop n b) = refusedLine n
 unfoldable pub readLines : List ℕ → ℕ → ℕ → ℕ → Trace → List ℕ
 readLines book memory tapeRoom textRoom t = stepLines book memory (eventsOf t) (stepOf t tapeRoom textRoom 0 0)
 
--- too long a memory is 10, before the walk
-unfoldable pub walked : List ℕ → List ℕ → ℕ → ℕ → List ℕ
-walked book mem tapeRoom textRoom = cond (ltb 4096 (length mem)) (refusedLine 10) (readLines book (length mem) tapeRoom textRoom (readTrace book (length book) 8 0 mem))
+-- too long a memory is 10, before the walk, whose tape has 2,730 records and whose text has 12,288 bytes
+unfoldable pub walked : List ℕ → List ℕ → List ℕ
+walked book mem = cond (ltb 4096 (length mem)) (refusedLine 10) (readLines book (length mem) (24 * 2730) 12288 (readTrace book (length book) 8 0 mem))
 
 -- 1 to 5 come before that
-unfoldable pub checkedLines : RootCheck → List ℕ → List ℕ → ℕ → ℕ → List ℕ
-checkedLines (root.Root n) book mem tapeRoom textRoom = walked book mem tapeRoom textRoom
-checkedLines (root.Refused k) book mem tapeRoom textRoom = refusedLine k
+unfoldable pub checkedLines : RootCheck → List ℕ → List ℕ → List ℕ
+checkedLines (root.Root n) book mem = walked book mem
+checkedLines (root.Refused k) book mem = refusedLine k
 
 -- too long a book is 1, before anything
-unfoldable pub printed : List ℕ → List ℕ → ℕ → ℕ → List ℕ
-printed book mem tapeRoom textRoom = cond (ltb 65536 (length book)) (refusedLine 1) (checkedLines (checkRoot book (length book) 0) book mem tapeRoom textRoom)
+unfoldable pub printed : List ℕ → List ℕ → List ℕ
+printed book mem = cond (ltb 65536 (length book)) (refusedLine 1) (checkedLines (checkRoot book (length book) 0) book mem)
 
 -- ---- what the functions promise
 
--- the lines stand at the start of a buffer that else is as it was, and r is the number of their bytes; `room` and `cut` follow from that
-pub record Shown (lines out : List ℕ) (r : ℕ) (out′ : List ℕ) : Type 0 where
-  pub count : r ≡ length lines
-  pub buffer : out′ ≡ lines ++ drop (length lines) out
-  pub room : r ≤ length out′
-  pub cut : r ≡ length (take r out′)
+-- the lines stand at the start of a buffer that else is as it was, and r is the number of their bytes; or `Full` and zeros where they do not fit; 589,824 bytes are always enough
+pub record Prints (lines out : List ℕ) (r : Put) (out′ : List ℕ) : Type 0 where
+  pub lines-are : Printed lines out r out′
+  pub enough : 589824 ≤ length out → r ≡ put.Next (length lines)
 
 -- the lines of a read's answer, and of the tape and text that it left
 unfoldable pub linesBy : ReadAnswer → List ℕ → ℕ → List ℕ → List ℕ → List ℕ

@@ -25,8 +25,8 @@ use Rattle.steps.specs.declared.Step.{Step}
 use Rattle.steps.specs.declared.Step.the-variants.{Stop}
 use Rattle.steps.specs.Trace.{Event, rec, text, bytesOf, textBytes, tapeBytes, Trace, done, stop, eventsOf, endOf, fits, stepOf}
 use Rattle.steps.specs.Answer.{refusalOf, answerOf, bufferAfter, ReadIs}
-use Rattle.adswalk.specs.Answer.{eventLine, eventLines, stepLines, readLines, linesBy}
-use Rattle.adswalk.proofs.Emits.{Plain, record-more, text-more, Emits}
+use Rattle.printout.specs.Printout.{eventLine, eventLines, stepLines, readLines, linesBy}
+use Rattle.printout.proofs.Emits.{Plain, record-more, text-more, Emits}
 
 -- a record with A and B as its bytes hold them
 abbrev held : ℕ → ℕ → ℕ → ℕ → Record

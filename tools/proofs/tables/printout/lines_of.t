@@ -1,3 +1,3 @@
-use Rattle.adswalk.proofs.Exits.{of-done, of-lacks, of-refused}
+use Rattle.printout.proofs.Exits.{of-done, of-lacks, of-refused}
 ruleset exits = (of-done, of-lacks, of-refused)
 returns.* => search exits

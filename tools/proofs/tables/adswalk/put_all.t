@@ -1,3 +1,0 @@
-use Rattle.adswalk.proofs.Exits.{all-long, all-walk, all-refused}
-ruleset exits = (all-long, all-walk, all-refused)
-returns.* => search exits

@@ -1,0 +1,5 @@
+use Rattle.printout.proofs.Exits.{all-long, all-short, checked-walk, checked-refused}
+use native.Mathlib.Omega.{arith}
+ruleset exits = (checked-walk, checked-refused)
+returns => all-long _ _ (omega arith) (search needs)
+returns.* => all-short _ _ (omega arith) (search exits)
