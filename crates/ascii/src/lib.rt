@@ -20,7 +20,7 @@ pub fn block_end(at: usize, len: usize) -> usize
 }
 
 // The higher of two bytes.
-fn higher(a: u8, b: u8) -> u8
+pub fn higher(a: u8, b: u8) -> u8
     ensures { λ r. ⌜ r ≡ cond (ltb a b) b a ⌝ }
 {
     if a < b {

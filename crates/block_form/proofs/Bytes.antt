@@ -1,14 +1,15 @@
 -- A list of bytes from the front: its sum, and a test of every byte. Each loop keeps: the whole is what is left. Assumes nothing.
 use mathlib.Core.Path.{_≡_, refl, sym, _∙_}
-use mathlib.Core.Bool.{Bool, true, false, _&&_}
+use mathlib.Core.Bool.{Bool, true, false, cond, _&&_}
 use mathlib.Core.List.{List}
-use Prim.Native.Nat.{ℕ, _+_, _≤_, _<_}
+use Prim.Native.Nat.{ℕ, suc, _+_, _≤_, _<_}
 use native.Mathlib.Omega.{arith}
 use native.Mathlib.Numerals.{add-one}
 use lib.ListN.{length, getD, drop, drop-of-length-le}
 use lib.Seq.{drop-cons}
-use borrow.Author.Tests.{not-true, not-false, lt-ltb, le-ltb, le-leb, lt-leb, eq-eqb, ne-eqb}
-use Rattle.block_form.specs.Form.{sumOf, every}
+use lib.Dec.{eqb, ltb}
+use borrow.Author.Tests.{not-true, not-false, ltb-true, ltb-false, eqb-true, eqb-false, lt-ltb, le-ltb, le-leb, lt-leb, eq-eqb, ne-eqb}
+use Rattle.block_form.specs.Form.{sumOf, every, isZero}
 
 -- what a call said of a test, and how the test went
 pub said : {t b x : Bool} → t ≡ x → t ≡ b → x ≡ b
@@ -46,6 +47,31 @@ module _ (p : ℕ → Bool) (xs : List ℕ) (i : ℕ) (inv : every p xs ≡ ever
   pub every-end : length xs ≤ i → true ≡ every p xs
   unfolding every
   every-end l = sym (inv ∙ rw (drop-of-length-le xs l))
+
+-- ---- the loop of `all_zero`: all is 0 where the highest byte so far and what is left are
+
+module _ (xs : List ℕ) (i highest : ℕ) (inv : every isZero xs ≡ eqb highest 0 && every isZero (drop i xs)) where
+  pub zero-again : (n : ℕ) → i < length xs → n ≡ cond (ltb highest (getD xs i 0)) (getD xs i 0) highest → every isZero xs ≡ eqb n 0 && every isZero (drop (i + 1) xs)
+  unfolding every
+  zero-again n l e = inv ∙ rw (add-one, drop-cons xs i 0 l) (by (ltb highest (getD xs i 0)) (eqb highest 0) (eqb (getD xs i 0) 0) refl refl refl e)
+    where
+      by : (o s t : Bool) → ltb highest (getD xs i 0) ≡ o → eqb highest 0 ≡ s → eqb (getD xs i 0) 0 ≡ t → n ≡ cond o (getD xs i 0) highest
+          → s && (t && every isZero (drop (suc i) xs)) ≡ eqb n 0 && every isZero (drop (suc i) xs)
+      by true true true o p q h = rw (h, q)
+      by true true false o p q h = rw (h, q)
+      by true false true o p q h = absurd (omega (arith, ltb-true highest (getD xs i 0) o, eqb-true (getD xs i 0) 0 q))
+      by true false false o p q h = rw (h, q)
+      by false true true o p q h = rw (h, p)
+      by false true false o p q h = absurd (omega (arith, ltb-false highest (getD xs i 0) o, eqb-true highest 0 p, eqb-false (getD xs i 0) 0 q))
+      by false false t o p q h = rw (h, p)
+
+  pub zero-end : length xs ≤ i → eqb highest 0 ≡ every isZero xs
+  unfolding every
+  zero-end l = sym (inv ∙ rw (drop-of-length-le xs l) (by (eqb highest 0)))
+    where
+      by : (b : Bool) → b && true ≡ b
+      by true = refl
+      by false = refl
 
 module _ (xs : List ℕ) (i total : ℕ) (inv : sumOf xs ≡ total + sumOf (drop i xs)) where
   pub sum-again : i < length xs → sumOf xs ≡ total + getD xs i 0 + sumOf (drop (i + 1) xs)

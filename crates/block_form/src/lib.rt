@@ -4,6 +4,7 @@ ghost use mathlib.Core.Path.{_≡_};
 ghost use Prim.Native.Nat.{_≤_, _<_};
 ghost use lib.ListN.{length};
 ghost use Rattle.block_form.specs.Form.{sumOf, sumRight, every, isZero, isPrintable, unusedZero, nameForm, namesForm, typeForm, fieldForm, entryForm};
+use ascii::higher;
 use number::le::le_u32;
 
 fn wide(x: u8) -> usize
@@ -38,17 +39,17 @@ pub fn sum_right(block: &[u8]) -> bool
 
 // ---- its form
 
+// Whether all bytes of a part are 0. It looks for the highest of them, which needs no branch: most of a block is zeros.
 fn all_zero(part: &[u8]) -> bool
     ensures { λ r. ⌜ r ≡ every isZero (now (part .entry)) ⌝ }
 {
+    let mut highest: u8 = 0;
     let mut i = 0;
     while i < part.len() {
-        if part[i] != 0 {
-            return false;
-        }
+        highest = higher(highest, part[i]);
         i += 1;
     }
-    true
+    highest == 0
 }
 
 fn is_printable(byte: u8) -> bool
