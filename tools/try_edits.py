@@ -5,7 +5,8 @@
     python3 tools/try_edits.py --more [CRATE ...]  # only those that the gate leaves out, of these crates or of all
 
 The crates must be proved (`rt check CRATE`). For each edit one line: refused with the place of the first error, or NOT
-REFUSED; the last line counts them. (`rt must-fail CRATE` tries the edits of every crate below as well.) An edit's form is rt's: lines
+REFUSED; "shape too" says that the proof no longer fits the code, so that the edit would be refused whatever the facts. The last line
+counts them. (`rt must-fail CRATE` tries the edits of every crate below as well.) An edit's form is rt's: lines
 `file:`, `old:`, `new:`.
 """
 
@@ -21,6 +22,8 @@ from pathlib import Path
 ROOT = Path(__file__).resolve().parent.parent
 KIT = Path(os.environ.get("RATTLE_HOME") or Path(shutil.which("rt")).resolve().parent.parent)
 OWN = KIT / "on" / platform.machine()
+# What the prover says where a proof's needs are no longer those of the code.
+SHAPE = re.compile(r"error: .*(has no `Need-|expected type `tie\.|components but its type)")
 
 
 def needs(name):
@@ -73,7 +76,8 @@ def tried(name, edit):
         if run.returncode != 1 or "logic=not-proved" not in said:
             return "NOT REFUSED" if run.returncode == 0 else f"did not reach the prover (exit {run.returncode})"
         first = re.search(r"^(\S+): error", said, re.M) or re.search(r"^note: (\S+):", said, re.M)
-        return f"refused, first at {first[1].replace(str(folder) + '/', '')}" if first else "refused"
+        place = f", first at {first[1].replace(str(folder) + '/', '')}" if first else ""
+        return f"refused{place}{' (shape too)' if SHAPE.search(said) else ''}"
 
 
 def main():

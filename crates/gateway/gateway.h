@@ -73,9 +73,9 @@ uint32_t gateway_find_by(const uint8_t *book, size_t book_len, const uint32_t *i
  * type serve well; 16,384 do for any book of 4,096 types. For a call or two. */
 void gateway_fill_names(const uint8_t *book, size_t book_len, uint32_t *index, size_t index_len);
 
-/* The same, and the type that each block names, which makes the walks of a checked book quick: at the end of the index, one element for
- * each block, where it has three or more for each block (with fewer it is as by gateway_fill_names). Four for each type and one for each
- * block serve well, where those are three for each block. */
+/* The same, and the type that each block names, which makes the walks of a checked book quick: one element for each block, at the end
+ * of the index. They are left out where the index has fewer than three elements for each block. Two elements for each block or four for
+ * each type, whichever is more, and one more for each block serve well. */
 void gateway_fill_index(const uint8_t *book, size_t book_len, uint32_t *index, size_t index_len);
 
 /* ---- the book */
