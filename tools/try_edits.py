@@ -23,7 +23,7 @@ ROOT = Path(__file__).resolve().parent.parent
 KIT = Path(os.environ.get("RATTLE_HOME") or Path(shutil.which("rt")).resolve().parent.parent)
 OWN = KIT / "on" / platform.machine()
 # What the prover says where a proof's needs are no longer those of the code.
-SHAPE = re.compile(r"error: .*(has no `Need-|expected type `tie\.|components but its type)")
+SHAPE = re.compile(r"error: .*(has no `Need-|expected type `tie\.|components but its type|differ where one has `\S+\.Lts\.)")
 
 
 def needs(name):
