@@ -7,16 +7,14 @@ use native.Mathlib.Omega.{arith}
 use lib.ListN.{length, getD, set, List·getD-eq-default}
 use lib.Seq.{set-out, getD-set-same, getD-set-other}
 use lib.Dec.{eqb, leb}
-use borrow.Author.Tests.{eqb-true, eqb-false, ne-eqb, leb-true, leb-false}
+use borrow.Author.Tests.{eqb-true, eqb-false, leb-true, leb-false}
 use mir.Syntax.{w32}
 use mir.Val.{Fits}
 use Rattle.typebook.specs.Book.{isType, offsetOf, sizeOf, fieldsOf, typeNameOf}
 use Rattle.type_provider.specs.Find.{find}
-use Rattle.type_index.specs.Index.{FoundBy}
 use Rattle.type_provider.specs.declared.Found.{Found}
 use Rattle.type_provider.specs.declared.Found.the-variants.{At, Nothing}
 use Rattle.type_category.specs.declared.type_category.AdsTypeCategory.{AdsTypeCategory}
-use Rattle.type_category.specs.declared.type_category.AdsTypeCategory.the-variants.{None, Primitive, Alias, Enum, Array, Struct, FunctionBlock, Program, Function, SubRange, String, Bitset, Pointer, Union, Reference, Interface}
 use Rattle.type_category.specs.Category.{categoryOf}
 use Rattle.category_number.specs.Number.{categoryNumber, categoryAt}
 use Rattle.category_number.proofs.Numbers.{number-small, number-back}
@@ -29,7 +27,7 @@ use Rattle.resolvers.specs.declared.Resolved.the-variants as resolved
 use Rattle.field_types.specs.declared.ResolvedField.{ResolvedField}
 use Rattle.field_types.specs.declared.FieldAnswer.the-variants as answer
 use Rattle.field_types.specs.declared.FieldsCheck.the-variants as check
-use Rattle.resolvers.proofs.Chains.{found-is, found-type, follow-base}
+use Rattle.resolvers.proofs.Chains.{found-type, follow-base}
 use Rattle.field_types.proofs.Fields.{field-at, field-nothing, fields-more, fields-lacks, fields-endless, fields-none}
 use Rattle.field_plan.specs.declared.PlannedField.{PlannedField}
 use Rattle.field_plan.specs.declared.Planned.{Planned}

@@ -13,11 +13,11 @@ pub record FoundBy (book name : List ℕ) (r : Found) : Type 0 where
   pub nothing : r ≡ Nothing → find book name ≡ Nothing
   pub unique : UniqueNames book → r ≡ find book name
 
--- every slot is 0, which is empty, or one more than the number of a type block
+-- every number of an index, slot or hint, is 0, which says nothing, or one more than the number of a type block
 abbrev pub Slots : List ℕ → List ℕ → Type 0
 Slots book index = (i m : ℕ) → getD index i 0 ≡ m + 1 → TypeBlock book m
 
--- an index made for the book; which slot holds which block is left free, since the look-up is right for any index
+-- an index made for the book; which place holds which block is left free, since the look-ups are right for any index
 pub record IndexOf (book before after : List ℕ) : Type 0 where
   pub kept : length after ≡ length before
   pub slots : Slots book after

@@ -17,7 +17,7 @@ use Rattle.type_category.specs.Category.{categoryOf}
 use Rattle.type_category.proofs.Categories.{array-type}
 use Rattle.book_check.specs.Check.{ValidBook}
 use Rattle.book_check.proofs.Valid.{valid-type}
-use Rattle.resolvers.proofs.Chains.{found-type}
+use Rattle.resolvers.proofs.Chains.{found-typed}
 use Rattle.visits.specs.declared.Parts.{Parts}
 use Rattle.visits.specs.declared.Parts.the-variants.{Element, Fields, Nothing}
 use Rattle.visits.specs.Parts.{partsKind, after, partsIn, partsOf}
@@ -73,10 +73,6 @@ part-is book width t v y b m = by (partsKind (categoryOf book width t)) refl m
 pub find-name : (book name : List ℕ) (t : ℕ) → find book name ≡ found.At t → nameOf book t ≡ name
 find-name book name t e = named-name book name t (find-named book name t e .named)
 
--- what block b names is a type block, below block 65,536
-module _ (book : List ℕ) (b : ℕ) (f : Found) (ef : f ≡ find book (typeNameOf book b)) (t : ℕ) (h : f ≡ found.At t) where
-  pub found-typed : isType book t ≡ true
-  found-typed = found-type book (typeNameOf book b) t (sym ef ∙ h)
-
-  pub found-below : ValidBook book → t < 65536
-  found-below v = type-below book t v found-typed
+-- what block b names is below block 65,536
+pub found-below : (book : List ℕ) (b : ℕ) (f : Found) → f ≡ find book (typeNameOf book b) → (t : ℕ) → f ≡ found.At t → ValidBook book → t < 65536
+found-below book b f ef t h v = type-below book t v (found-typed book b f ef t h)

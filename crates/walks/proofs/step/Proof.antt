@@ -1,5 +1,6 @@
 -- `step` meets its contract. Assumes nothing.
-use Rattle.walks.proofs.Places.{found-typed, found-below}
+use Rattle.resolvers.proofs.Chains.{found-typed}
+use Rattle.walks.proofs.Places.{found-below}
 use Rattle.walks.proofs.Turns.{step-marked, step-full, step-new, step-listed, step-full′, step-lacking}
 use borrow.Author.Needs.{needs}
 use Rattle.walks.proofs.step.Statement.{statement}
