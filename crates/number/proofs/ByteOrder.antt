@@ -18,6 +18,15 @@ unfolding leBytes
 length-leBytes zero n = refl
 length-leBytes (suc w) n = ap suc (length-leBytes w (n / 256))
 
+-- two bytes
+pub leBytes-two : (n : ℕ) → leBytes 2 n ≡ n % 256 ∷ n / 256 % 256 ∷ []
+unfolding leBytes
+leBytes-two n = refl
+
+pub leValue-two : (x y : ℕ) → leValue (x ∷ y ∷ []) ≡ x + y * 256
+unfolding leValue
+leValue-two x y = omega arith
+
 next-byte : (w n : ℕ) → n % (256 ^ w * 256) ≡ n / 256 % 256 ^ w * 256 + n % 256
 next-byte w n = mod-mul n (one-le-pow w 256 (omega arith)) (omega arith)
 

@@ -2,6 +2,7 @@
 use mathlib.Core.Path.{_≡_, refl}
 use mathlib.Core.List.{[], _∷_, flatMap}
 use lib.ListN.{take}
+use Rattle.number.specs.Le.{leValue, leBytes}
 use Rattle.utf_8.specs.Utf8.{scalar, error, leading, following, after, decodeFrom as decodeFrom8, encoded, utf8Of}
 use Rattle.utf_8.specs.declared.TextEnd.the-variants.{Terminated, Unterminated}
 use Rattle.utf_16.specs.Decode.{unitAlone, unitAfter, decodeFrom, decodeItems, decodeScalars, decodeText}
@@ -14,27 +15,27 @@ unfolding endFrom
 ends-before-pair = refl
 
 leading-at-end : decodeText (take 4 (0x41 ∷ 0x00 ∷ 0x3D ∷ 0xD8 ∷ 0x00 ∷ 0x00 ∷ [])) ≡ 0x41 ∷ 0xEF ∷ 0xBF ∷ 0xBD ∷ []
-unfolding flatMap decodeScalars decodeFrom unitAfter unitAlone utf8Of encoded
+unfolding flatMap decodeScalars decodeFrom unitAfter unitAlone utf8Of encoded leValue
 leading-at-end = refl
 
 -- 41h alone gives EFh BFh BDh
 odd-byte-alone : decodeText (0x41 ∷ []) ≡ 0xEF ∷ 0xBF ∷ 0xBD ∷ []
-unfolding flatMap decodeScalars decodeFrom unitAfter unitAlone utf8Of encoded
+unfolding flatMap decodeScalars decodeFrom unitAfter unitAlone utf8Of encoded leValue
 odd-byte-alone = refl
 
 -- a leading surrogate and an odd byte: one error
 leading-and-odd : decodeText (0x3D ∷ 0xD8 ∷ 0x41 ∷ []) ≡ 0xEF ∷ 0xBF ∷ 0xBD ∷ []
-unfolding flatMap decodeScalars decodeFrom unitAfter unitAlone utf8Of encoded
+unfolding flatMap decodeScalars decodeFrom unitAfter unitAlone utf8Of encoded leValue
 leading-and-odd = refl
 
 -- a leading surrogate before a pair: an error, and U+1F600
 leading-twice : decodeItems (0x3D ∷ 0xD8 ∷ 0x3D ∷ 0xD8 ∷ 0x00 ∷ 0xDE ∷ []) ≡ error ∷ scalar 0x1F600 ∷ []
-unfolding decodeFrom unitAfter unitAlone
+unfolding decodeFrom unitAfter unitAlone leValue
 leading-twice = refl
 
 -- no byte order mark is looked for: FFh FEh is U+FEFF
 mark-is-text : decodeText (0xFF ∷ 0xFE ∷ []) ≡ 0xEF ∷ 0xBB ∷ 0xBF ∷ []
-unfolding flatMap decodeScalars decodeFrom unitAfter unitAlone utf8Of encoded
+unfolding flatMap decodeScalars decodeFrom unitAfter unitAlone utf8Of encoded leValue
 mark-is-text = refl
 
 -- 41h 00h 00h 00h 42h ends before byte 2
@@ -54,5 +55,5 @@ odd-zero = refl
 
 -- U+1F600 is the pair D83Dh DE00h, and U+FFFD stands for an ill-formed byte
 pair-encoded : encodeText (0xF0 ∷ 0x9F ∷ 0x98 ∷ 0x80 ∷ 0xFF ∷ []) ≡ 0x3D ∷ 0xD8 ∷ 0x00 ∷ 0xDE ∷ 0xFD ∷ 0xFF ∷ []
-unfolding flatMap decodeFrom8 leading following after utf16Of
+unfolding flatMap decodeFrom8 leading following after utf16Of leBytes
 pair-encoded = refl

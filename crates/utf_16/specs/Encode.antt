@@ -1,13 +1,14 @@
 -- UTF-16LE, encoded: the UTF-16 encoding form of the Unicode Standard, each code unit with its low byte first. Assumes nothing.
 use mathlib.Core.Bool.{cond}
-use mathlib.Core.List.{List, [], _∷_, _++_, flatMap}
+use mathlib.Core.List.{List, _++_, flatMap}
 use Prim.Native.Nat.{ℕ, _+_, _-_, _/_, _%_}
 use lib.Dec.{ltb}
+use Rattle.number.specs.Le.{leBytes}
 use Rattle.utf_8.specs.Utf8.{scalars}
 
--- the two bytes of a code unit
+-- the two bytes of a code unit, in little-endian order
 abbrev pub unitBytes : ℕ → List ℕ
-unitBytes u = u % 256 ∷ u / 256 % 256 ∷ []
+unitBytes u = leBytes 2 u
 
 -- the leading surrogate of a scalar value from 10000h on
 abbrev pub leadingOf : ℕ → ℕ

@@ -1,11 +1,13 @@
 -- UTF-16 code units (the Unicode Standard, section 3.9; the WHATWG Infra Standard's surrogates). Assumes nothing.
 use mathlib.Core.Bool.{Bool, _&&_}
+use mathlib.Core.List.{[], _∷_}
 use Prim.Native.Nat.{ℕ, _+_, _*_, _-_}
 use lib.Dec.{leb}
+use Rattle.number.specs.Le.{leValue}
 
--- the code unit of two bytes, the low byte first
+-- the code unit of two bytes, in little-endian order
 abbrev pub unitOf : ℕ → ℕ → ℕ
-unitOf low high = low + high * 256
+unitOf low high = leValue (low ∷ high ∷ [])
 
 -- a leading surrogate: D800h to DBFFh
 abbrev pub isLeading : ℕ → Bool

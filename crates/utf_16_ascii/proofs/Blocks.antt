@@ -7,6 +7,7 @@ use native.Mathlib.Omega.{arith}
 use lib.ListN.{length, getD, set}
 use lib.Dec.{eqb}
 use borrow.Author.Tests.{eqb-true, eqb-false, eq-eqb}
+use Rattle.number.proofs.ByteOrder.{leValue-two}
 use Rattle.utf_8.specs.declared.Put.the-variants.{Next}
 use Rattle.utf_8.specs.Buffer.{Wrote}
 use Rattle.utf_8.proofs.Splices.{stored-1}
@@ -34,7 +35,7 @@ module _ (bytes : List ℕ) (at : ℕ) where
         below k m = by (eqb k i) refl
           where
             by : (t : Bool) → eqb k i ≡ t → unitOf (getD bytes (at + 2 * k) 0) (getD bytes (at + 2 * k + 1) 0) < 0x80
-            by true e = rw (eqb-true k i e) (omega arith)
+            by true e = rw (eqb-true k i e) (omega (arith, leValue-two (getD bytes (at + 2 * i) 0) (getD bytes (at + 2 * i + 1) 0)))
             by false e = before .low k (omega (arith, eqb-false k i e))
 
     pub units-all : 32 ≤ i → i ≤ 32 → eqb above 0 ≡ true → AsciiUnits bytes at 32
@@ -43,7 +44,7 @@ module _ (bytes : List ℕ) (at : ℕ) where
   module _ (above : ℕ) (inv : AsciiUnits bytes at 32 → above ≡ 0) (a : AsciiUnits bytes at 32) where
     -- of ASCII nothing is added up
     pub nothing-again : (i x y : ℕ) → i < 32 → x ≡ getD bytes (at + 2 * i) 0 → y ≡ getD bytes (at + 2 * i + 1) 0 → above + (x / 128 + y) ≡ 0
-    nothing-again i x y l p q = omega (arith, inv a, a .low i l)
+    nothing-again i x y l p q = omega (arith, inv a, a .low i l, leValue-two (getD bytes (at + 2 * i) 0) (getD bytes (at + 2 * i + 1) 0))
 
     pub nothing-all : eqb above 0 ≡ true
     nothing-all = eq-eqb above 0 (inv a)

@@ -12,6 +12,7 @@ use Rattle.utf_8.specs.Buffer.{Wrote, roomFor}
 use Rattle.utf_8.specs.Utf8.{utf8Of}
 use Rattle.utf_8.proofs.Encodes.{utf8-one, utf8-two, utf8-short, len-two}
 use Rattle.utf_8.proofs.Splices.{wrote-as, wrote-full, stored-1, stored-2}
+use Rattle.number.proofs.ByteOrder.{leValue-two}
 use Rattle.utf_16.specs.Unit16.{unitOf}
 use Rattle.utf_16.specs.Decode.{decodeScalars, decodeText}
 use Rattle.utf_16.specs.Step.{ScalarAt, Left}
@@ -27,8 +28,8 @@ ascii-here : (bytes : List ℕ) (at : ℕ) → at + 2 ≤ length bytes → unitO
     → decodeText (drop at bytes) ≡ getD bytes at 0 ∷ decodeText (drop (at + 2) bytes)
 ascii-here bytes at h l =
     let u = unitOf (getD bytes at 0) (getD bytes (at + 1) 0) in
-    let e : u ≡ getD bytes at 0 = omega arith in
-    text-here decodeScalars utf8Of nothing-left bytes at u (at + 2) (scalar-low bytes at u (record { is = refl }) (omega arith) (omega arith))
+    let e : u ≡ getD bytes at 0 = omega (arith, leValue-two (getD bytes at 0) (getD bytes (at + 1) 0)) in
+    text-here decodeScalars utf8Of nothing-left bytes at u (at + 2) (scalar-low bytes at u (record { is = refl }) (omega arith) (omega arith) .scalar)
     ∙ rw (utf8-one u l, e)
 
 shifted : (bytes : List ℕ) (at n : ℕ) → AsciiUnits bytes at (suc n) → AsciiUnits bytes (at + 2) n

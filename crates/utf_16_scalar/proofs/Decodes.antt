@@ -16,8 +16,9 @@ use Rattle.utf_8.proofs.Encodes.{utf8-short, len-one, len-two, len-three}
 use Rattle.utf_16.specs.Unit16.{unitOf, isLeading, isTrailing, fromSurrogates}
 use Rattle.utf_16.specs.Decode.{unitAlone, unitAfter, decodeFrom, decodeItems, decodeScalars, decodeText}
 use Rattle.utf_16.specs.Step.{ScalarAt}
-use Rattle.utf_16_scalar.specs.Units.{UnitAt, SurrogateAt}
+use Rattle.utf_16_scalar.specs.Units.{UnitAt, SurrogateAt, sizeOf, FirstScalar}
 use Rattle.utf_16.proofs.Ends.{drop-two}
+use Rattle.number.proofs.ByteOrder.{leValue-two}
 
 -- ---- the surrogates
 
@@ -164,7 +165,7 @@ size-from none lead (x ∷ xs) a h = omega (arith, size-from (some x) lead xs (h
 size-from (some b) lead (x ∷ xs) a h =
     let g = unitAfter lead (unitOf b x) in
     rw (text-append (g .items) (decodeFrom none (g .leading) xs), length-append)
-    (omega (arith, after-size lead (unitOf b x) (omega (arith, h 0)), size-from none (g .leading) xs (omega arith) (λ i. h (suc i))))
+    (omega (arith, after-size lead (unitOf b x) (omega (arith, h 0, leValue-two b x)), size-from none (g .leading) xs (omega arith) (λ i. h (suc i))))
 
 -- the most bytes that a text takes in UTF-8
 pub text-room : (bytes : List ℕ) → ((i : ℕ) → getD bytes i 0 < 256) → length (decodeText bytes) ≤ 3 * (length bytes / 2) + 3 * (length bytes % 2)
@@ -174,46 +175,86 @@ text-room bytes h = omega (arith, size-from none none bytes (omega arith) h)
 pub fits-short : (bytes : List ℕ) (room : ℕ) → ((i : ℕ) → Fits w8 (getD bytes i 0)) → length bytes ≤ room / 3 → true ≡ leb (length (decodeText bytes)) room
 fits-short bytes room f h = sym (le-leb _ room (omega (arith, text-room bytes (λ i. f i .fits))))
 
--- ---- the scalar value at a place
-
 pub nothing-left : decodeScalars [] ≡ []
 unfolding decodeScalars decodeFrom
 nothing-left = refl
 
+-- ---- how many bytes it takes
+
+module _ (x y : ℕ) where
+  size-two : (xs : List ℕ) → isLeading (unitOf x y) ≡ false → sizeOf (x ∷ y ∷ xs) ≡ 2
+  unfolding sizeOf
+  size-two [] l = refl
+  size-two (z ∷ []) l = rw l
+  size-two (z ∷ w ∷ xs) l = rw l
+
+  size-apart : (z w : ℕ) (xs : List ℕ) → isTrailing (unitOf z w) ≡ false → sizeOf (x ∷ y ∷ z ∷ w ∷ xs) ≡ 2
+  unfolding sizeOf
+  size-apart z w xs t = by (isLeading (unitOf x y)) refl
+    where
+      by : (l : Bool) → isLeading (unitOf x y) ≡ l → sizeOf (x ∷ y ∷ z ∷ w ∷ xs) ≡ 2
+      by true e = rw (e, t)
+      by false e = rw e
+
+  module _ (l : isLeading (unitOf x y) ≡ true) where
+    size-odd : (z : ℕ) → sizeOf (x ∷ y ∷ z ∷ []) ≡ 3
+    unfolding sizeOf
+    size-odd z = rw l
+
+    size-pair : (z w : ℕ) (xs : List ℕ) → isTrailing (unitOf z w) ≡ true → sizeOf (x ∷ y ∷ z ∷ w ∷ xs) ≡ 4
+    unfolding sizeOf
+    size-pair z w xs t = rw (l, t)
+
+size-one : (x : ℕ) → sizeOf (x ∷ []) ≡ 1
+unfolding sizeOf
+size-one x = refl
+
+size-end : (x y : ℕ) → sizeOf (x ∷ y ∷ []) ≡ 2
+unfolding sizeOf
+size-end x y = refl
+
+-- ---- the scalar value at a place
+
+-- two bytes are a code unit
+pub unit-here : (bytes : List ℕ) (at x y : ℕ) → x ≡ getD bytes at 0 → y ≡ getD bytes (at + 1) 0 → UnitAt bytes at (x + y * 256)
+unit-here bytes at x y ex ey = record { is = rw (← ex, ← ey) (sym (leValue-two x y)) }
+
 module _ (bytes : List ℕ) (at : ℕ) where
-  -- one item stands at the place
-  here : (next : ℕ) (i : Item) → decodeItems (drop at bytes) ≡ i ∷ decodeItems (drop next bytes) → at < next → next ≤ length bytes → ScalarAt decodeScalars bytes at (replaced i) next
+  -- one item of k bytes stands at the place
+  here : (next : ℕ) (i : Item) → decodeItems (drop at bytes) ≡ i ∷ decodeItems (drop next bytes) → at < next → next ≤ length bytes → next ≡ at + sizeOf (drop at bytes) → FirstScalar bytes at (replaced i) next
   unfolding decodeScalars
-  here next i e a b = record { is = ap (map replaced) e; later = a; within = b }
+  here next i e a b p = record { scalar = record { is = ap (map replaced) e; later = a; within = b }; place = p }
 
   -- one error, and the end
-  last : (xs : List ℕ) → drop at bytes ≡ xs → decodeItems xs ≡ error ∷ [] → at < length bytes → ScalarAt decodeScalars bytes at 0xfffd (length bytes)
+  last : (xs : List ℕ) → drop at bytes ≡ xs → decodeItems xs ≡ error ∷ [] → at < length bytes → length bytes ≡ at + sizeOf xs → FirstScalar bytes at 0xfffd (length bytes)
   unfolding decodeFrom
-  last xs d e a = here (length bytes) error (rw (d, drop-length) e) a (omega arith)
+  last xs d e a p = here (length bytes) error (rw (d, drop-length) e) a (omega arith) (p ∙ rw d)
 
-  pub scalar-odd : at < length bytes → length bytes - at < 2 → ScalarAt decodeScalars bytes at 0xfffd (at + 1)
+  pub scalar-odd : at < length bytes → length bytes - at < 2 → FirstScalar bytes at 0xfffd (at + 1)
   scalar-odd a h =
       let k : length bytes ≡ suc at = omega arith in
       let n : at + 1 ≡ length bytes = omega arith in
-      rw n (last (getD bytes at 0 ∷ []) (drop-cons bytes at 0 a ∙ rw (← k, drop-length)) (odd-byte _) a)
+      rw n (last (getD bytes at 0 ∷ []) (drop-cons bytes at 0 a ∙ rw (← k, drop-length)) (odd-byte _) a (omega (arith, size-one (getD bytes at 0))))
 
   module _ (u : ℕ) (e : UnitAt bytes at u) where
-    plain : at + 2 ≤ length bytes → isLeading u ≡ false → isTrailing u ≡ false → ScalarAt decodeScalars bytes at u (at + 2)
+    plain : at + 2 ≤ length bytes → isLeading u ≡ false → isTrailing u ≡ false → FirstScalar bytes at u (at + 2)
     plain h l t = here (at + 2) (scalar u) (rw (drop-two bytes at h, e .is) (plain-unit _ _ _ (rw (← e .is) l) (rw (← e .is) t))) (omega arith) h
+        (rw (drop-two bytes at h) (omega (arith, size-two (getD bytes at 0) (getD bytes (at + 1) 0) (drop (at + 2) bytes) (rw (← e .is) l))))
 
-    pub scalar-low : 2 ≤ length bytes - at → u < 0xD800 → ScalarAt decodeScalars bytes at u (at + 2)
+    pub scalar-low : 2 ≤ length bytes - at → u < 0xD800 → FirstScalar bytes at u (at + 2)
     scalar-low h l = plain (omega arith) (leading-below u l) (trailing-below u (omega arith))
 
-    pub scalar-high : 2 ≤ length bytes - at → 0xDFFF < u → ScalarAt decodeScalars bytes at u (at + 2)
+    pub scalar-high : 2 ≤ length bytes - at → 0xDFFF < u → FirstScalar bytes at u (at + 2)
     scalar-high h l = plain (omega arith) (leading-above u (omega arith)) (trailing-above u l)
 
   module _ (u : ℕ) (s : SurrogateAt bytes at u) where
     split : drop at bytes ≡ getD bytes at 0 ∷ getD bytes (at + 1) 0 ∷ drop (at + 2) bytes
     split = drop-two bytes at (s .whole)
 
-    pub scalar-trailing : 0xDBFF < u → ScalarAt decodeScalars bytes at 0xfffd (at + 2)
+    pub scalar-trailing : 0xDBFF < u → FirstScalar bytes at 0xfffd (at + 2)
     scalar-trailing h =
         here (at + 2) error (rw split (trailing-unit _ _ _ (rw (← s .unit .is) (leading-above u h)) (rw (← s .unit .is) (trailing-is u (omega arith) (s .to))))) (omega arith) (s .whole)
+        (rw split (omega (arith, size-two (getD bytes at 0) (getD bytes (at + 1) 0) (drop (at + 2) bytes) (rw (← s .unit .is) (leading-above u h)))))
 
     -- a leading surrogate
     module _ (b : u ≤ 0xDBFF) where
@@ -221,30 +262,33 @@ module _ (bytes : List ℕ) (at : ℕ) where
       leads = rw (← s .unit .is) (leading-is u (s .from) b)
 
       -- one error at the end, also where an odd byte follows
-      pub scalar-cut : length bytes - at < 4 → ScalarAt decodeScalars bytes at 0xfffd (length bytes)
+      pub scalar-cut : length bytes - at < 4 → FirstScalar bytes at 0xfffd (length bytes)
       scalar-cut h = by (drop (at + 2) bytes) refl
         where
-          ends : (xs : List ℕ) → drop (at + 2) bytes ≡ xs → decodeItems (getD bytes at 0 ∷ getD bytes (at + 1) 0 ∷ xs) ≡ error ∷ [] → ScalarAt decodeScalars bytes at 0xfffd (length bytes)
-          ends xs d q = last _ (rw (← d) split) q (omega (arith, s .whole))
+          ends : (xs : List ℕ) → drop (at + 2) bytes ≡ xs → decodeItems (getD bytes at 0 ∷ getD bytes (at + 1) 0 ∷ xs) ≡ error ∷ []
+              → sizeOf (getD bytes at 0 ∷ getD bytes (at + 1) 0 ∷ xs) ≡ 2 + length xs → FirstScalar bytes at 0xfffd (length bytes)
+          ends xs d q z = last _ (rw (← d) split) q (omega (arith, s .whole)) (omega (arith, z, s .whole, simp length-drop at (ap length d)))
 
-          by : (xs : List ℕ) → drop (at + 2) bytes ≡ xs → ScalarAt decodeScalars bytes at 0xfffd (length bytes)
-          by [] d = ends [] d (leading-end _ _ leads)
-          by (z ∷ []) d = ends (z ∷ []) d (leading-odd _ _ leads z)
+          by : (xs : List ℕ) → drop (at + 2) bytes ≡ xs → FirstScalar bytes at 0xfffd (length bytes)
+          by [] d = ends [] d (leading-end _ _ leads) (size-end _ _)
+          by (z ∷ []) d = ends (z ∷ []) d (leading-odd _ _ leads z) (size-odd _ _ leads z)
           by (z ∷ w ∷ xs) d = absurd (omega (arith, simp length-drop at (ap length d)))
 
       module _ (v : ℕ) (f : UnitAt bytes (at + 2) v) (more : 4 ≤ length bytes - at) where
-        pub scalar-pair : 0xDC00 ≤ v → v ≤ 0xDFFF → ScalarAt decodeScalars bytes at (0x10000 + (u - 0xD800) * 0x400 + (v - 0xDC00)) (at + 4)
+        pub scalar-pair : 0xDC00 ≤ v → v ≤ 0xDFFF → FirstScalar bytes at (0x10000 + (u - 0xD800) * 0x400 + (v - 0xDC00)) (at + 4)
         scalar-pair c d =
             let k : at + 2 + 2 ≡ at + 4 = omega arith in
             here (at + 4) (scalar (fromSurrogates u v))
             (rw (split, drop-two bytes (at + 2) (omega arith), k, s .unit .is, f .is) (leading-pair _ _ leads _ _ _ (rw (← f .is) (trailing-is v c d)))) (omega arith) (omega arith)
+            (rw (split, drop-two bytes (at + 2) (omega arith)) (omega (arith, size-pair (getD bytes at 0) (getD bytes (at + 1) 0) leads (getD bytes (at + 2) 0) (getD bytes (at + 2 + 1) 0) (drop (at + 2 + 2) bytes) (rw (← f .is) (trailing-is v c d)))))
 
-        restored : isTrailing v ≡ false → ScalarAt decodeScalars bytes at 0xfffd (at + 2)
+        restored : isTrailing v ≡ false → FirstScalar bytes at 0xfffd (at + 2)
         restored t =
             here (at + 2) error (rw (split, drop-two bytes (at + 2) (omega arith)) (leading-restored _ _ leads _ _ _ (rw (← f .is) t))) (omega arith) (s .whole)
+            (rw (split, drop-two bytes (at + 2) (omega arith)) (omega (arith, size-apart (getD bytes at 0) (getD bytes (at + 1) 0) (getD bytes (at + 2) 0) (getD bytes (at + 2 + 1) 0) (drop (at + 2 + 2) bytes) (rw (← f .is) t))))
 
-        pub scalar-low-after : v < 0xDC00 → ScalarAt decodeScalars bytes at 0xfffd (at + 2)
+        pub scalar-low-after : v < 0xDC00 → FirstScalar bytes at 0xfffd (at + 2)
         scalar-low-after h = restored (trailing-below v h)
 
-        pub scalar-high-after : 0xDFFF < v → ScalarAt decodeScalars bytes at 0xfffd (at + 2)
+        pub scalar-high-after : 0xDFFF < v → FirstScalar bytes at 0xfffd (at + 2)
         scalar-high-after h = restored (trailing-above v h)

@@ -3,9 +3,7 @@
 ghost use mathlib.Core.Path.{_≡_};
 ghost use Prim.Native.Nat.{_+_, _≤_, _<_};
 ghost use lib.ListN.{length};
-ghost use Rattle.utf_16.specs.Decode.{decodeScalars};
-ghost use Rattle.utf_16.specs.Step.{ScalarAt};
-ghost use Rattle.utf_16_scalar.specs.Units.{UnitAt, SurrogateAt};
+ghost use Rattle.utf_16_scalar.specs.Units.{UnitAt, SurrogateAt, FirstScalar};
 
 // What an error is replaced by.
 const REPLACEMENT: u32 = 0xfffd;
@@ -34,7 +32,7 @@ fn unit(bytes: &[u8], at: usize) -> u32
 // The scalar value that a surrogate at a place begins; U+FFFD for an error.
 fn surrogate(bytes: &[u8], at: usize, lead: u32) -> Scalar
     requires { ⌜ SurrogateAt (now bytes) at lead ⌝ }
-    ensures { λ r. ⌜ ScalarAt decodeScalars (now (bytes .entry)) at (r .code) (r .next) ⌝ }
+    ensures { λ r. ⌜ FirstScalar (now (bytes .entry)) at (r .code) (r .next) ⌝ }
 {
     if lead > 0xdbff {
         // A trailing surrogate alone.
@@ -70,7 +68,7 @@ fn surrogate(bytes: &[u8], at: usize, lead: u32) -> Scalar
 // The scalar value at a place of UTF-16LE bytes; U+FFFD for an error. Most units are no surrogates, and are told first.
 pub fn scalar_16(bytes: &[u8], at: usize) -> Scalar
     requires { ⌜ at < length (now bytes) ⌝ }
-    ensures { λ r. ⌜ ScalarAt decodeScalars (now (bytes .entry)) at (r .code) (r .next) ⌝ }
+    ensures { λ r. ⌜ FirstScalar (now (bytes .entry)) at (r .code) (r .next) ⌝ }
 {
     if bytes.len() - at < 2 {
         // An odd byte at the end.

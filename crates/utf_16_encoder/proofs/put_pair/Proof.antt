@@ -1,19 +1,20 @@
 -- `utf_16_encoder::put_pair` meets its contract: the four stores are the bytes of the two surrogates. Assumes nothing.
 use native.Mathlib.Omega.{arith}
 use lib.ListN.{length-set}
-use Rattle.utf_8.proofs.Splices.{wrote-full, stored-4}
+use Rattle.utf_8.proofs.Splices.{wrote-full, wrote-as, stored-4}
+use Rattle.utf_16_encoder.proofs.Encodes.{pair-bytes}
 use borrow.Author.Needs.{needs}
 use Rattle.utf_16_encoder.proofs.put_pair.Statement.{statement}
 use Rattle.utf_16_encoder.proofs.put_pair.Tie as tie
 
 returns : tie.Need-returns
-returns c = wrote-full _ _ _ (omega arith) (omega arith)
+returns c = wrote-as (pair-bytes _ _) (wrote-full _ _ _ (omega arith) (omega arith))
 
 sub-if2 : tie.Need-sub-if2
 sub-if2 c = search needs
 
 returns-2 : tie.Need-returns-2
-returns-2 c = wrote-full _ _ _ (omega arith) (omega arith)
+returns-2 c = wrote-as (pair-bytes _ _) (wrote-full _ _ _ (omega arith) (omega arith))
 
 cast-out : tie.Need-cast-out
 cast-out c = search needs
@@ -55,7 +56,7 @@ same-length : tie.Need-same-length
 same-length c = search needs
 
 returns-3 : tie.Need-returns-3
-returns-3 c = stored-4 _ _ _ _ _ _ (omega arith)
+returns-3 c = wrote-as (pair-bytes _ _) (stored-4 _ _ _ _ _ _ (omega arith))
 
 pub put-pair-spec : {M : Type 1} → statement M
 put-pair-spec =

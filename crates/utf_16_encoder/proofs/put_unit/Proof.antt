@@ -1,19 +1,20 @@
 -- `utf_16_encoder::put_unit` meets its contract: the two stores are the two bytes of the code unit. Assumes nothing.
 use native.Mathlib.Omega.{arith}
 use lib.ListN.{length-set}
-use Rattle.utf_8.proofs.Splices.{wrote-full, stored-2}
+use Rattle.utf_8.proofs.Splices.{wrote-full, wrote-as, stored-2}
+use Rattle.number.proofs.ByteOrder.{leBytes-two}
 use borrow.Author.Needs.{needs}
 use Rattle.utf_16_encoder.proofs.put_unit.Statement.{statement}
 use Rattle.utf_16_encoder.proofs.put_unit.Tie as tie
 
 returns : tie.Need-returns
-returns c = wrote-full _ _ _ (omega arith) (omega arith)
+returns c = wrote-as (leBytes-two _) (wrote-full _ _ _ (omega arith) (omega arith))
 
 sub-if2 : tie.Need-sub-if2
 sub-if2 c = search needs
 
 returns-2 : tie.Need-returns-2
-returns-2 c = wrote-full _ _ _ (omega arith) (omega arith)
+returns-2 c = wrote-as (leBytes-two _) (wrote-full _ _ _ (omega arith) (omega arith))
 
 cast-out : tie.Need-cast-out
 cast-out c = search needs
@@ -37,7 +38,7 @@ same-length : tie.Need-same-length
 same-length c = search needs
 
 returns-3 : tie.Need-returns-3
-returns-3 c = stored-2 _ _ _ _ (omega arith)
+returns-3 c = wrote-as (leBytes-two _) (stored-2 _ _ _ _ (omega arith))
 
 pub put-unit-spec : {M : Type 1} → statement M
 put-unit-spec =
