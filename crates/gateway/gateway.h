@@ -120,6 +120,10 @@ uint8_t gateway_resolve_indirection(const uint8_t *buffer, size_t buffer_len, si
 uint8_t gateway_resolve_fields(const uint8_t *buffer, size_t buffer_len, size_t len, uint8_t width, uint64_t root, uint32_t *records,
                                size_t records_len, uint64_t *values, size_t values_len);
 
+/* gateway_resolve_fields in a checked book: 0, 7, 8 or 15. */
+uint8_t gateway_resolve_fields_in(const uint8_t *book, size_t book_len, const uint32_t *index, size_t index_len, uint8_t width,
+                                  uint32_t root, uint32_t *records, size_t records_len, uint64_t *values, size_t values_len);
+
 /* gateway_resolve_alias in a checked book: 0, 7 or 8. The block of values is a type block. */
 uint8_t gateway_resolve_alias_in(const uint8_t *book, size_t book_len, const uint32_t *index, size_t index_len, uint8_t width,
                                  uint32_t root, uint64_t *values, size_t values_len);

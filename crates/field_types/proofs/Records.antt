@@ -42,24 +42,24 @@ module _ (book : List ℕ) (width t room n : ℕ) (en : n ≡ fieldsOf book t) (
 
     pub answer-short : k ≡ check.Fine → fit < n → fields.Refused 15 ≡ fieldsAnswer book width t room
     unfolding fieldsEnd
-    answer-short h l = let g : room / 4 < n = omega arith in rw (h, lt-leb n (room / 4) g) at answer-is
+    answer-short h l = let g : room < n = omega arith in rw (h, lt-leb n room g) at answer-is
 
     pub answer-done : k ≡ check.Fine → n ≤ fit → fields.Done n ≡ fieldsAnswer book width t room
     unfolding fieldsEnd
-    answer-done h l = let g : n ≤ room / 4 = omega arith in rw (h, le-leb n (room / 4) g) at answer-is
+    answer-done h l = let g : n ≤ room = omega arith in rw (h, le-leb n room g) at answer-is
 
 -- what a success says: the records fit, and no field is refused
 pub record Fit (book : List ℕ) (width t room m : ℕ) : Type 0 where
-  pub room-is : fieldsOf book t * 4 ≤ room
+  pub room-is : fieldsOf book t ≤ room
   pub fine : fieldsCheck book width t ≡ check.Fine
   pub count : m ≡ fieldsOf book t
 
 module _ (book : List ℕ) (width t room m : ℕ) where
-  done-by : (b : Bool) → leb (fieldsOf book t) (room / 4) ≡ b → fieldsFrom book width (t + 1) (fits (fieldsOf book t) room) ≡ check.Fine
+  done-by : (b : Bool) → leb (fieldsOf book t) room ≡ b → fieldsFrom book width (t + 1) (fits (fieldsOf book t) room) ≡ check.Fine
       → cond b (fields.Done (fieldsOf book t)) (fields.Refused 15) ≡ fields.Done m → Fit book width t room m
   unfolding fieldsCheck
   done-by true q h e =
-      let l : fieldsOf book t ≤ room / 4 = leb-true _ _ q in
+      let l : fieldsOf book t ≤ room = leb-true _ _ q in
       let o : fits (fieldsOf book t) room ≡ fieldsOf book t = omega arith in
       record { room-is = omega arith; fine = rw o at h; count = cc }
   done-by false q h e = absurd (let z : _≡_ {A = ℕ} 0 1 = cc in omega arith)
@@ -67,7 +67,7 @@ module _ (book : List ℕ) (width t room m : ℕ) where
   done-of : (k : FieldsCheck) → fieldsFrom book width (t + 1) (fits (fieldsOf book t) room) ≡ k
       → fieldsEnd (fieldsOf book t) room k ≡ fields.Done m → Fit book width t room m
   unfolding fieldsEnd
-  done-of check.Fine h e = done-by (leb (fieldsOf book t) (room / 4)) refl h e
+  done-of check.Fine h e = done-by (leb (fieldsOf book t) room) refl h e
   done-of (check.Lacks c) h e = absurd (let z : _≡_ {A = ℕ} 0 1 = cc in omega arith)
   done-of check.Endless h e = absurd (let z : _≡_ {A = ℕ} 0 1 = cc in omega arith)
 
@@ -164,24 +164,24 @@ records-length book width f (suc k) = by (resolveField book width f) (records-le
     by (answer.Lacks c) h = omega arith
     by answer.Endless h = omega arith
 
-module _ (book : List ℕ) (width t : ℕ) (before : List ℕ) (r : FieldsAnswer) (e : r ≡ fieldsAnswer book width t (length before)) where
-  pub filled-lacks : (c : ℕ) → r ≡ fields.NotFound c → Filled (fieldsAnswer book width t (length before)) (fieldRecords book width t) before (fields.NotFound c) before
+module _ (book : List ℕ) (width t : ℕ) (before : List ℕ) (r : FieldsAnswer) (e : r ≡ fieldsAnswer book width t (length before / 4)) where
+  pub filled-lacks : (c : ℕ) → r ≡ fields.NotFound c → Filled (fieldsAnswer book width t (length before / 4)) (fieldRecords book width t) before (fields.NotFound c) before
   unfolding storedIn
   filled-lacks c h = record { is = sym h ∙ e; records = rw (← e, h) }
 
-  pub filled-refused : (n : ℕ) → r ≡ fields.Refused n → Filled (fieldsAnswer book width t (length before)) (fieldRecords book width t) before (fields.Refused n) before
+  pub filled-refused : (n : ℕ) → r ≡ fields.Refused n → Filled (fieldsAnswer book width t (length before / 4)) (fieldRecords book width t) before (fields.Refused n) before
   unfolding storedIn
   filled-refused n h = record { is = sym h ∙ e; records = rw (← e, h) }
 
   module _ (m : ℕ) (h : r ≡ fields.Done m) where
     pub filled-fine : fieldsCheck book width t ≡ check.Fine
-    filled-fine = done-fit book width t (length before) m (sym e ∙ h) .fine
+    filled-fine = done-fit book width t (length before / 4) m (sym e ∙ h) .fine
 
     pub filled-room : fieldsOf book t * 4 ≤ length before
-    filled-room = done-fit book width t (length before) m (sym e ∙ h) .room-is
+    filled-room = let q : fieldsOf book t ≤ length before / 4 = done-fit book width t (length before / 4) m (sym e ∙ h) .room-is in omega arith
 
     pub filled-done : (after : List ℕ) → after ≡ sets before 0 (fieldRecords book width t)
-        → Filled (fieldsAnswer book width t (length before)) (fieldRecords book width t) before (fields.Done m) after
+        → Filled (fieldsAnswer book width t (length before / 4)) (fieldRecords book width t) before (fields.Done m) after
     unfolding storedIn fieldRecords
     filled-done after q =
         let a : length (recordsFrom book width (t + 1) (fieldsOf book t)) ≤ fieldsOf book t * 4 = records-length book width (t + 1) (fieldsOf book t) in
@@ -194,12 +194,21 @@ module _ (book : List ℕ) (width t : ℕ) (before : List ℕ) (r : FieldsAnswer
 
 module _ (buffer : List ℕ) (len root : ℕ) (k : RootCheck) (e : k ≡ checkRoot buffer len root) (width : ℕ) (before : List ℕ) where
   pub fields-refused : (n : ℕ) → k ≡ checked.Refused n
-      → Filled (rootFields buffer len width root (length before)) (rootRecords buffer len width root) before (fields.Refused n) before
+      → Filled (rootFields buffer len width root (length before / 4)) (rootRecords buffer len width root) before (fields.Refused n) before
   unfolding rootFields atRoot storedIn
   fields-refused n h = record { is = rw (← e, h); records = rw (← e, h) }
 
   pub fields-root : (t : ℕ) → k ≡ checked.Root t → (r : FieldsAnswer) (after : List ℕ)
-      → Filled (fieldsAnswer (take len buffer) width t (length before)) (fieldRecords (take len buffer) width t) before r after
-      → Filled (rootFields buffer len width root (length before)) (rootRecords buffer len width root) before r after
+      → Filled (fieldsAnswer (take len buffer) width t (length before / 4)) (fieldRecords (take len buffer) width t) before r after
+      → Filled (rootFields buffer len width root (length before / 4)) (rootRecords buffer len width root) before r after
   unfolding rootFields rootRecords atRoot
   fields-root t h r after q = record { is = rw (← e, h) (q .is); records = rw (← e, h) (q .records) }
+
+module _ (buffer : List ℕ) (len root : ℕ) (k : RootCheck) (e : k ≡ checkRoot buffer len root) (width room : ℕ) where
+  pub check-refused : (n : ℕ) → k ≡ checked.Refused n → fields.Refused n ≡ rootFields buffer len width root room
+  unfolding rootFields atRoot
+  check-refused n h = rw (← e, h)
+
+  pub check-at : (t : ℕ) → k ≡ checked.Root t → (r : FieldsAnswer) → r ≡ fieldsAnswer (take len buffer) width t room → r ≡ rootFields buffer len width root room
+  unfolding rootFields atRoot
+  check-at t h r q = rw (← e, h) q

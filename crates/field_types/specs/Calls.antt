@@ -22,21 +22,25 @@ fieldsRefusal (fields.Done n) = 0
 fieldsRefusal (fields.NotFound b) = 7
 fieldsRefusal (fields.Refused n) = n
 
--- how many of n records of four numbers fit into the room
+-- how many of n records fit, where there is room for that many
 abbrev pub fits : ℕ → ℕ → ℕ
-fits n room = min n (room / 4)
+fits n room = min n room
 
 -- after the fields whose records fit: 15 if another record is due
 unfoldable pub fieldsEnd : ℕ → ℕ → FieldsCheck → FieldsAnswer
-fieldsEnd n room check.Fine = cond (leb n (room / 4)) (fields.Done n) (fields.Refused 15)
+fieldsEnd n room check.Fine = cond (leb n room) (fields.Done n) (fields.Refused 15)
 fieldsEnd n room (check.Lacks c) = fields.NotFound c
 fieldsEnd n room check.Endless = fields.Refused 8
 
--- the fields of type block t in order, each record's 15 before its field's 7 or 8: the fields whose records fit are resolved, and at the
+-- the fields of type block t in order, with room for that many records, each record's 15 before its field's 7 or 8: the fields whose records fit are resolved, and at the
 -- first whose record does not fit it is 15
 unfoldable pub fieldsAnswer : List ℕ → ℕ → ℕ → ℕ → FieldsAnswer
 fieldsAnswer book width t room =
     fieldsEnd (fieldsOf book t) room (fieldsFrom book width (t + 1) (fits (fieldsOf book t) room))
+
+-- a record is four numbers: how many records have room in that many numbers
+abbrev pub recordRoom : ℕ → ℕ
+recordRoom numbers = numbers / 4
 
 -- a field's record: offset, size, resolved type's block, field's block
 abbrev pub recordOf : FieldAnswer → List ℕ

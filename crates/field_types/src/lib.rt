@@ -8,7 +8,7 @@ ghost use lib.Seq.{sets};
 ghost use Rattle.typebook.specs.Book.{isType, fieldsOf};
 ghost use Rattle.book_check.specs.Check.{ValidBook};
 ghost use Rattle.field_types.specs.Fields.{fieldsFrom, fieldsCheck, FieldResolved};
-ghost use Rattle.field_types.specs.Calls.{fits, recordOf, fieldRecords, fieldsAnswer, Filled, rootFields, rootRecords};
+ghost use Rattle.field_types.specs.Calls.{fits, recordRoom, recordOf, fieldRecords, fieldsAnswer, Filled, rootFields, rootRecords};
 use book_check::RootCheck;
 use resolvers::Resolved;
 use type_provider::Found;
@@ -104,13 +104,13 @@ pub fn check_fields_in(book: &[u8], index: &[u32], width: u8, t: u32) -> FieldsC
 fn fitting(n: u32, room: usize) -> u32
     ensures { λ r. ⌜ r ≡ fits n room ⌝ }
 {
-    if n as usize <= room / RECORD {
+    if n as usize <= room {
         return n;
     }
-    (room / RECORD) as u32
+    room as u32
 }
 
-// What resolving the fields of type block t answers, with room for that many numbers. A record that does not fit is refused
+// What resolving the fields of type block t answers, with room for that many records. A record that does not fit is refused
 // before its field is looked up.
 fn fields_answer(book: &[u8], index: &[u32], width: u8, t: u32, room: usize) -> FieldsAnswer
     requires { ⌜ ValidBook (now book) × (isType (now book) t ≡ true) ⌝ }
@@ -158,22 +158,57 @@ fn store_fields(book: &[u8], index: &[u32], width: u8, t: u32, records: &mut [u3
     }
 }
 
-// The first pass answers every refusal, the second stores.
-fn fill_fields(book: &[u8], width: u8, t: u32, records: &mut [u32]) -> FieldsAnswer
+// Stores a record of four numbers for each field of type block t. The first pass answers every refusal, the second stores.
+pub fn resolve_fields_in(
+    book: &[u8],
+    index: &[u32],
+    width: u8,
+    t: u32,
+    records: &mut [u32],
+) -> FieldsAnswer
     requires { ⌜ ValidBook (now book) × (isType (now book) t ≡ true) ⌝ }
-    ensures { λ r. ⌜ Filled (fieldsAnswer (now (book .entry)) width t (length (now (records .entry)))) (fieldRecords (now (book .entry)) width t) (now (records .entry)) r (now (records .exit)) ⌝ }
+    ensures { λ r. ⌜ Filled (fieldsAnswer (now (book .entry)) width t (recordRoom (length (now (records .entry))))) (fieldRecords (now (book .entry)) width t) (now (records .entry)) r (now (records .exit)) ⌝ }
 {
-    let mut index = [0u32; 16384];
-    type_index::fill_names(book, &mut index);
-    let answer = fields_answer(book, &index, width, t, records.len());
+    let answer = fields_answer(book, index, width, t, records.len() / RECORD);
     match answer {
         FieldsAnswer::Done(n) => {
-            store_fields(book, &index, width, t, records);
+            store_fields(book, index, width, t, records);
             FieldsAnswer::Done(n)
         }
         FieldsAnswer::NotFound(c) => FieldsAnswer::NotFound(c),
         FieldsAnswer::Refused(n) => FieldsAnswer::Refused(n),
     }
+}
+
+// `resolve_fields_in` with an index on the stack.
+fn fill_fields(book: &[u8], width: u8, t: u32, records: &mut [u32]) -> FieldsAnswer
+    requires { ⌜ ValidBook (now book) × (isType (now book) t ≡ true) ⌝ }
+    ensures { λ r. ⌜ Filled (fieldsAnswer (now (book .entry)) width t (recordRoom (length (now (records .entry))))) (fieldRecords (now (book .entry)) width t) (now (records .entry)) r (now (records .exit)) ⌝ }
+{
+    let mut index = [0u32; 16384];
+    type_index::fill_names(book, &mut index);
+    resolve_fields_in(book, &index, width, t, records)
+}
+
+// Every refusal of `resolve_fields`, with room for that many records and nothing written.
+pub fn check_fields(buffer: &[u8], len: usize, width: u8, root: u64, room: usize) -> FieldsAnswer
+    ensures { λ r. ⌜ r ≡ rootFields (now (buffer .entry)) len width root room ⌝ }
+{
+    let check = book_check::check_root(buffer, len, root);
+    match check {
+        RootCheck::Root(t) => check_root_fields(&buffer[..len], width, t, room),
+        RootCheck::Refused(n) => FieldsAnswer::Refused(n),
+    }
+}
+
+// The same of a root that passed, with an index on the stack.
+fn check_root_fields(book: &[u8], width: u8, t: u32, room: usize) -> FieldsAnswer
+    requires { ⌜ ValidBook (now book) × (isType (now book) t ≡ true) ⌝ }
+    ensures { λ r. ⌜ r ≡ fieldsAnswer (now (book .entry)) width t room ⌝ }
+{
+    let mut index = [0u32; 16384];
+    type_index::fill_names(book, &mut index);
+    fields_answer(book, &index, width, t, room)
 }
 
 // Stores a record of four numbers for each field of the root block, in order: its offset, its size, the block of its resolved type,
@@ -185,7 +220,7 @@ pub fn resolve_fields(
     root: u64,
     records: &mut [u32],
 ) -> FieldsAnswer
-    ensures { λ r. ⌜ Filled (rootFields (now (buffer .entry)) len width root (length (now (records .entry)))) (rootRecords (now (buffer .entry)) len width root) (now (records .entry)) r (now (records .exit)) ⌝ }
+    ensures { λ r. ⌜ Filled (rootFields (now (buffer .entry)) len width root (recordRoom (length (now (records .entry))))) (rootRecords (now (buffer .entry)) len width root) (now (records .entry)) r (now (records .exit)) ⌝ }
 {
     let check = book_check::check_root(buffer, len, root);
     match check {

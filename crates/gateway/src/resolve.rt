@@ -6,7 +6,7 @@ ghost use Rattle.typebook.specs.Book.{isType};
 ghost use Rattle.book_check.specs.Check.{ValidBook};
 ghost use Rattle.resolvers.specs.Resolve.{resolveAlias, resolveIndirection};
 ghost use Rattle.resolvers.specs.Calls.{rootAlias, rootIndirection};
-ghost use Rattle.field_types.specs.Calls.{rootFields, rootRecords};
+ghost use Rattle.field_types.specs.Calls.{rootFields, rootRecords, fieldsAnswer, fieldRecords, recordRoom};
 ghost use Rattle.resolver_answers.specs.Answers.{ResolutionAs};
 ghost use Rattle.gateway.specs.Calls.{ChainGiven, FieldsGiven};
 use resolver_answers::give_fields;
@@ -88,10 +88,28 @@ pub extern "C" fn gateway_resolve_fields(
     records: &mut [u32],
     values: &mut [u64],
 ) -> u8
-    ensures { λ r. ⌜ FieldsGiven (rootFields (now (buffer .entry)) len width root (length (now (records .entry)))) (rootRecords (now (buffer .entry)) len width root) (now (records .entry)) (now (values .entry)) r (now (records .exit)) (now (values .exit)) ⌝ }
+    ensures { λ r. ⌜ FieldsGiven (rootFields (now (buffer .entry)) len width root (recordRoom (length (now (records .entry))))) (rootRecords (now (buffer .entry)) len width root) (now (records .entry)) (now (values .entry)) r (now (records .exit)) (now (values .exit)) ⌝ }
 {
     give_fields(
         field_types::resolve_fields(buffer, len, width, root, records),
+        values,
+    )
+}
+
+#[no_mangle]
+pub extern "C" fn gateway_resolve_fields_in(
+    book: &[u8],
+    index: &[u32],
+    width: u8,
+    root: u32,
+    records: &mut [u32],
+    values: &mut [u64],
+) -> u8
+    requires { ⌜ ValidBook (now book) × (isType (now book) root ≡ true) ⌝ }
+    ensures { λ r. ⌜ FieldsGiven (fieldsAnswer (now (book .entry)) width root (recordRoom (length (now (records .entry))))) (fieldRecords (now (book .entry)) width root) (now (records .entry)) (now (values .entry)) r (now (records .exit)) (now (values .exit)) ⌝ }
+{
+    give_fields(
+        field_types::resolve_fields_in(book, index, width, root, records),
         values,
     )
 }

@@ -290,15 +290,13 @@ impl<'b> TypeRef<'b> {
     /// # Ok::<(), Refusal>(())
     /// ```
     pub fn fields(self, width: u8) -> Result<Vec<ResolvedField<'b>>, Refusal> {
-        let bytes = self.block.book().bytes();
-        // No type has more fields than the book has blocks.
-        let mut records = vec![0; 4 * (bytes.len() / BLOCK)];
+        // Bytes 12 to 15 of a type block hold the number of its fields.
+        let at = self.block() as usize * BLOCK + 12;
+        let bytes = &self.block.book().bytes()[at..at + 4];
+        let count = u32::from_le_bytes([bytes[0], bytes[1], bytes[2], bytes[3]]);
+        let mut records = vec![0; 4 * count as usize];
         let mut values = [0; 1];
-        let root = u64::from(self.block());
-        done(
-            total::resolve_fields(bytes, bytes.len(), width, root, &mut records, &mut values),
-            &values,
-        )?;
+        done(self.block.resolve_fields(width, &mut records, &mut values), &values)?;
         let filled = records.chunks_exact(4).take(values[0] as usize);
         Ok(filled.map(|r| self.resolved_field([r[0], r[1], r[2], r[3]])).collect())
     }

@@ -152,6 +152,18 @@ mod raw {
             values: *mut u64,
             values_len: usize,
         ) -> u8;
+        pub fn gateway_resolve_fields_in(
+            book: *const u8,
+            book_len: usize,
+            index: *const u32,
+            index_len: usize,
+            width: u8,
+            root: u32,
+            records: *mut u32,
+            records_len: usize,
+            values: *mut u64,
+            values_len: usize,
+        ) -> u8;
         pub fn gateway_requires_read_modify_write_in(
             book: *const u8,
             book_len: usize,
@@ -595,6 +607,24 @@ impl<'b> TypeBlock<'b> {
                 i.len(),
                 width,
                 self.block,
+                v.as_mut_ptr(),
+                v.len(),
+            )
+        }
+    }
+
+    pub(crate) fn resolve_fields(self, width: u8, records: &mut [u32], values: &mut [u64]) -> u8 {
+        let (b, i, v) = (self.book.bytes(), self.book.index(), values);
+        unsafe {
+            raw::gateway_resolve_fields_in(
+                b.as_ptr(),
+                b.len(),
+                i.as_ptr(),
+                i.len(),
+                width,
+                self.block,
+                records.as_mut_ptr(),
+                records.len(),
                 v.as_mut_ptr(),
                 v.len(),
             )

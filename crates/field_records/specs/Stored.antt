@@ -1,0 +1,62 @@
+-- What `resolve_fields` stores in a lent slice of records, for a book that fills the first `len` bytes of a buffer. Assumes nothing.
+use mathlib.Core.Path.{_≡_}
+use mathlib.Core.List.{List, [], _∷_, _++_}
+use Prim.Native.Nat.{ℕ, zero, suc, _+_, _≤_, _<_, _^_}
+use lib.ListN.{length, take, drop}
+use Rattle.book_check.specs.Check.{ValidBook}
+use Rattle.field_records.specs.declared.ResolvedField.{ResolvedField}
+use Rattle.field_types.specs.declared.FieldAnswer.{FieldAnswer}
+use Rattle.field_types.specs.declared.FieldAnswer.the-variants as answer
+use Rattle.field_types.specs.declared.FieldsAnswer.{FieldsAnswer}
+use Rattle.field_types.specs.declared.FieldsAnswer.the-variants as fields
+use Rattle.field_types.specs.Fields.{resolveField}
+use Rattle.field_types.specs.Calls.{rootFields}
+
+-- what `getD` gives past the end, and the record of a field that is refused, which is never stored
+abbrev pub none : ResolvedField
+none = record { offset = 0; size = 0; «type_block» = 0; «field_block» = 0 }
+
+-- a field's record: offset, size, resolved type's block, field's block
+abbrev pub recordOf : FieldAnswer → ResolvedField
+recordOf (answer.Field x) = record { offset = x .offset; size = x .size; «type_block» = x .resolved; «field_block» = x .field }
+recordOf (answer.Lacks c) = none
+recordOf answer.Endless = none
+
+-- the record of field i of the root
+abbrev pub recordAt : List ℕ → ℕ → ℕ → ℕ → ℕ → ResolvedField
+recordAt buffer len width root i = recordOf (resolveField (take len buffer) width (root + 1 + i))
+
+-- the k records from field i on
+unfoldable pub recordsAt : List ℕ → ℕ → ℕ → ℕ → ℕ → ℕ → List ResolvedField
+recordsAt buffer len width root i zero = []
+recordsAt buffer len width root i (suc k) = recordAt buffer len width root i ∷ recordsAt buffer len width root (suc i) k
+
+-- field i of the root can be looked up
+pub record Taken (buffer : List ℕ) (len width root i : ℕ) : Type 0 where
+  pub inside : len ≤ length buffer
+  pub valid : ValidBook (take len buffer)
+  pub number : root + 1 + i < 2 ^ 32
+
+-- each of the first n can be. Of none nothing is asked, so a refusal, which counts none, needs no case of its own
+abbrev pub Ready : List ℕ → ℕ → ℕ → ℕ → ℕ → Type 0
+Ready buffer len width root n = (i : ℕ) → i < n → Taken buffer len width root i
+
+abbrev pub countOf : FieldsAnswer → ℕ
+countOf (fields.Done n) = n
+countOf (fields.NotFound b) = 0
+countOf (fields.Refused n) = 0
+
+-- the first n records are those of the root's fields, the rest as before
+unfoldable pub filledAt : List ℕ → ℕ → ℕ → ℕ → ℕ → List ResolvedField → List ResolvedField
+filledAt buffer len width root n before = recordsAt buffer len width root 0 n ++ drop n before
+
+-- a success stores the records of the root's fields and leaves the rest; a refusal leaves all
+unfoldable pub storedAt : List ℕ → ℕ → ℕ → ℕ → FieldsAnswer → List ResolvedField → List ResolvedField
+storedAt buffer len width root (fields.Done n) before = recordsAt buffer len width root 0 n ++ drop n before
+storedAt buffer len width root (fields.NotFound b) before = before
+storedAt buffer len width root (fields.Refused n) before = before
+
+-- what is answered, and what the lent slice of records holds then
+pub record Filled (buffer : List ℕ) (len width root : ℕ) (before : List ResolvedField) (r : FieldsAnswer) (after : List ResolvedField) : Type 0 where
+  pub is : r ≡ rootFields buffer len width root (length before)
+  pub records : after ≡ storedAt buffer len width root (rootFields buffer len width root (length before)) before
