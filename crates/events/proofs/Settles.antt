@@ -13,7 +13,7 @@ use Rattle.resolvers.specs.declared.Resolved.the-variants.{Base, Lacks, Endless
 use Rattle.resolvers.specs.Resolve.{goesOn, isFollowed, resolveAlias, ResolvedIs}
 use Rattle.resolvers.proofs.Chains.{follow-base, alias-breaks, follow-breaks}
 use Rattle.visits.specs.Parts.{partsOf}
-use Rattle.visits.specs.Scratch.{isPart, Marked, Grown}
+use Rattle.visits.specs.Scratch.{isPart, BlockMarked, MarkedAndPushed}
 use Rattle.visits.proofs.Places.{part-dimensions}
 use Rattle.events.specs.declared.Event.the-variants.{New, Lacking, Long}
 use Rattle.events.specs.Events.{settledEvent, settledOn, Dead, Settles}
@@ -27,7 +27,7 @@ alias-not-part book width t c y e =
 
 -- what a type of category c comes to, and its parts
 expanded : (book : List ℕ) (width : ℕ) (sc : List ℕ) (depth t u : ℕ) (c : AdsTypeCategory) → c ≡ categoryOf book width u → resolveAlias book width t ≡ Base u
-    → isType book u ≡ true → {r : ℕ} {sc₂ : List ℕ} → Grown book c sc depth t u r sc₂ → Settles book width sc depth t (New u r c) sc₂
+    → isType book u ≡ true → {r : ℕ} {sc₂ : List ℕ} → MarkedAndPushed book c sc depth t u r sc₂ → Settles book width sc depth t (New u r c) sc₂
 unfolding partsOf settledEvent settledOn
 expanded book width sc depth t u c ec to y g =
     record {
@@ -45,18 +45,18 @@ expanded book width sc depth t u c ec to y g =
     }
 
 pub settle-own : (book : List ℕ) (width : ℕ) (sc : List ℕ) (depth t : ℕ) (c : AdsTypeCategory) → c ≡ categoryOf book width t → (g : Bool) → g ≡ goesOn false c → g ≡ false
-    → isType book t ≡ true → {r : ℕ} {sc₂ : List ℕ} → Grown book c sc depth t t r sc₂ → Settles book width sc depth t (New t r c) sc₂
+    → isType book t ≡ true → {r : ℕ} {sc₂ : List ℕ} → MarkedAndPushed book c sc depth t t r sc₂ → Settles book width sc depth t (New t r c) sc₂
 unfolding isFollowed
 settle-own book width sc depth t c ec g eg h y =
     expanded book width sc depth t t c ec (follow-base (isFollowed false book width) book 31 t (rw (← ec) (sym eg ∙ h))) y
 
 module _ (book : List ℕ) (width : ℕ) (sc : List ℕ) (depth t : ℕ) (y : isType book t ≡ true) (l : depth < 4096) {a : Resolved}
     (ra : ResolvedIs book (resolveAlias book width t) a) where
-  pub settle-base : (u : ℕ) → a ≡ Base u → (c : AdsTypeCategory) → c ≡ categoryOf book width u → {r : ℕ} {sc₂ : List ℕ} → Grown book c sc depth t u r sc₂
+  pub settle-base : (u : ℕ) → a ≡ Base u → (c : AdsTypeCategory) → c ≡ categoryOf book width u → {r : ℕ} {sc₂ : List ℕ} → MarkedAndPushed book c sc depth t u r sc₂
       → Settles book width sc depth t (New u r c) sc₂
   settle-base u e c ec = expanded book width sc depth t u c ec (sym (ra .is) ∙ e) (ra .typed u e)
 
-  module _ {sc₁ : List ℕ} (m : Marked sc t sc₁) where
+  module _ {sc₁ : List ℕ} (m : BlockMarked sc t sc₁) where
     dead : Dead sc depth t depth sc₁
     dead = record { top = m .stack depth (omega arith); marks = m .marks; more = omega arith }
 

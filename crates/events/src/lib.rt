@@ -35,7 +35,7 @@ fn settle_alias(
     depth: usize,
     t: u32,
 ) -> Event
-    requires { ⌜ ValidBook (now book) × (isType (now book) t ≡ true) × (depth < 4096) × (16384 ≤ length (now scratch)) ⌝ }
+    requires { ⌜ ValidBook (now book) × (isType (now book) t ≡ true) × (depth < 4096) × (6144 ≤ length (now scratch)) ⌝ }
     ensures { λ r. ⌜ Settles (now (book .entry)) width (now (scratch .entry)) depth t r (now (scratch .exit)) ⌝ }
 {
     let resolved = resolvers::resolve_alias_in(book, index, width, t);
@@ -64,7 +64,7 @@ pub fn settle(
     depth: usize,
     t: u32,
 ) -> Event
-    requires { ⌜ ValidBook (now book) × (isType (now book) t ≡ true) × (depth < 4096) × (16384 ≤ length (now scratch)) ⌝ }
+    requires { ⌜ ValidBook (now book) × (isType (now book) t ≡ true) × (depth < 4096) × (6144 ≤ length (now scratch)) ⌝ }
     ensures { λ r. ⌜ Settles (now (book .entry)) width (now (scratch .entry)) depth t r (now (scratch .exit)) ⌝ }
 {
     let category = AdsTypeCategory::determine(book, width, t);

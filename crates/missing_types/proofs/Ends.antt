@@ -1,19 +1,18 @@
 -- `missing_types`: what its functions owe at each exit. Assumes nothing.
-use mathlib.Core.Path.{_≡_}
-use mathlib.Core.Bool.{true, false, _&&_}
+use mathlib.Core.Path.{_≡_, sym, _∙_}
+use mathlib.Core.Bool.{Bool, true, false, not, _&&_}
 use mathlib.Core.List.{List}
-use Prim.Native.Nat.{ℕ, _≤_, _<_}
+use Prim.Native.Nat.{ℕ}
 use lib.ListN.{length, take, replicate}
-use borrow.Author.Tests.{le-leb, lt-leb}
 use Rattle.book_check.specs.declared.RootCheck.{RootCheck}
 use Rattle.book_check.specs.declared.RootCheck.the-variants as checked
 use Rattle.book_check.specs.Check.{checkRoot}
 use Rattle.resolvers.specs.Calls.{atRoot}
-use Rattle.walks.specs.Scratch.{scratchFits}
-use Rattle.walks.proofs.Zeros.{zeros-again}
+use Rattle.walks.specs.Scratch.{scratchFits, listFits}
+use Rattle.walks.proofs.Zeros.{passed, failed, zeros-again}
 use Rattle.missing_types.specs.declared.Missing.{Missing}
 use Rattle.missing_types.specs.declared.Missing.the-variants as missing
-use Rattle.missing_types.specs.Calls.{listFits, missingAnswer, missingList, Walked, MissingIn, MissingIs}
+use Rattle.missing_types.specs.Calls.{missingAnswer, missingList, Walked, MissingIn, MissingIs}
 
 -- ---- a book that was checked: the scratch is cleared before the walk and after it
 
@@ -28,16 +27,17 @@ module _ (book : List ℕ) (width t : ℕ) (sc list : List ℕ) where
   unfolding missingAnswer missingList
   short h = record { answer = rw h; scratch = rw h; blocks = rw h }
 
-  pub missing-scratch : length sc < 16384 → MissingIn (scratchFits sc && listFits list) book width t sc list (missing.Refused 6) sc list
-  missing-scratch h = short (rw (lt-leb 16384 (length sc) h))
+  module _ (g : Bool) (e : g ≡ scratchFits sc) where
+    pub missing-scratch : not g ≡ true → MissingIn (scratchFits sc && listFits list) book width t sc list (missing.Refused 6) sc list
+    missing-scratch h = short (rw (sym e ∙ failed g h))
 
-  module _ (s : 16384 ≤ length sc) where
-    pub missing-list : length list < 4096 → MissingIn (scratchFits sc && listFits list) book width t sc list (missing.Refused 6) sc list
-    missing-list h = short (rw (le-leb 16384 (length sc) s, lt-leb 4096 (length list) h))
+    module _ (s : not g ≡ false) (k : Bool) (q : k ≡ listFits list) where
+      pub missing-list : not k ≡ true → MissingIn (scratchFits sc && listFits list) book width t sc list (missing.Refused 6) sc list
+      missing-list h = short (rw (sym e ∙ passed g s, sym q ∙ failed k h))
 
-    pub missing-fits : 4096 ≤ length list → {sc′ list′ : List ℕ} {r : Missing} → MissingIn true book width t sc list r sc′ list′
-        → MissingIn (scratchFits sc && listFits list) book width t sc list r sc′ list′
-    missing-fits h q = rw (le-leb 16384 (length sc) s, le-leb 4096 (length list) h) q
+      pub missing-fits : not k ≡ false → {sc′ list′ : List ℕ} {r : Missing} → MissingIn true book width t sc list r sc′ list′
+          → MissingIn (scratchFits sc && listFits list) book width t sc list r sc′ list′
+      missing-fits h m = rw (sym e ∙ passed g s, sym q ∙ passed k h) m
 
 -- ---- 1 to 5
 

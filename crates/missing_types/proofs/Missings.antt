@@ -22,7 +22,7 @@ use Rattle.walks.specs.Reached.{Reached, Needed, reached, chain}
 use Rattle.walks.proofs.Goes.{Goes, none, old, fresh, stop, goes}
 use Rattle.walks.proofs.Reach.{whole-rest, met-is-reached, reached-met, reached-found}
 use Rattle.missing_types.specs.Calls.{missingRefusal, missingAnswer}
-use Rattle.missing_types.specs.Needs.{Lacking, Listing, Defined}
+use Rattle.missing_types.specs.Needs.{Lacking, Unresolved, Listing, Defined}
 
 different : {X : Type 0} → _≡_ {A = ℕ} 0 1 → X
 different z = absurd (omega arith)
@@ -91,19 +91,19 @@ listed-here c b x f w e = rw e (List·Memᴰ·head refl)
 
 module _ (book : List ℕ) (width : ℕ) (root : List ℕ) where
   -- a reached name of block b that comes to nothing at block c
-  comes-lacking : (b c : ℕ) → Reached book width root (typeNameOf book b) → (f : Found) → find book (typeNameOf book b) ≡ f → comesTo book width b f ≡ Lacks c → Lacking book width root c
+  comes-lacking : (b c : ℕ) → Reached book width root (typeNameOf book b) → (f : Found) → find book (typeNameOf book b) ≡ f → comesTo book width b f ≡ Lacks c → Unresolved book book width root c
   unfolding onward
   comes-lacking b c r (At t) q e =
       record {
-        nothing = follow-breaks (isFollowed false book width) book 32 t c e .nothing;
+        lacking = follow-breaks (isFollowed false book width) book 32 t c e .nothing;
         needed = break-needed book width root 32 (typeNameOf book b) t c (reached r) q e;
       }
   comes-lacking b c r Nothing q e =
       let o : b ≡ c = cc in
-      rw (← o) (record { nothing = q; needed = reached r })
+      rw (← o) (record { lacking = q; needed = reached r })
 
   list-lacking : {left : ℕ} {v : List (List ℕ)} {s : List ℕ} {w : Walk} → Goes book width left v s w → ((x : List ℕ) → List·Memᴰ x (names w) → Reached book width root x)
-      → (c : ℕ) → List·Memᴰ c (listed w) → Lacking book width root c
+      → (c : ℕ) → List·Memᴰ c (listed w) → Unresolved book book width root c
   unfolding names
   list-lacking none h c m = absurd (over-none c m)
   list-lacking (old e g) h c m = list-lacking g h c m
@@ -115,7 +115,7 @@ module _ (book : List ℕ) (width : ℕ) (root : List ℕ) where
 
 -- a listed block is one of a reached name that the book lacks: by its own name, or by the last alias of its chain
 module _ (book : List ℕ) (width root : ℕ) (v : ValidBook book) (y : isType book root ≡ true) where
-  pub listed-lacking : (c : ℕ) → List·Memᴰ c (listed (walkOf book width root)) → Lacking book width (nameOf book root) c
+  pub listed-lacking : (c : ℕ) → List·Memᴰ c (listed (walkOf book width root)) → Unresolved book book width (nameOf book root) c
   unfolding walkOf meet names onward
   listed-lacking c m =
       let own : find book (nameOf book root) ≡ At root = valid-own book v root y in
@@ -124,7 +124,7 @@ module _ (book : List ℕ) (width root : ℕ) (v : ValidBook book) (y : isType b
       (λ q.
       let e : resolveAlias book width root ≡ Lacks c = ap (comesTo book width root) (sym own) ∙ q in
       record {
-        nothing = follow-breaks (isFollowed false book width) book 32 root c e .nothing;
+        lacking = follow-breaks (isFollowed false book width) book 32 root c e .nothing;
         needed = break-needed book width name 32 name root c (reached (met-is-reached book width root name (List·Memᴰ·head refl))) own e;
       })
       (λ n. list-lacking book width name (goes book width 4095 (name ∷ []) _) (λ x k. met-is-reached book width root x (List·Memᴰ·tail k)) c n)
@@ -191,7 +191,7 @@ module _ (book : List ℕ) (width root : ℕ) (h : whole (walkOf book width root
       (List·Memᴰ·cases-cons (reached-met book width root h r))
 
   -- a reached name that the book lacks, in a valid book: a block that names it is listed
-  pub lacking-listed : ValidBook book → isType book root ≡ true → find book x ≡ Nothing → Listing book (listed (walkOf book width root)) x
+  pub lacking-listed : ValidBook book → isType book root ≡ true → Lacking book x → Listing book (listed (walkOf book width root)) x
   unfolding walkOf meet names
   lacking-listed v t q =
       let y = nameOf book root in

@@ -5,12 +5,11 @@ use mathlib.Core.Bool.{Bool, true, false, cond, _&&_}
 use mathlib.Core.List.{List, _++_}
 use Prim.Native.Nat.{ℕ}
 use lib.ListN.{length, take, drop}
-use lib.Dec.{leb}
 use Rattle.book_check.specs.Check.{checkRoot}
 use Rattle.resolvers.specs.Calls.{atRoot}
 use Rattle.walks.specs.Walk.{walkOf}
 use Rattle.walks.specs.Reads.{count, listed, whole}
-use Rattle.walks.specs.Scratch.{scratchFits, zeroed}
+use Rattle.walks.specs.Scratch.{scratchFits, listFits, zeroed}
 use Rattle.missing_types.specs.declared.Missing.{Missing}
 use Rattle.missing_types.specs.declared.Missing.the-variants as missing
 
@@ -18,10 +17,6 @@ use Rattle.missing_types.specs.declared.Missing.the-variants as missing
 abbrev pub missingRefusal : Missing → ℕ
 missingRefusal (missing.Listed n w c) = 0
 missingRefusal (missing.Refused n) = n
-
--- 6: the list has at least 4,096 numbers
-abbrev pub listFits : List ℕ → Bool
-listFits list = leb 4096 (length list)
 
 -- how many blocks are listed, the mark "whole", and the number of distinct names met
 unfoldable pub missingAnswer : Bool → List ℕ → ℕ → ℕ → Missing

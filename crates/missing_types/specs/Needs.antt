@@ -1,4 +1,4 @@
--- What a list of missing types says of the names that are needed (document 01's terms *reached* and *needed*). Assumes nothing.
+-- What a list of missing types says of the names that are needed (document 01's terms *lacking* and *needed*). Assumes nothing.
 use mathlib.Core.Path.{_≡_}
 use mathlib.Core.List.{List, List·Memᴰ}
 use Prim.Native.Nat.{ℕ}
@@ -7,10 +7,14 @@ use Rattle.typebook.specs.Book.{typeNameOf}
 use Rattle.type_provider.specs.Find.{find}
 use Rattle.walks.specs.Reached.{Needed}
 
--- the book lacks the type name of block c, and that name is needed
-pub record Lacking (book : List ℕ) (width : ℕ) (root : List ℕ) (c : ℕ) : Type 0 where
-  pub nothing : find book (typeNameOf book c) ≡ Nothing
-  pub needed : Needed book width root (typeNameOf book c)
+-- document 01's term: a name is lacking while our book doesn't define it
+abbrev pub Lacking : List ℕ → List ℕ → Type 0
+Lacking ours x = find ours x ≡ Nothing
+
+-- block c of our book stands for its type name, which is lacking there and is needed in the book `theirs`; a walk over one book takes both in it
+pub record Unresolved (ours theirs : List ℕ) (width : ℕ) (root : List ℕ) (c : ℕ) : Type 0 where
+  pub lacking : Lacking ours (typeNameOf ours c)
+  pub needed : Needed theirs width root (typeNameOf ours c)
 
 -- a block of the list names x
 pub record Listing (book ls x : List ℕ) : Type 0 where

@@ -6,14 +6,15 @@ ghost use Prim.Native.Nat.{_≤_, _<_, _+_};
 ghost use lib.ListN.{length, replicate};
 ghost use Rattle.typebook.specs.Book.{isType};
 ghost use Rattle.book_check.specs.Check.{ValidBook};
-ghost use Rattle.walks.specs.Scratch.{scratchFits};
+ghost use Rattle.walks.specs.Scratch.{scratchFits, listFits};
 ghost use Rattle.walks.specs.State.{IsDue};
-ghost use Rattle.missing_types.specs.Calls.{listFits, Walked, MissingIn, MissingIs};
+ghost use Rattle.missing_types.specs.Calls.{Walked, MissingIn, MissingIs};
 ghost use Rattle.missing_types.specs.State.{OneMore, Applied};
 use book_check::RootCheck;
 use events::Event;
 use walks::MAX_TYPES_VISITED;
-use walks::SCRATCH;
+use walks::list_fits;
+use walks::scratch_fits;
 use walks::start;
 use walks::step;
 use zeros::clear_numbers;
@@ -74,7 +75,7 @@ fn missing_walk(
     scratch: &mut [u32],
     list: &mut [u32],
 ) -> Missing
-    requires { ⌜ ValidBook (now book) × (isType (now book) root ≡ true) × (16384 ≤ length (now scratch)) × (4096 ≤ length (now list)) × (now scratch ≡ replicate (length (now scratch)) 0) ⌝ }
+    requires { ⌜ ValidBook (now book) × (isType (now book) root ≡ true) × (6144 ≤ length (now scratch)) × (4096 ≤ length (now list)) × (now scratch ≡ replicate (length (now scratch)) 0) ⌝ }
     ensures { λ r. ⌜ Walked (now (book .entry)) width root (now (list .entry)) r (now (list .exit)) ⌝ }
 {
     let mut e = start(book, index, width, root, scratch);
@@ -105,7 +106,7 @@ pub fn missing_types_in(
     scratch: &mut [u32],
     list: &mut [u32],
 ) -> Missing
-    requires { ⌜ ValidBook (now book) × (isType (now book) root ≡ true) × (16384 ≤ length (now scratch)) × (4096 ≤ length (now list)) ⌝ }
+    requires { ⌜ ValidBook (now book) × (isType (now book) root ≡ true) × (6144 ≤ length (now scratch)) × (4096 ≤ length (now list)) ⌝ }
     ensures { λ r. ⌜ MissingIn true (now (book .entry)) width root (now (scratch .entry)) (now (list .entry)) r (now (scratch .exit)) (now (list .exit)) ⌝ }
 {
     clear_numbers(scratch);
@@ -119,10 +120,10 @@ fn missing_at(book: &[u8], width: u8, root: u32, scratch: &mut [u32], list: &mut
     requires { ⌜ ValidBook (now book) × (isType (now book) root ≡ true) ⌝ }
     ensures { λ r. ⌜ MissingIn (scratchFits (now (scratch .entry)) && listFits (now (list .entry))) (now (book .entry)) width root (now (scratch .entry)) (now (list .entry)) r (now (scratch .exit)) (now (list .exit)) ⌝ }
 {
-    if scratch.len() < SCRATCH {
+    if !scratch_fits(scratch) {
         return Missing::Refused(6);
     }
-    if list.len() < MAX_TYPES_VISITED {
+    if !list_fits(list) {
         return Missing::Refused(6);
     }
     let mut index = [0u32; 16384];

@@ -3,23 +3,20 @@ ghost use mathlib.Core.Path.{_≡_};
 ghost use mathlib.Core.Bool.{true, _&&_};
 ghost use Rattle.typebook.specs.Book.{isType};
 ghost use Rattle.book_check.specs.Check.{ValidBook};
-ghost use Rattle.walks.specs.Scratch.{scratchFits};
-ghost use Rattle.missing_types.specs.Calls.{listFits, MissingIn};
+ghost use Rattle.walks.specs.Scratch.{scratchFits, listFits};
+ghost use Rattle.missing_types.specs.Calls.{MissingIn};
 ghost use Rattle.read_modify_write.specs.Calls.{RmwIn};
 use missing_types::Missing;
 use read_modify_write::Rmw;
-
-// The numbers that a walk needs of the scratch, and of the list.
-const SCRATCH: usize = 16384;
-
-const LIST: usize = 4096;
+use walks::list_fits;
+use walks::scratch_fits;
 
 // 6 for a short scratch, then the walk.
 pub fn rmw_in(book: &[u8], index: &[u32], width: u8, root: u32, scratch: &mut [u32]) -> Rmw
     requires { ⌜ ValidBook (now book) × (isType (now book) root ≡ true) ⌝ }
     ensures { λ r. ⌜ RmwIn (scratchFits (now (scratch .entry))) (now (book .entry)) width root (now (scratch .entry)) r (now (scratch .exit)) ⌝ }
 {
-    if scratch.len() < SCRATCH {
+    if !scratch_fits(scratch) {
         return Rmw::Refused(6);
     }
     read_modify_write::requires_read_modify_write_in(book, index, width, root, scratch)
@@ -37,10 +34,10 @@ pub fn missing_in(
     requires { ⌜ ValidBook (now book) × (isType (now book) root ≡ true) ⌝ }
     ensures { λ r. ⌜ MissingIn (scratchFits (now (scratch .entry)) && listFits (now (list .entry))) (now (book .entry)) width root (now (scratch .entry)) (now (list .entry)) r (now (scratch .exit)) (now (list .exit)) ⌝ }
 {
-    if scratch.len() < SCRATCH {
+    if !scratch_fits(scratch) {
         return Missing::Refused(6);
     }
-    if list.len() < LIST {
+    if !list_fits(list) {
         return Missing::Refused(6);
     }
     missing_types::missing_types_in(book, index, width, root, scratch, list)

@@ -1,16 +1,15 @@
 -- `requires_read_modify_write`: what its functions owe at each exit. Assumes nothing.
-use mathlib.Core.Path.{_≡_}
-use mathlib.Core.Bool.{true}
+use mathlib.Core.Path.{_≡_, sym, _∙_}
+use mathlib.Core.Bool.{Bool, true, false, not}
 use mathlib.Core.List.{List}
-use Prim.Native.Nat.{ℕ, _≤_, _<_}
+use Prim.Native.Nat.{ℕ}
 use lib.ListN.{length, take, replicate}
-use borrow.Author.Tests.{le-leb, lt-leb}
 use Rattle.book_check.specs.declared.RootCheck.{RootCheck}
 use Rattle.book_check.specs.declared.RootCheck.the-variants as checked
 use Rattle.book_check.specs.Check.{checkRoot}
 use Rattle.resolvers.specs.Calls.{atRoot}
 use Rattle.walks.specs.Scratch.{scratchFits}
-use Rattle.walks.proofs.Zeros.{zeros-again}
+use Rattle.walks.proofs.Zeros.{passed, failed, zeros-again}
 use Rattle.read_modify_write.specs.declared.Rmw.{Rmw}
 use Rattle.read_modify_write.specs.declared.Rmw.the-variants as rmw
 use Rattle.read_modify_write.specs.Calls.{rmwAnswer, RmwIn, RmwIs}
@@ -23,13 +22,13 @@ rmw-done book width t sc sc₁ z sc₂ e y w = record { answer = w; scratch = ze
 
 -- ---- 6
 
-module _ (book : List ℕ) (width t : ℕ) (sc : List ℕ) where
-  pub rmw-scratch : length sc < 16384 → RmwIn (scratchFits sc) book width t sc (rmw.Refused 6) sc
+module _ (book : List ℕ) (width t : ℕ) (sc : List ℕ) (g : Bool) (e : g ≡ scratchFits sc) where
+  pub rmw-scratch : not g ≡ true → RmwIn (scratchFits sc) book width t sc (rmw.Refused 6) sc
   unfolding rmwAnswer
-  rmw-scratch h = let f = lt-leb 16384 (length sc) h in record { answer = rw f; scratch = rw f }
+  rmw-scratch h = let f = sym e ∙ failed g h in record { answer = rw f; scratch = rw f }
 
-  pub rmw-fits : 16384 ≤ length sc → {sc′ : List ℕ} {r : Rmw} → RmwIn true book width t sc r sc′ → RmwIn (scratchFits sc) book width t sc r sc′
-  rmw-fits h q = rw (le-leb 16384 (length sc) h) q
+  pub rmw-fits : not g ≡ false → {sc′ : List ℕ} {r : Rmw} → RmwIn true book width t sc r sc′ → RmwIn (scratchFits sc) book width t sc r sc′
+  rmw-fits h q = rw (sym e ∙ passed g h) q
 
 -- ---- 1 to 5
 

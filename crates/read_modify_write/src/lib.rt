@@ -16,7 +16,7 @@ use book_check::RootCheck;
 use events::Event;
 use type_category::type_category::AdsTypeCategory;
 use walks::MAX_TYPES_VISITED;
-use walks::SCRATCH;
+use walks::scratch_fits;
 use walks::start;
 use walks::step;
 use zeros::clear_numbers;
@@ -83,7 +83,7 @@ fn decide(e: Event, left: usize) -> Turn
 
 // The walk for read-modify-write, over a scratch of zeros. It ends at the first name that the book lacks, so it keeps no list.
 fn rmw_walk(book: &[u8], index: &[u32], width: u8, root: u32, scratch: &mut [u32]) -> Rmw
-    requires { ⌜ ValidBook (now book) × (isType (now book) root ≡ true) × (16384 ≤ length (now scratch)) × (now scratch ≡ replicate (length (now scratch)) 0) ⌝ }
+    requires { ⌜ ValidBook (now book) × (isType (now book) root ≡ true) × (6144 ≤ length (now scratch)) × (now scratch ≡ replicate (length (now scratch)) 0) ⌝ }
     ensures { λ r. ⌜ r ≡ rmwAnswer true (now (book .entry)) width root ⌝ }
 {
     let none: [u32; 1] = [0];
@@ -113,7 +113,7 @@ pub fn requires_read_modify_write_in(
     root: u32,
     scratch: &mut [u32],
 ) -> Rmw
-    requires { ⌜ ValidBook (now book) × (isType (now book) root ≡ true) × (16384 ≤ length (now scratch)) ⌝ }
+    requires { ⌜ ValidBook (now book) × (isType (now book) root ≡ true) × (6144 ≤ length (now scratch)) ⌝ }
     ensures { λ r. ⌜ RmwIn true (now (book .entry)) width root (now (scratch .entry)) r (now (scratch .exit)) ⌝ }
 {
     clear_numbers(scratch);
@@ -127,7 +127,7 @@ fn rmw_at(book: &[u8], width: u8, root: u32, scratch: &mut [u32]) -> Rmw
     requires { ⌜ ValidBook (now book) × (isType (now book) root ≡ true) ⌝ }
     ensures { λ r. ⌜ RmwIn (scratchFits (now (scratch .entry))) (now (book .entry)) width root (now (scratch .entry)) r (now (scratch .exit)) ⌝ }
 {
-    if scratch.len() < SCRATCH {
+    if !scratch_fits(scratch) {
         return Rmw::Refused(6);
     }
     let mut index = [0u32; 16384];

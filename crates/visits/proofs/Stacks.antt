@@ -15,7 +15,7 @@ use Rattle.book_check.specs.Check.{ValidBook}
 use Rattle.visits.specs.declared.Parts.{Parts}
 use Rattle.visits.specs.declared.Parts.the-variants.{Element, Fields, Nothing}
 use Rattle.visits.specs.Parts.{partsKind, after, partsIn}
-use Rattle.visits.specs.Scratch.{entryOf, stackOf, markedIn, isRun, takenAt, takenFrom, pushedTo, pushedOn, Took, Pushed, Marked, Grown}
+use Rattle.visits.specs.Scratch.{entryOf, stackOf, markedIn, isRun, takenAt, takenFrom, pushedTo, pushedOn, Took, Pushed, BlockMarked, MarkedAndPushed}
 use Rattle.visits.proofs.Places.{fields-below}
 
 pub stack-set : (sc : List ℕ) (i x d : ℕ) → d ≤ i → stackOf (set sc i x) d ≡ stackOf sc d
@@ -39,7 +39,7 @@ stack-suc sc depth t k h et ek =
 
 -- ---- take
 
-module _ (sc : List ℕ) (depth e : ℕ) (p : 0 < depth) (l : depth ≤ 4096) (z : 16384 ≤ length sc) (ee : e ≡ getD sc (depth - 1) 0) where
+module _ (sc : List ℕ) (depth e : ℕ) (p : 0 < depth) (l : depth ≤ 4096) (z : 6144 ≤ length sc) (ee : e ≡ getD sc (depth - 1) 0) where
   -- the entry stands for one block, b, and is taken off
   last-at : isRun e ≡ false → (b : ℕ) → b ≡ e / 65536 + e % 65536 → record { block = b; depth = depth - 1 } ≡ takenAt sc depth
   unfolding takenAt
@@ -111,7 +111,7 @@ unfolding after
 after-few t zero = refl
 after-few t (suc k) = ap suc (after-few t k)
 
-module _ (book : List ℕ) (sc : List ℕ) (depth t : ℕ) (l : depth < 4096) (z : 16384 ≤ length sc) (c : AdsTypeCategory) where
+module _ (book : List ℕ) (sc : List ℕ) (depth t : ℕ) (l : depth < 4096) (z : 6144 ≤ length sc) (c : AdsTypeCategory) where
   abbrev parts : List ℕ
   parts = partsIn book t (partsKind c)
 
@@ -175,8 +175,8 @@ module _ (book : List ℕ) (sc : List ℕ) (depth t : ℕ) (l : depth < 4096) (z
 
 -- ---- expand
 
-pub grow : (book sc : List ℕ) (depth t u : ℕ) (c : AdsTypeCategory) → depth < 4096 → {sc₁ : List ℕ} → Marked sc t sc₁ → {r : ℕ} {sc₂ : List ℕ}
-    → Pushed book c sc₁ depth u r sc₂ → Grown book c sc depth t u r sc₂
+pub grow : (book sc : List ℕ) (depth t u : ℕ) (c : AdsTypeCategory) → depth < 4096 → {sc₁ : List ℕ} → BlockMarked sc t sc₁ → {r : ℕ} {sc₂ : List ℕ}
+    → Pushed book c sc₁ depth u r sc₂ → MarkedAndPushed book c sc depth t u r sc₂
 grow book sc depth t u c l m p =
     let s = m .stack depth (omega arith) in
     record {

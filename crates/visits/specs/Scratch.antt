@@ -101,13 +101,13 @@ pub record Pushed (book : List ℕ) (c : AdsTypeCategory) (sc : List ℕ) (depth
   pub numbers : sc′ ≡ pushedOn book sc depth t (partsKind c)
 
 -- the bit of block t is set now, and no other bit and no entry changed; every number of the scratch is fixed
-pub record Marked (sc : List ℕ) (t : ℕ) (sc′ : List ℕ) : Type 0 where
+pub record BlockMarked (sc : List ℕ) (t : ℕ) (sc′ : List ℕ) : Type 0 where
   pub stack : (d : ℕ) → d ≤ 4096 → stackOf sc′ d ≡ stackOf sc d
   pub marks : (u : ℕ) → markedIn sc′ u ≡ eqb t u || markedIn sc u
   pub numbers : sc′ ≡ markedOn sc t
 
 -- type block t is marked, and the parts of type u, of category c, are laid on; the answer and every number of the scratch are fixed
-pub record Grown (book : List ℕ) (c : AdsTypeCategory) (sc : List ℕ) (depth t u r : ℕ) (sc′ : List ℕ) : Type 0 where
+pub record MarkedAndPushed (book : List ℕ) (c : AdsTypeCategory) (sc : List ℕ) (depth t u r : ℕ) (sc′ : List ℕ) : Type 0 where
   pub top : stackOf sc′ r ≡ partsIn book u (partsKind c) ++ stackOf sc depth
   pub marks : (u : ℕ) → markedIn sc′ u ≡ eqb t u || markedIn sc u
   pub more : r ≤ depth + 1

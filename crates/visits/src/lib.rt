@@ -8,7 +8,7 @@ ghost use lib.ListN.{length, take as first};
 ghost use Rattle.typebook.specs.Book.{isType};
 ghost use Rattle.book_check.specs.Check.{ValidBook};
 ghost use Rattle.visits.specs.Parts.{partsKind};
-ghost use Rattle.visits.specs.Scratch.{markedIn, isPart, namesIt, hasRef, Took, Marked, Pushed, Grown};
+ghost use Rattle.visits.specs.Scratch.{markedIn, isPart, namesIt, hasRef, Took, BlockMarked, Pushed, MarkedAndPushed};
 use type_category::type_category::AdsTypeCategory;
 use typebook::block;
 
@@ -31,7 +31,7 @@ pub struct Taken {
 // ---- the bits and the stack
 
 pub fn marked(scratch: &[u32], t: u32) -> bool
-    requires { ⌜ (t < 65536) × (16384 ≤ length (now scratch)) ⌝ }
+    requires { ⌜ (t < 65536) × (6144 ≤ length (now scratch)) ⌝ }
     ensures { λ r. ⌜ r ≡ markedIn (now (scratch .entry)) t ⌝ }
 {
     let i = MARKS + (t / 32) as usize;
@@ -39,8 +39,8 @@ pub fn marked(scratch: &[u32], t: u32) -> bool
 }
 
 pub fn mark(scratch: &mut [u32], t: u32)
-    requires { ⌜ (t < 65536) × (16384 ≤ length (now scratch)) ⌝ }
-    ensures { λ _. ⌜ Marked (now (scratch .entry)) t (now (scratch .exit)) ⌝ }
+    requires { ⌜ (t < 65536) × (6144 ≤ length (now scratch)) ⌝ }
+    ensures { λ _. ⌜ BlockMarked (now (scratch .entry)) t (now (scratch .exit)) ⌝ }
 {
     let i = MARKS + (t / 32) as usize;
     scratch[i] = scratch[i] | (1 << (t % 32));
@@ -49,7 +49,7 @@ pub fn mark(scratch: &mut [u32], t: u32)
 // Takes the top block off the stack. An entry t * 65536 + k stands for the k blocks after block t, the last one taken first; with
 // k = 0 for block t itself. So a type of many fields takes one entry.
 pub fn take(scratch: &mut [u32], depth: usize) -> Taken
-    requires { ⌜ (0 < depth) × (depth ≤ 4096) × (16384 ≤ length (now scratch)) ⌝ }
+    requires { ⌜ (0 < depth) × (depth ≤ 4096) × (6144 ≤ length (now scratch)) ⌝ }
     ensures { λ r. ⌜ Took (now (scratch .entry)) depth r (now (scratch .exit)) ⌝ }
 {
     let d = depth - 1;
@@ -105,7 +105,7 @@ pub fn push(
     t: u32,
     category: AdsTypeCategory,
 ) -> usize
-    requires { ⌜ ValidBook (now book) × (isType (now book) t ≡ true) × (depth < 4096) × (16384 ≤ length (now scratch)) ⌝ }
+    requires { ⌜ ValidBook (now book) × (isType (now book) t ≡ true) × (depth < 4096) × (6144 ≤ length (now scratch)) ⌝ }
     ensures { λ r. ⌜ Pushed (now (book .entry)) category (now (scratch .entry)) depth t r (now (scratch .exit)) ⌝ }
 {
     let kind = parts_of(category);
@@ -136,8 +136,8 @@ pub fn expand(
     u: u32,
     category: AdsTypeCategory,
 ) -> usize
-    requires { ⌜ ValidBook (now book) × (isType (now book) t ≡ true) × (isType (now book) u ≡ true) × (depth < 4096) × (16384 ≤ length (now scratch)) ⌝ }
-    ensures { λ r. ⌜ Grown (now (book .entry)) category (now (scratch .entry)) depth t u r (now (scratch .exit)) ⌝ }
+    requires { ⌜ ValidBook (now book) × (isType (now book) t ≡ true) × (isType (now book) u ≡ true) × (depth < 4096) × (6144 ≤ length (now scratch)) ⌝ }
+    ensures { λ r. ⌜ MarkedAndPushed (now (book .entry)) category (now (scratch .entry)) depth t u r (now (scratch .exit)) ⌝ }
 {
     mark(scratch, t);
     push(book, scratch, depth, u, category)

@@ -1,5 +1,5 @@
 -- What a walk meets: (i) only what is reached, (ii) all of it where it ends whole, and then all is found where it lists nothing, (iii) no
--- name twice. Assumes nothing.
+-- name twice. Each law is of the walk from a name, and then of a root's, which is that from its name. Assumes nothing.
 use mathlib.Core.Path.{_≡_, refl, sym, ap, _∙_}
 use mathlib.Core.Bool.{Bool, true, false, _||_, or-true}
 use mathlib.Core.Logic.{_⊎_, inl, inr, ⊎-elim}
@@ -16,7 +16,7 @@ use Rattle.resolvers.specs.declared.Resolved.{Resolved}
 use Rattle.resolvers.specs.declared.Resolved.the-variants.{Base, Lacks, Endless}
 use Rattle.resolvers.specs.Resolve.{onward, resolveAlias}
 use Rattle.visits.specs.Parts.{partsOf}
-use Rattle.walks.specs.Walk.{Walk, met, comesTo, has, push, meet, walk, walkOf}
+use Rattle.walks.specs.Walk.{Walk, met, comesTo, has, push, meet, walk, walkFrom, walkOf}
 use Rattle.walks.specs.Reads.{names, count, listed, whole}
 use Rattle.walks.specs.Reached.{Reached, start, part, Distinct, none as nothing, more, Resolves}
 use Rattle.walks.proofs.Goes.{Goes, none, old, fresh, stop, goes}
@@ -69,15 +69,18 @@ module _ (book : List ℕ) (width : ℕ) (root : List ℕ) where
       cons-reached r (λ y n. only-reached g (parts-reached s b (typeNameOf book b) r (λ b m. h b (List·Memᴰ·tail m))) y n) x m
   only-reached (stop {b} e) h x m = cons-reached (h b (List·Memᴰ·head refl)) (λ y m. absurd (List·Memᴰ·not-nil m)) x m
 
-pub met-is-reached : (book : List ℕ) (width root : ℕ) (x : List ℕ) → List·Memᴰ x (names (walkOf book width root)) → Reached book width (nameOf book root) x
-unfolding walkOf meet names
-met-is-reached book width root x m =
-    let name = nameOf book root in
+pub from-reached : (book : List ℕ) (width : ℕ) (name : List ℕ) (block : ℕ) (x : List ℕ) → List·Memᴰ x (names (walkFrom book width name block)) → Reached book width name x
+unfolding meet names
+from-reached book width name block x m =
     let r = start refl in
     cons-reached book width name r
-    (only-reached book width name (goes book width 4095 (name ∷ []) (push book width (comesTo book width root (find book name)) []))
-    (parts-reached book width name [] root name r (λ b m. absurd (List·Memᴰ·not-nil m))))
+    (only-reached book width name (goes book width 4095 (name ∷ []) (push book width (comesTo book width block (find book name)) []))
+    (parts-reached book width name [] block name r (λ b m. absurd (List·Memᴰ·not-nil m))))
     x m
+
+pub met-is-reached : (book : List ℕ) (width root : ℕ) (x : List ℕ) → List·Memᴰ x (names (walkOf book width root)) → Reached book width (nameOf book root) x
+unfolding walkOf
+met-is-reached book width root = from-reached book width (nameOf book root) root
 
 -- ---- (iii)
 
@@ -108,12 +111,15 @@ distinct book width (old e g) = distinct book width g
 distinct book width (fresh {left} {b} {v} e g) = more (λ m. apart book width g _ m (has-self (typeNameOf book b) v)) (distinct book width g)
 distinct book width (stop e) = more List·Memᴰ·not-nil nothing
 
-pub met-once : (book : List ℕ) (width root : ℕ) → Distinct (names (walkOf book width root))
-unfolding walkOf meet names
-met-once book width root =
-    let name = nameOf book root in
-    let g = goes book width 4095 (name ∷ []) (push book width (comesTo book width root (find book name)) []) in
+pub from-once : (book : List ℕ) (width : ℕ) (name : List ℕ) (block : ℕ) → Distinct (names (walkFrom book width name block))
+unfolding meet names
+from-once book width name block =
+    let g = goes book width 4095 (name ∷ []) (push book width (comesTo book width block (find book name)) []) in
     more (λ m. apart book width g _ m (has-self name [])) (distinct book width g)
+
+pub met-once : (book : List ℕ) (width root : ℕ) → Distinct (names (walkOf book width root))
+unfolding walkOf
+met-once book width root = from-once book width (nameOf book root) root
 
 -- the rest of a whole walk is whole
 pub whole-rest : (b : ℕ) (x : List ℕ) (f : Resolved) (w : Walk) → whole (met b x f w) ≡ true → whole w ≡ true
@@ -195,44 +201,56 @@ module _ (book : List ℕ) (width : ℕ) where
       ⊎-elim (λ e. record { at = k .0; to = q .0 .0; found = ap (find book) e ∙ k .1; base = k .2 }) (λ n. found-all g (whole-rest b (typeNameOf book b) (comesTo book width b (find book (typeNameOf book b))) w h) (q .1) x n) (List·Memᴰ·cases-cons m)
   found-all (stop e) h l x m = true-false (sym h)
 
-  module _ (root : ℕ) (h : whole (walkOf book width root) ≡ true) where
+  module _ (name : List ℕ) (block : ℕ) (h : whole (walkFrom book width name block) ≡ true) where
     first : Walk
-    first = walk book width 4095 (nameOf book root ∷ []) (push book width (comesTo book width root (find book (nameOf book root))) [])
+    first = walk book width 4095 (name ∷ []) (push book width (comesTo book width block (find book name)) [])
 
-    goes-first : Goes book width 4095 (nameOf book root ∷ []) (push book width (comesTo book width root (find book (nameOf book root))) []) first
+    goes-first : Goes book width 4095 (name ∷ []) (push book width (comesTo book width block (find book name)) []) first
     unfolding first
     goes-first = goes book width 4095 _ _
 
-    known-all : (y : List ℕ) → Known (nameOf book root ∷ []) first y → List·Memᴰ y (names (walkOf book width root))
-    unfolding walkOf meet names first has
-    known-all y k = ⊎-elim (λ q. true-false (sym q)) (λ m. m) (known-met root (nameOf book root) y (comesTo book width root (find book (nameOf book root))) [] first k)
+    known-all : (y : List ℕ) → Known (name ∷ []) first y → List·Memᴰ y (names (walkFrom book width name block))
+    unfolding meet names first has
+    known-all y k = ⊎-elim (λ q. true-false (sym q)) (λ m. m) (known-met block name y (comesTo book width block (find book name)) [] first k)
 
     whole-first : whole first ≡ true
-    unfolding walkOf meet first
-    whole-first = whole-rest root (nameOf book root) (comesTo book width root (find book (nameOf book root))) first h
+    unfolding meet first
+    whole-first = whole-rest block name (comesTo book width block (find book name)) first h
 
-    pub reached-met : {x : List ℕ} → Reached book width (nameOf book root) x → List·Memᴰ x (names (walkOf book width root))
-    unfolding walkOf meet names first
-    reached-met (start e) = List·Memᴰ·head e
-    reached-met (part {x} {y} {t} {u} {b} r f g p e) =
+    pub from-met : {x : List ℕ} → Reached book width name x → List·Memᴰ x (names (walkFrom book width name block))
+    unfolding meet names first
+    from-met (start e) = List·Memᴰ·head e
+    from-met (part {x} {y} {t} {u} {b} r f g p e) =
         rw e
         (known-all (typeNameOf book b)
         (⊎-elim
-        (λ q. stack-known goes-first whole-first b (push-part book width [] (comesTo book width root (find book (nameOf book root))) (base-look book width root u t (find book (nameOf book root)) (ap (find book) (sym q) ∙ f) g) p))
+        (λ q. stack-known goes-first whole-first b (push-part book width [] (comesTo book width block (find book name)) (base-look book width block u t (find book name) (ap (find book) (sym q) ∙ f) g) p))
         (λ n. closed goes-first whole-first x t u b n f g p)
-        (List·Memᴰ·cases-cons (reached-met r))))
+        (List·Memᴰ·cases-cons (from-met r))))
+
+    pub from-found : listed (walkFrom book width name block) ≡ [] → (x : List ℕ) → Reached book width name x → Resolves book width x
+    unfolding meet names first
+    from-found l x r =
+        let q = listed-none block name (comesTo book width block (find book name)) first h l in
+        let k = look-base book width block (q .0 .0) (find book name) (q .0 .1) in
+        ⊎-elim (λ e. record { at = k .0; to = q .0 .0; found = ap (find book) e ∙ k .1; base = k .2 }) (λ n. found-all goes-first whole-first (q .1) x n) (List·Memᴰ·cases-cons (from-met r))
+
+  module _ (root : ℕ) (h : whole (walkOf book width root) ≡ true) where
+    pub reached-met : {x : List ℕ} → Reached book width (nameOf book root) x → List·Memᴰ x (names (walkOf book width root))
+    unfolding walkOf
+    reached-met = from-met (nameOf book root) root h
 
     pub reached-found : listed (walkOf book width root) ≡ [] → (x : List ℕ) → Reached book width (nameOf book root) x → Resolves book width x
-    unfolding walkOf meet names first
-    reached-found l x r =
-        let q = listed-none root (nameOf book root) (comesTo book width root (find book (nameOf book root))) first h l in
-        let k = look-base book width root (q .0 .0) (find book (nameOf book root)) (q .0 .1) in
-        ⊎-elim (λ e. record { at = k .0; to = q .0 .0; found = ap (find book) e ∙ k .1; base = k .2 }) (λ n. found-all goes-first whole-first (q .1) x n) (List·Memᴰ·cases-cons (reached-met r))
+    unfolding walkOf
+    reached-found = from-found (nameOf book root) root h
 
 -- ---- a number of the answer
 
+pub from-count : (book : List ℕ) (width : ℕ) (name : List ℕ) (block : ℕ) → whole (walkFrom book width name block) ≡ true → count (walkFrom book width name block) ≤ 4096
+unfolding meet names
+from-count book width name block h =
+    let i = whole-count book width (goes book width 4095 (name ∷ []) (push book width (comesTo book width block (find book name)) [])) (whole-rest block name (comesTo book width block (find book name)) _ h) in omega arith
+
 pub count-whole : (book : List ℕ) (width root : ℕ) → whole (walkOf book width root) ≡ true → count (walkOf book width root) ≤ 4096
-unfolding walkOf meet names
-count-whole book width root h =
-    let name = nameOf book root in
-    let i = whole-count book width (goes book width 4095 (name ∷ []) (push book width (comesTo book width root (find book name)) [])) (whole-rest root name (comesTo book width root (find book name)) _ h) in omega arith
+unfolding walkOf
+count-whole book width root = from-count book width (nameOf book root) root

@@ -62,6 +62,10 @@ unfoldable pub walk : List ℕ → ℕ → ℕ → Go
 walk book width zero v s = last book (skip book v s)
 walk book width (suc left) v s = turn (walk book width left) book width v (skip book v s)
 
--- 4,096 names at most, the root's own first
+-- 4,096 names at most, from a name on, for which a block stands that is listed or refused with where the book lacks the name
+abbrev pub walkFrom : List ℕ → ℕ → List ℕ → ℕ → Walk
+walkFrom book width name block = meet (walk book width 4095) book width [] [] block name
+
+-- the root's own name first, for which the root block stands
 unfoldable pub walkOf : List ℕ → ℕ → ℕ → Walk
-walkOf book width root = meet (walk book width 4095) book width [] [] root (nameOf book root)
+walkOf book width root = walkFrom book width (nameOf book root) root

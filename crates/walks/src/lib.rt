@@ -7,6 +7,7 @@ ghost use Prim.Native.Nat.{_≤_, _<_, _+_};
 ghost use lib.ListN.{length, take as first, replicate};
 ghost use Rattle.typebook.specs.Book.{isType};
 ghost use Rattle.book_check.specs.Check.{ValidBook};
+ghost use Rattle.walks.specs.Scratch.{scratchFits, listFits};
 ghost use Rattle.walks.specs.State.{Stepped, Started};
 use events::Event;
 use events::settle;
@@ -21,9 +22,23 @@ use visits::take;
 // graphs only, since cycles end at the visited names.
 pub const MAX_TYPES_VISITED: usize = 4096;
 
-// The numbers of scratch that a walk takes: a stack of at most one entry for each name visited, then a bit for each block of
-// 65,536, and room to spare.
-pub const SCRATCH: usize = 16384;
+// The numbers that a caller lends as scratch. A walk uses 6,144 of them: a stack of at most one entry for each name visited, and a
+// bit for each of 65,536 blocks.
+const SCRATCH: usize = 16384;
+
+// 6: the scratch is long enough.
+pub fn scratch_fits(scratch: &[u32]) -> bool
+    ensures { λ r. ⌜ r ≡ scratchFits (now (scratch .entry)) ⌝ }
+{
+    scratch.len() >= SCRATCH
+}
+
+// 6: the list is long enough for every name that a walk visits.
+pub fn list_fits(list: &[u32]) -> bool
+    ensures { λ r. ⌜ r ≡ listFits (now (list .entry)) ⌝ }
+{
+    list.len() >= MAX_TYPES_VISITED
+}
 
 // One turn: the top block's name is new, or was visited.
 pub fn step(
@@ -36,38 +51,33 @@ pub fn step(
     left: usize,
     depth: usize,
 ) -> Event
-    requires { ⌜ ValidBook (now book) × (16384 ≤ length (now scratch)) × (n ≤ length (now list)) × (0 < depth) × (depth + left ≤ 4096) ⌝ }
+    requires { ⌜ ValidBook (now book) × (6144 ≤ length (now scratch)) × (n ≤ length (now list)) × (0 < depth) × (depth + left ≤ 4096) ⌝ }
     ensures { λ r. ⌜ Stepped (now (book .entry)) width (now (scratch .entry)) (first n (now (list .entry))) left depth r (now (scratch .exit)) ⌝ }
 {
     let taken = take(scratch, depth);
     let b = taken.block;
     let d = taken.depth;
-    let found = named_in(book, index, b);
-    match found {
-        Found::At(t) => {
-            if marked(scratch, t) {
-                return Event::Old(d);
-            }
-            if left == 0 {
-                return Event::Full;
-            }
-            settle(book, index, width, scratch, d, t)
+    let Found::At(t) = named_in(book, index, b) else {
+        if in_list(book, list, n, block::type_name(book, b)) {
+            return Event::Old(d);
         }
-        Found::Nothing => {
-            if in_list(book, list, n, block::type_name(book, b)) {
-                return Event::Old(d);
-            }
-            if left == 0 {
-                return Event::Full;
-            }
-            Event::Lacking(b, d)
+        if left == 0 {
+            return Event::Full;
         }
+        return Event::Lacking(b, d);
+    };
+    if marked(scratch, t) {
+        return Event::Old(d);
     }
+    if left == 0 {
+        return Event::Full;
+    }
+    settle(book, index, width, scratch, d, t)
 }
 
 // The first event: the root's own name, which finds the root block in a valid book.
 pub fn start(book: &[u8], index: &[u32], width: u8, root: u32, scratch: &mut [u32]) -> Event
-    requires { ⌜ ValidBook (now book) × (isType (now book) root ≡ true) × (16384 ≤ length (now scratch)) × (now scratch ≡ replicate (length (now scratch)) 0) ⌝ }
+    requires { ⌜ ValidBook (now book) × (isType (now book) root ≡ true) × (6144 ≤ length (now scratch)) × (now scratch ≡ replicate (length (now scratch)) 0) ⌝ }
     ensures { λ r. ⌜ Started (now (book .entry)) width root (now (scratch .entry)) r (now (scratch .exit)) ⌝ }
 {
     settle(book, index, width, scratch, 0, root)

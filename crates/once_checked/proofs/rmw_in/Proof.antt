@@ -1,21 +1,46 @@
--- `rmw_in` meets its contract. Assumes nothing.
+use Rattle.walks.proofs.Zeros.{scratch-room}
 use Rattle.read_modify_write.proofs.Ends.{rmw-scratch, rmw-fits}
 use borrow.Author.Needs.{needs}
 use Rattle.once_checked.proofs.rmw_in.Statement.{statement}
 use Rattle.once_checked.proofs.rmw_in.Tie as tie
+use Rattle.once_checked.proofs.rmw_in.Reads as reads
+use Rattle.once_checked.proofs.rmw_in.Lts as lts
+use Rattle.read_modify_write.proofs.requires_read_modify_write_in.Reads as requires-read-modify-write-in-reads
+use Rattle.walks.proofs.scratch_fits.Reads as scratch-fits-reads
 
-returns : tie.Need-returns
-returns c = search rmw-scratch
+ruleset exits = (rmw-scratch, rmw-fits)
 
-requires-read-modify-write-in-requires : tie.Need-requires-read-modify-write-in-requires
-requires-read-modify-write-in-requires c κs = search needs
+-- src/lib.rt:19:9
+scratch-fits-requires : tie.Need-scratch-fits-requires
+scratch-fits-requires c κs = search needs
 
+-- src/lib.rt:20:9
 same-length : tie.Need-same-length
 same-length c = search needs
 
+-- src/lib.rt:20:9
+returns : tie.Need-returns
+returns c = search exits
+
+-- src/lib.rt:22:5
+requires-read-modify-write-in-requires : tie.Need-requires-read-modify-write-in-requires
+requires-read-modify-write-in-requires c κs = (search needs, search needs, search scratch-room)
+
+-- src/lib.rt:15:1
+same-length-2 : tie.Need-same-length-2
+same-length-2 c = search needs
+
+-- src/lib.rt:15:1
 returns-2 : tie.Need-returns-2
-returns-2 c = search rmw-fits
+returns-2 c = search exits
 
 pub rmw-in-spec : {M : Type 1} → statement M
 rmw-in-spec =
-    tie.close (tie.spec returns requires-read-modify-write-in-requires same-length returns-2)
+    tie.close
+    (tie.spec
+    scratch-fits-requires
+    same-length
+    returns
+    requires-read-modify-write-in-requires
+    same-length-2
+    returns-2)
