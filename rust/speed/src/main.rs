@@ -82,8 +82,30 @@ fn long_read((bytes, memory): (Vec<u8>, Vec<u8>)) {
     let t = turns(
         5,
         &mut [
-            &mut || keep(calls::read(&bytes, len, WIDTH, 0, &memory, &mut tape, &mut [], &mut [0; 2])),
-            &mut || keep(twin::calls::read(&bytes, len, WIDTH, 0, &memory, &mut other, &mut [], &mut [0; 2])),
+            &mut || {
+                keep(calls::read(
+                    &bytes,
+                    len,
+                    WIDTH,
+                    0,
+                    &memory,
+                    &mut tape,
+                    &mut [],
+                    &mut [0; 2],
+                ))
+            },
+            &mut || {
+                keep(twin::calls::read(
+                    &bytes,
+                    len,
+                    WIDTH,
+                    0,
+                    &memory,
+                    &mut other,
+                    &mut [],
+                    &mut [0; 2],
+                ))
+            },
             &mut || keep(calls::check_book(&bytes, len)),
             &mut || keep(twin::check::check_book(&bytes, len)),
         ],

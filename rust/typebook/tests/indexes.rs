@@ -42,7 +42,10 @@ fn every_type_of_a_book() {
         let made = made(&mut Rng::new(seed + 2_000_000));
         let (m, y) = alike(&TypeBook::new(&made.book[..]).unwrap(), made.width);
         // By an index of the names alone the answers are the same.
-        assert_eq!(alike(&TypeBook::names_only(&made.book[..]).unwrap(), made.width), (m, y));
+        assert_eq!(
+            alike(&TypeBook::names_only(&made.book[..]).unwrap(), made.width),
+            (m, y)
+        );
         missing += m;
         yes += y;
     }

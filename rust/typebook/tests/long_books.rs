@@ -29,7 +29,16 @@ fn alike(bytes: &[u8], memory: &[u8], records: usize) {
     let (mut tape, mut text, mut values) = (vec![0x77; room], vec![0x77; 8], [0; 2]);
     let (mut other, mut others, mut wanted) = (tape.clone(), text.clone(), [0; 2]);
     let n = calls::read(bytes, bytes.len(), WIDTH, 0, memory, &mut tape, &mut text, &mut values);
-    let m = twin::calls::read(bytes, bytes.len(), WIDTH, 0, memory, &mut other, &mut others, &mut wanted);
+    let m = twin::calls::read(
+        bytes,
+        bytes.len(),
+        WIDTH,
+        0,
+        memory,
+        &mut other,
+        &mut others,
+        &mut wanted,
+    );
     assert_eq!((n, values), (m, wanted));
     assert!(tape == other && text == others);
     if n == 0 {
