@@ -8,7 +8,12 @@
 ORACLE is the oracle's folder, built: its book.py makes the books, its program answers for the original. Every call is
 compared on that many cases. What isn't compared is counted: memories in which a text may open with a byte order mark, array
 products of 2^64 or more (there the original panics), and 14 against another answer (the original has no limit of levels).
-Ends with 1 if anything else differs. Run by hand: it takes three to fifteen minutes.
+
+Writes: `writedoc` is the original with the root's aliases resolved first and a unit refused, as document 01 has it; `write` is the
+original as it is. A tape that hasn't its form must be 16 (tools/tape_form.py reads document 01; the original has no tape). Where
+document 01 decides otherwise than the original, the case is counted with its reason, and the smallest is shown. Answers
+whose number comes from the stand-in for the unpublished conversions (CrossKind) are counted too.
+Ends with 1 if anything else differs. Run by hand: it takes five to twenty minutes.
 """
 
 import argparse
@@ -18,8 +23,11 @@ import time
 from random import Random
 
 from answers import oracle
+from tape_form import formed, spoiled
 
 REQUESTS = ("cat", "alias", "indir", "rmw", "missing", "fields", "read")
+WRITES = ("writedoc", "write")
+REALS = (4, 5)
 
 
 def plain(request, answer):
@@ -48,6 +56,7 @@ class Comparison:
         self.answers = collections.Counter()
         self.skipped = collections.Counter()
         self.differing = []
+        self.decided = {}
 
     def ask(self, request, made, data, *more):
         theirs = plain(request, self.original.ask(request, made.width, data, made.root, *more))
@@ -63,6 +72,61 @@ class Comparison:
             return
         self.compared[request] += 1
         self.differing.append((len(data), request, made.width, data.hex(), made.root, more, theirs, ours))
+
+    def ask_write(self, request, made, data, image, tape, text):
+        """A write; document 01's own decisions are told apart from differences."""
+        ours = self.port.ask("write", made.width, data, made.root, image, tape, text)
+        if formed(data, tape, text):
+            raw = self.original.ask(request, made.width, data, made.root, image, tape, text)
+        else:
+            raw = "err 16"
+        theirs = raw.split(" raw=")[0]
+        words = theirs.split()
+        self.answers[request, " ".join(words[:2]) if words[0] == "err" else words[0]] += 1
+        if "raw=CrossKind" in raw:
+            self.skipped[request, "of these, a number by the stand-in for conversions"] += 1
+        case = (len(data) + len(tape), request, made.width, data.hex(), made.root, (image, tape, text), theirs, ours)
+        if theirs == ours:
+            self.compared[request] += 1
+            return
+        why = self.why_written(request, made, data, image, tape, text, raw, ours)
+        if why:
+            self.skipped[request, why] += 1
+            self.decided[why] = min(self.decided.get(why, case), case)
+            return
+        self.compared[request] += 1
+        self.differing.append(case)
+
+    def why_written(self, request, made, data, image, tape, text, raw, ours):
+        """What of document 01 makes a write's answer another than the original's, or None."""
+        if raw.startswith("panic"):
+            return "product of 2^64 or more"
+        if request == "write":
+            by_document = self.original.ask("writedoc", made.width, data, made.root, image, tape, text).split(" raw=")[0]
+            if by_document == ours:
+                unit = "note=unit" in raw and ours == "err 17"
+                return "a unit is 17" if unit else "a root's aliases come first, for a bool and a unit too"
+        kinds = {tape[i] for i in range(0, len(tape), 24)}
+        pointers = [t for t in made.book.types if t.id in REALS
+                    and self.book.category(t, made.width) in ("pointer", "reference", "interface")]
+        if raw.startswith("err 17") and kinds & {9, 10} and pointers:
+            return "a real goes by the type's id, into a pointer too"
+        return None
+
+    def write(self, made, data):
+        """A write of a tape that was made along the root's type, or of a read one that was changed; some tapes are damaged."""
+        rng, book = self.rng, self.book
+        image = book.gen_memory(rng, made)
+        tree = book.gen_tree(rng, made, odd=rng.choice([0.0, 0.0, 0.02, 0.1]))
+        if rng.random() < 0.4:
+            tree = book.mutate(rng, tree, made.book)
+        elif rng.random() < 0.1:
+            tree = book.gen_leaf(rng, made.book)
+        tape, text = book.tape_from_tree(tree)
+        if rng.random() < 0.2:
+            tape, text = spoiled(rng, tape, text)
+        for request in WRITES:
+            self.ask_write(request, made, data, image, tape, text)
 
     def memory(self, made):
         """A memory in which no text opens with a byte order mark."""
@@ -82,19 +146,24 @@ class Comparison:
         if self.compared["read"] < cases:
             room = () if rng.random() < 0.9 else (rng.randrange(40), rng.randrange(60))
             self.ask("read", made, data, self.memory(made), *room)
+        if min(self.compared[request] for request in WRITES) < cases:
+            self.write(made, data)
 
     def run(self, cases):
         start = time.time()
-        while any(self.compared[request] < cases for request in REQUESTS):
+        while any(self.compared[request] < cases for request in REQUESTS + WRITES):
             self.one(cases)
         print(f"{sum(self.compared.values())} cases compared in {time.time() - start:.0f} s")
 
     def report(self):
-        for request in REQUESTS:
+        for request in REQUESTS + WRITES:
             told = ", ".join(f"{what} {n}" for (r, what), n in sorted(self.answers.items()) if r == request)
             print(f"{request:8} {self.compared[request]:7} compared: {told}")
         for (request, why), n in sorted(self.skipped.items()):
-            print(f"{request:8} {n:7} not compared: {why}")
+            print(f"{request:8} {n:7} not compared: {why}" if not why.startswith("of these") else f"{request:8} {n:7} {why}")
+        for why, (_, request, width, data, root, (image, tape, text), theirs, ours) in sorted(self.decided.items()):
+            print(f"smallest, {why}: {request} width {width} root {root} image {image.hex()} tape {tape.hex()} text {text.hex()}")
+            print(f"  book {data[:3000]}\n  original {theirs[:100]}\n  port     {ours[:100]}")
         print(f"{len(self.differing)} differences")
         for size, request, width, data, root, more, theirs, ours in sorted(self.differing, key=lambda d: d[0])[:5]:
             print(f"{request} width {width} root {root} {more}\n  book {data}\n  original {theirs[:300]}\n  port     {ours[:300]}")

@@ -11,6 +11,8 @@
  *    8 a chain of aliases of 32 hops       9 a 4,097th name (read-modify-write only)
  *   10 a size    11 an id that cannot be read    12 an enum value without entry    13 a pointer's width is not 2, 4 or 8
  *   14 level 65                           15 tape, text, records or book buffer too short
+ *   16 the tape's form    17 a value that does not go with its type, or an array's count
+ *   18 a field or entry name that the type does not have    19 an integer that does not fit
  *
  * Values. `values` takes a call's numbers over its first elements, as many as fit; its other elements stay as before. With refusal 7
  * values[0] is the block whose type name is not in the book; any other refusal leaves `values` as before. Three elements are enough
@@ -166,6 +168,23 @@ uint8_t gateway_read(const uint8_t *buffer, size_t buffer_len, size_t len, uint8
 uint8_t gateway_read_in(const uint8_t *book, size_t book_len, const uint32_t *index, size_t index_len, uint8_t width, uint32_t root,
                         const uint8_t *memory, size_t memory_len, uint8_t *tape, size_t tape_len, uint8_t *text, size_t text_len,
                         uint64_t *values, size_t values_len);
+
+/* ---- write */
+
+/* Writes a tape with its text over a memory's image, by the root's type, into `output`; fields that the tape does not name keep the
+ * image's bytes. What `output` holds before does not matter.
+ * 0: `output`, as long as the image, holds the new bytes; nothing is laid over `values`.
+ * Else, in this order: 1 to 5; 10 where output and image are not of one length; 16 where the tape has not its form; then in the order
+ * of the walk 7, 8, 10, 13, 17, 18, 19. After any refusal, 1 to 5 too, an output as long as the image equals the image, one of another
+ * length is as before. */
+uint8_t gateway_write(const uint8_t *buffer, size_t buffer_len, size_t len, uint8_t width, uint64_t root, const uint8_t *image,
+                      size_t image_len, const uint8_t *tape, size_t tape_len, const uint8_t *text, size_t text_len, uint8_t *output,
+                      size_t output_len, uint64_t *values, size_t values_len);
+
+/* The same in a checked book: 0, 7, 8, 10, 13, 16 to 19. */
+uint8_t gateway_write_in(const uint8_t *book, size_t book_len, const uint32_t *index, size_t index_len, uint8_t width, uint32_t root,
+                         const uint8_t *image, size_t image_len, const uint8_t *tape, size_t tape_len, const uint8_t *text,
+                         size_t text_len, uint8_t *output, size_t output_len, uint64_t *values, size_t values_len);
 
 #ifdef __cplusplus
 }

@@ -21,6 +21,10 @@ use Rattle.book_answers.specs.Answers.{AppendedAs}
 use Rattle.resolver_answers.specs.Answers.{ResolvedAs, FieldsAs}
 use Rattle.walk_answers.specs.Answers.{RmwAs, MissingAs}
 use Rattle.read_answers.specs.Answers.{ReadAs}
+use Rattle.ser.specs.declared.WriteAnswer.{WriteAnswer}
+use Rattle.ser.specs.Write.{Outcome}
+use Rattle.ser.specs.Call.{Wrote}
+use Rattle.write_answers.specs.Answers.{WriteAs}
 
 -- what appending answers, as a number and values, and the buffer that it leaves
 pub record AppendGiven (buffer : List ℕ) (len : ℕ) (piece before : List ℕ) (r : ℕ) (buffer′ after : List ℕ) : Type 0 where
@@ -68,3 +72,9 @@ pub record ReadGiven (trace : Trace) (tape text before : List ℕ) (r : ℕ) (ta
   pub answer : ReadAnswer
   pub by : ReadIs trace tape text answer tape′ text′
   pub gives : ReadAs answer before r after
+
+-- what a write of the outcome answers, as a number and values, and the output that it leaves
+pub record WriteGiven (outcome : Outcome) (image output before : List ℕ) (r : ℕ) (output′ after : List ℕ) : Type 0 where
+  pub answer : WriteAnswer
+  pub by : Wrote outcome image output answer output′
+  pub gives : WriteAs answer before r after

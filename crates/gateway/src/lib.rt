@@ -15,6 +15,7 @@ pub mod book;
 pub mod read;
 pub mod resolve;
 pub mod walk;
+pub mod write;
 
 #[no_mangle]
 pub extern "C" fn gateway_windows_1252_decode(bytes: &[u8], out: &mut [u8], at: usize) -> u64

@@ -14,8 +14,17 @@ fn hex_or_dash(bytes: &[u8]) -> String {
     if bytes.is_empty() { "-".into() } else { hex(bytes) }
 }
 
+/// What a request takes besides the book: a memory, and a read's room or a write's tape and text.
+pub struct More {
+    pub memory: Vec<u8>,
+    pub room: Room,
+    pub tape: Vec<u8>,
+    pub text: Vec<u8>,
+}
+
 /// One request on a book; none if there is no such request.
-pub fn answer(request: &str, width: u8, bytes: &[u8], root: u32, memory: &[u8], room: Room) -> Option<String> {
+pub fn answer(request: &str, width: u8, bytes: &[u8], root: u32, more: &More) -> Option<String> {
+    let memory = &more.memory[..];
     let book = match TypeBook::new(bytes) {
         Ok(book) => book,
         Err(refusal) => return Some(format!("err {}", refusal.number())),
@@ -38,8 +47,9 @@ pub fn answer(request: &str, width: u8, bytes: &[u8], root: u32, memory: &[u8], 
         "missing" => t.missing_types(width).map(|missing| listed(&book, t, width, &missing)),
         "fields" => fields(t, width),
         "read" => t
-            .read_within(width, memory, room)
+            .read_within(width, memory, more.room)
             .map(|tape| events(&book, t, width, memory, &tape)),
+        "write" => written(&book, t, width, more),
         _ => return None,
     };
     Some(told.unwrap_or_else(|refusal| refused(&book, refusal)))
@@ -158,6 +168,30 @@ fn events(book: &TypeBook, t: TypeRef, width: u8, memory: &[u8], tape: &Tape) ->
         };
     }
     out
+}
+
+/// The output; both forms must leave the image after a refusal.
+fn written(book: &TypeBook, t: TypeRef, width: u8, more: &More) -> Result<String, Refusal> {
+    let More { memory, tape, text, .. } = more;
+    let (mut output, mut other, mut values) = (vec![1; memory.len()], vec![2; memory.len()], [0]);
+    let result = t.write_into(width, memory, tape, text, &mut output);
+    let (bytes, root) = (book.bytes(), t.block().into());
+    let number = calls::write(
+        bytes,
+        bytes.len(),
+        width,
+        root,
+        memory,
+        tape,
+        text,
+        &mut other,
+        &mut values,
+    );
+    let kept = result.is_ok() || output == *memory;
+    match same(number, values[0], &result) && output == other && kept {
+        true => result.map(|()| format!("ok {}", hex_or_dash(&output))),
+        false => Ok("differ".into()),
+    }
 }
 
 fn event(value: Value, block: u32) -> String {

@@ -2,12 +2,12 @@
 //! against each other line by line (tools/compare_oracle.py).
 //!
 //! A request is `cat|alias|indir|rmw|missing|fields|read WIDTH BOOK ROOT [MEMORY [RECORDS [TEXT]]]`; bytes are hex, `-` for none,
-//! `=` for the book of the line before. Every call is made in its checked form and in the one for a checked book, and both must
+//! `=` for the book of the line before. Or `write WIDTH BOOK ROOT IMAGE TAPE TEXT`. Every call is made in its checked form and in the one for a checked book, and both must
 //! agree: else the answer is `differ`.
 
 mod answer;
 
-use answer::answer;
+use answer::{More, answer};
 use std::io::{self, BufRead, Write};
 
 fn unhex(text: &str) -> Option<Vec<u8>> {
@@ -28,16 +28,23 @@ fn told(line: &str, book: &mut Vec<u8>) -> Option<String> {
     if *bytes != "=" {
         *book = unhex(bytes)?;
     }
-    let memory = match more.first() {
-        Some(memory) => unhex(memory)?,
-        None => Vec::new(),
-    };
+    let bytes_at = |at: usize| more.get(at).map_or(Some(Vec::new()), |word| unhex(word));
     let room = |at: usize, most: usize| more.get(at).map_or(Some(most), |n| n.parse().ok());
-    let room = typebook::Room {
-        records: room(1, 1 << 20)?,
-        text: room(2, 1 << 24)?,
+    let mut given = More {
+        memory: bytes_at(0)?,
+        room: typebook::Room::default(),
+        tape: Vec::new(),
+        text: Vec::new(),
     };
-    answer(request, width.parse().ok()?, book, root.parse().ok()?, &memory, room)
+    if *request == "write" {
+        (given.tape, given.text) = (bytes_at(1)?, bytes_at(2)?);
+    } else {
+        given.room = typebook::Room {
+            records: room(1, 1 << 20)?,
+            text: room(2, 1 << 24)?,
+        };
+    }
+    answer(request, width.parse().ok()?, book, root.parse().ok()?, &given)
 }
 
 fn main() -> io::Result<()> {

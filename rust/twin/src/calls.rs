@@ -2,6 +2,7 @@
 
 use crate::read::{Reader, Sink};
 use crate::resolve::{fields_within, resolve};
+use crate::write::{Writer, well_formed};
 use crate::{Book, Stop, block, category, check, text, walk};
 
 const SCRATCH: usize = 16_384;
@@ -195,4 +196,58 @@ pub fn read_in(
     };
     reader.root(root, memory)?;
     Ok((reader.sink.filled / 24, reader.sink.texts))
+}
+
+/// As the library's `write`.
+#[allow(clippy::too_many_arguments)]
+pub fn write(
+    buffer: &[u8],
+    len: usize,
+    width: u8,
+    root: u64,
+    image: &[u8],
+    tape: &[u8],
+    text: &[u8],
+    output: &mut [u8],
+    values: &mut [u64],
+) -> u8 {
+    let answer = match check::check_root(buffer, len, root) {
+        Ok(root) => write_in(&Book::new(&buffer[..len]), width, root, image, tape, text, output),
+        Err(number) => {
+            restore(image, output);
+            Err(Stop::Number(number))
+        }
+    };
+    answer.map_or_else(|stop| stopped(stop, values), |()| 0)
+}
+
+/// After a refusal an output as long as the image equals the image.
+fn restore(image: &[u8], output: &mut [u8]) {
+    if output.len() == image.len() {
+        output.copy_from_slice(image);
+    }
+}
+
+/// A write of a checked book.
+pub fn write_in(
+    book: &Book,
+    width: u8,
+    root: u32,
+    image: &[u8],
+    tape: &[u8],
+    text: &[u8],
+    output: &mut [u8],
+) -> Result<(), Stop> {
+    restore(image, output);
+    if output.len() != image.len() {
+        return Err(Stop::Number(10));
+    }
+    if !well_formed(book.bytes, tape, text) {
+        return Err(Stop::Number(16));
+    }
+    let written = Writer::new(book, width, tape, text).root(root, output);
+    if written.is_err() {
+        restore(image, output);
+    }
+    written
 }

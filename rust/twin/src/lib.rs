@@ -12,12 +12,14 @@ pub mod make;
 pub mod random;
 pub mod read;
 pub mod resolve;
+pub mod tapes;
 pub mod text;
 pub mod walk;
+pub mod write;
 
 use std::collections::HashMap;
 
-/// Why a walk or a read stops: document 01's number, for 7 with its block.
+/// Why a walk, a read or a write stops: document 01's number, for 7 with its block.
 #[derive(Debug, Clone, Copy, PartialEq, Eq)]
 pub enum Stop {
     /// 7, with the block whose type name isn't in the book.

@@ -205,7 +205,7 @@ impl Reader<'_, '_> {
 }
 
 /// The kind and width of an integer's id.
-fn integer(id: u32) -> Option<(u8, u8)> {
+pub(crate) fn integer(id: u32) -> Option<(u8, u8)> {
     Some(match id {
         16 => (7, 1),
         2 => (7, 2),
@@ -224,7 +224,7 @@ fn low_first(bytes: &[u8]) -> u64 {
 }
 
 /// Element size times all counts, exactly; none where it passes 128 bits, and so any length.
-fn product(size: u32, counts: &[u32]) -> Option<u128> {
+pub(crate) fn product(size: u32, counts: &[u32]) -> Option<u128> {
     if counts.contains(&0) {
         return Some(0);
     }

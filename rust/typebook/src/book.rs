@@ -5,6 +5,7 @@ use crate::ffi::{Checked, TypeBlock, total};
 use crate::refusal::Refusal;
 use crate::tape::Tape;
 use std::borrow::Cow;
+use std::collections::HashMap;
 use std::fmt;
 
 const BLOCK: usize = 512;
@@ -406,6 +407,57 @@ impl<'b> TypeRef<'b> {
         done(self.block.read(width, memory, tape, text, &mut values), &values)?;
         Ok((values[0] as usize, values[1] as usize))
     }
+
+    /// Writes a tape over a memory's image and gives the new bytes: what the tape doesn't name keeps the image's.
+    ///
+    /// A tape comes from a [`read`](TypeRef::read), changed by [`Tape::edit`], or from a [`TapeBuilder`](crate::TapeBuilder).
+    ///
+    /// ```
+    /// use typebook::TypeBook;
+    /// # let folder = concat!(env!("CARGO_MANIFEST_DIR"), "/../../examples/glue/");
+    /// # let file = |name: &str| std::fs::read(format!("{folder}{name}"));
+    /// let book = TypeBook::new(file("book.bin")?)?;
+    /// let image = file("mem.bin")?;
+    /// let recipe = book.root(0)?;
+    ///
+    /// // What was read is written back unchanged.
+    /// let tape = recipe.read(8, &image)?;
+    /// assert_eq!(recipe.write(8, &image, &tape)?, image);
+    /// # Ok::<(), Box<dyn std::error::Error>>(())
+    /// ```
+    ///
+    /// A refusal gives no bytes at all:
+    ///
+    /// ```
+    /// use typebook::{Refusal, TapeBuilder, TypeBook};
+    /// # let folder = concat!(env!("CARGO_MANIFEST_DIR"), "/../../examples/glue/");
+    /// # let file = |name: &str| std::fs::read(format!("{folder}{name}"));
+    /// # let (book, image) = (TypeBook::new(file("book.bin")?)?, file("mem.bin")?);
+    /// let mut tape = TapeBuilder::new(&book);
+    /// tape.map()?.key("Pieces")?.int(-1)?.end()?;
+    /// let refused = book.root(0)?.write(8, &image, &tape.finish()?);
+    /// assert_eq!(refused, Err(Refusal::OutOfRange));
+    /// # Ok::<(), Box<dyn std::error::Error>>(())
+    /// ```
+    pub fn write(self, width: u8, image: &[u8], tape: &Tape) -> Result<Vec<u8>, Refusal> {
+        let mut output = vec![0; image.len()];
+        self.write_into(width, image, tape.bytes(), tape.text(), &mut output)?;
+        Ok(output)
+    }
+
+    /// Writes document 01's tape and text over an image into an output of the caller, which must be as long. After a refusal an
+    /// output as long as the image equals the image; one of another length is as before.
+    pub fn write_into(
+        self,
+        width: u8,
+        image: &[u8],
+        tape: &[u8],
+        text: &[u8],
+        output: &mut [u8],
+    ) -> Result<(), Refusal> {
+        let mut values = [0; 1];
+        done(self.block.write(width, image, tape, text, output, &mut values), &values)
+    }
 }
 
 impl fmt::Debug for TypeRef<'_> {
@@ -415,6 +467,17 @@ impl fmt::Debug for TypeRef<'_> {
             .field("name", &self.name())
             .finish()
     }
+}
+
+/// The fields' or the entries' names of a book, each with its first block.
+pub(crate) fn names_of(book: &[u8], kind: u8) -> HashMap<&str, u32> {
+    let mut names = HashMap::new();
+    for (n, block) in book.chunks_exact(BLOCK).enumerate() {
+        if block[0] == kind {
+            names.entry(name_in(book, n as u32, total::name)).or_insert(n as u32);
+        }
+    }
+    names
 }
 
 /// A name in a checked book, where the call says that it stands.

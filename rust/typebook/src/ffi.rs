@@ -132,6 +132,23 @@ mod raw {
             values: *mut u64,
             values_len: usize,
         ) -> u8;
+        pub fn gateway_write(
+            buffer: *const u8,
+            buffer_len: usize,
+            len: usize,
+            width: u8,
+            root: u64,
+            image: *const u8,
+            image_len: usize,
+            tape: *const u8,
+            tape_len: usize,
+            text: *const u8,
+            text_len: usize,
+            output: *mut u8,
+            output_len: usize,
+            values: *mut u64,
+            values_len: usize,
+        ) -> u8;
         pub fn gateway_resolve_alias_in(
             book: *const u8,
             book_len: usize,
@@ -203,6 +220,24 @@ mod raw {
             tape_len: usize,
             text: *mut u8,
             text_len: usize,
+            values: *mut u64,
+            values_len: usize,
+        ) -> u8;
+        pub fn gateway_write_in(
+            book: *const u8,
+            book_len: usize,
+            index: *const u32,
+            index_len: usize,
+            width: u8,
+            root: u32,
+            image: *const u8,
+            image_len: usize,
+            tape: *const u8,
+            tape_len: usize,
+            text: *const u8,
+            text_len: usize,
+            output: *mut u8,
+            output_len: usize,
             values: *mut u64,
             values_len: usize,
         ) -> u8;
@@ -443,6 +478,41 @@ pub mod total {
         }
     }
 
+    /// Writes a tape with its text over an image. After 0 the output, as long as the image, holds the new bytes; after a refusal
+    /// the image, where it is as long, and what it held before where not. No values but the block of 7.
+    #[allow(clippy::too_many_arguments)]
+    pub fn write(
+        buffer: &[u8],
+        len: usize,
+        width: u8,
+        root: u64,
+        image: &[u8],
+        tape: &[u8],
+        text: &[u8],
+        output: &mut [u8],
+        values: &mut [u64],
+    ) -> u8 {
+        unsafe {
+            raw::gateway_write(
+                buffer.as_ptr(),
+                buffer.len(),
+                len,
+                width,
+                root,
+                image.as_ptr(),
+                image.len(),
+                tape.as_ptr(),
+                tape.len(),
+                text.as_ptr(),
+                text.len(),
+                output.as_mut_ptr(),
+                output.len(),
+                values.as_mut_ptr(),
+                values.len(),
+            )
+        }
+    }
+
     /// The same calls where a caller lends nothing at all: a null pointer and the length 0.
     #[cfg(test)]
     mod tests {
@@ -501,6 +571,11 @@ pub mod total {
                         null_mut(),
                         0
                     ),
+                    1
+                );
+                let (n, m) = (null(), null_mut());
+                assert_eq!(
+                    raw::gateway_write(n, 0, 0, 8, 0, n, 0, n, 0, n, 0, m, 0, null_mut(), 0),
                     1
                 );
             }
@@ -706,6 +781,38 @@ impl<'b> TypeBlock<'b> {
             )
         }
     }
+
+    pub(crate) fn write(
+        self,
+        width: u8,
+        image: &[u8],
+        tape: &[u8],
+        text: &[u8],
+        output: &mut [u8],
+        values: &mut [u64],
+    ) -> u8 {
+        let (b, i, v) = (self.book.bytes(), self.book.index(), values);
+        unsafe {
+            raw::gateway_write_in(
+                b.as_ptr(),
+                b.len(),
+                i.as_ptr(),
+                i.len(),
+                width,
+                self.block,
+                image.as_ptr(),
+                image.len(),
+                tape.as_ptr(),
+                tape.len(),
+                text.as_ptr(),
+                text.len(),
+                output.as_mut_ptr(),
+                output.len(),
+                v.as_mut_ptr(),
+                v.len(),
+            )
+        }
+    }
 }
 
 #[cfg(test)]
@@ -717,7 +824,7 @@ mod tests {
     fn answers(t: TypeBlock, width: u8, memory: &[u8]) -> (Vec<u8>, Vec<u64>, Vec<u32>, Vec<u8>) {
         let mut v = vec![9; 9];
         let (mut scratch, mut list) = (vec![1; 16_384], vec![7; 4_096]);
-        let (mut tape, mut text) = (vec![3; 24 * 300], vec![3; 2_000]);
+        let (mut tape, mut text, mut output) = (vec![3; 24 * 300], vec![3; 2_000], vec![3; memory.len()]);
         let numbers = vec![
             t.resolve_alias(width, &mut v[..1]),
             t.resolve_indirection(width, &mut v[1..2]),
@@ -726,8 +833,9 @@ mod tests {
             t.read(width, memory, &mut tape, &mut text, &mut v[6..8]),
             t.requires_read_modify_write(width, &mut scratch[..16_383], &mut v[8..]),
             t.missing_types(width, &mut scratch, &mut list[..4_095], &mut v[8..]),
+            t.write(width, memory, &tape[..24 * v[6] as usize], &text, &mut output, &mut [0]),
         ];
-        (numbers, v, [scratch, list].concat(), [tape, text].concat())
+        (numbers, v, [scratch, list].concat(), [tape, text, output].concat())
     }
 
     /// An index of any length gives the same answers: without hints, with them, and with none but a slot or two.

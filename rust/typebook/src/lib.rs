@@ -1,7 +1,8 @@
-//! TwinCAT memory by its type book: the proved reader, resolvers and type walks, called safely.
+//! TwinCAT memory by its type book: the proved reader, writer, resolvers and type walks, called safely.
 //!
 //! A [`TypeBook`] is checked once. From it come [`TypeRef`]s, each known to be a type of that book, and these answer:
-//! does a function block lie anywhere in it, which types does the book lack, what do these bytes hold. Every answer is that of
+//! does a function block lie anywhere in it, which types does the book lack, what do these bytes hold, what do they become with
+//! these values. Every answer is that of
 //! functions proved against document 01 for all bytes; this crate only hands slices over and puts names to numbers.
 //!
 //! ```
@@ -20,6 +21,25 @@
 //! # Ok::<(), typebook::Refusal>(())
 //! ```
 //!
+//! What was read can be changed by name and written back; what isn't named keeps its bytes:
+//!
+//! ```
+//! use typebook::TypeBook;
+//! # let folder = concat!(env!("CARGO_MANIFEST_DIR"), "/../../examples/glue/");
+//! # let file = |name: &str| std::fs::read(format!("{folder}{name}"));
+//! let book = TypeBook::new(file("book.bin")?)?;
+//! let image = file("mem.bin")?;
+//! let recipe = book.root(0)?;
+//!
+//! let mut tape = recipe.read(8, &image)?;
+//! tape.edit("Tank.Target", 131.25)?;
+//! tape.edit("Nozzles[1].Flow", 355)?;
+//! let new = recipe.write(8, &image, &tape)?;
+//! assert_eq!(new.len(), image.len());
+//! # assert_eq!(new.iter().zip(&image).filter(|(a, b)| a != b).count(), 5);
+//! # Ok::<(), Box<dyn std::error::Error>>(())
+//! ```
+//!
 //! A refusal says which of document 01's nineteen it is, and what to do about it:
 //!
 //! ```
@@ -32,7 +52,9 @@
 #![deny(unsafe_code)]
 
 mod book;
+mod builder;
 mod category;
+mod edit;
 #[allow(unsafe_code)]
 mod ffi;
 mod refusal;
@@ -40,7 +62,9 @@ mod tape;
 pub mod text;
 
 pub use book::{Missing, ResolvedField, Room, Scratch, TypeBook, TypeRef};
+pub use builder::{BuildError, TapeBuilder};
 pub use category::Category;
+pub use edit::{EditError, New, Step};
 pub use ffi::total as calls;
 pub use refusal::Refusal;
 pub use tape::{Record, Records, Tape, Value};

@@ -1,10 +1,10 @@
-//! What a read gives: records, each with its value and, for keys and enumeration entries, its name.
+//! What a read gives and a write takes: records, each with its value and, for keys and enumeration entries, its name.
 
 use crate::book::name_in;
 use crate::ffi::total;
 use std::fmt;
 
-const RECORD: usize = 24;
+pub(crate) const RECORD: usize = 24;
 
 /// What one record says.
 #[derive(Debug, Clone, Copy, PartialEq)]
@@ -93,12 +93,22 @@ pub struct Record<'t> {
     pub value: Value<'t>,
 }
 
-/// The records of a read, and their texts.
+/// The bytes of a record.
+pub(crate) fn record(kind: u8, width: u8, a: u64, b: u64) -> [u8; RECORD] {
+    let mut bytes = [0; RECORD];
+    bytes[0] = kind;
+    bytes[1] = width;
+    bytes[8..16].copy_from_slice(&a.to_le_bytes());
+    bytes[16..].copy_from_slice(&b.to_le_bytes());
+    bytes
+}
+
+/// The records of a read or of a [`TapeBuilder`](crate::TapeBuilder), and their texts.
 #[derive(Clone)]
 pub struct Tape<'b> {
-    book: &'b [u8],
-    records: Vec<u8>,
-    text: Vec<u8>,
+    pub(crate) book: &'b [u8],
+    pub(crate) records: Vec<u8>,
+    pub(crate) text: Vec<u8>,
 }
 
 impl<'b> Tape<'b> {
@@ -111,7 +121,7 @@ impl<'b> Tape<'b> {
         self.records.len() / RECORD
     }
 
-    /// No read gives an empty tape.
+    /// No read and no builder gives an empty tape.
     pub fn is_empty(&self) -> bool {
         self.records.is_empty()
     }
@@ -149,13 +159,13 @@ impl<'b> Tape<'b> {
         }
     }
 
-    fn number(&self, at: usize) -> u64 {
+    pub(crate) fn number(&self, at: usize) -> u64 {
         let mut bytes = [0; 8];
         bytes.copy_from_slice(&self.records[at..at + 8]);
         u64::from_le_bytes(bytes)
     }
 
-    fn value(&self, at: usize) -> (Option<u32>, Value<'_>) {
+    pub(crate) fn value(&self, at: usize) -> (Option<u32>, Value<'_>) {
         let bits = 8 * u32::from(self.records[at + 1]);
         let (a, b) = (self.number(at + 8), self.number(at + 16));
         let name = || name_in(self.book, a as u32, total::name);
@@ -178,7 +188,7 @@ impl<'b> Tape<'b> {
 
     fn text_part(&self, start: u64, len: u64) -> &str {
         let bytes = &self.text[start as usize..(start + len) as usize];
-        std::str::from_utf8(bytes).expect("the reader's texts are UTF-8")
+        std::str::from_utf8(bytes).expect("a tape's texts are UTF-8")
     }
 }
 

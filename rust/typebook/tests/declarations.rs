@@ -10,6 +10,7 @@ type Signature = (Vec<String>, String);
 /// The text between a function's parentheses and its answer; `head` is cut off already.
 fn signature(text: &str, as_c: fn(&str) -> Vec<&str>) -> (String, Signature) {
     let (name, rest) = text.split_once('(').expect("a list of arguments");
+    let name = name.trim_end_matches("<'a>");
     let (arguments, rest) = rest.split_once(')').expect("its end");
     let types = arguments
         .split(',')
@@ -39,7 +40,7 @@ fn signatures(text: &str, head: &str, as_c: fn(&str) -> Vec<&str>) -> BTreeMap<S
 /// A slice crosses as a pointer and a length.
 fn crossing(ty: &str) -> Vec<&str> {
     match ty {
-        "&[u8]" => vec!["*const u8", "usize"],
+        "&[u8]" | "&'a [u8]" => vec!["*const u8", "usize"],
         "&[u32]" => vec!["*const u32", "usize"],
         "&mut [u8]" => vec!["*mut u8", "usize"],
         "&mut [u32]" => vec!["*mut u32", "usize"],
