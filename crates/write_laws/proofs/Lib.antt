@@ -1,0 +1,4 @@
+mod Sizes
+mod Ranges
+mod Outside
+pub mod Wholes
