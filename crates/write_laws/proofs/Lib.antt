@@ -2,3 +2,4 @@ mod Sizes
 mod Ranges
 mod Outside
 pub mod Wholes
+pub mod Ends
