@@ -1,11 +1,16 @@
--- The laws of the writer, as claims about the definitions of ser and tape_form. Assumes nothing.
+-- The laws of the writer, as claims about the definitions of ser, tape_form and de. Assumes nothing.
 use mathlib.Core.Path.{_≡_}
 use mathlib.Core.Bool.{true, false}
 use mathlib.Core.Logic.{_↔_}
 use mathlib.Core.List.{List}
-use Prim.Native.Nat.{ℕ}
+use Prim.Native.Nat.{ℕ, _*_, _^_, _≤_, _<_}
 use lib.ListN.{length, take}
+use Rattle.number.specs.Le.{Bytes}
 use Rattle.tape_form.specs.Form.{formed}
+use Rattle.steps.specs.declared.ReadAnswer.{ReadAnswer}
+use Rattle.steps.specs.declared.ReadAnswer.the-variants as reading
+use Rattle.steps.specs.Answer.{ReadIs}
+use Rattle.de.specs.Read.{readTrace}
 use Rattle.ser.specs.declared.WriteAnswer.{WriteAnswer}
 use Rattle.ser.specs.declared.WriteAnswer.the-variants.{Done, Refused}
 use Rattle.ser.specs.Write.{Ctx, ctx, Outcome, went, refused}
@@ -37,3 +42,12 @@ FormedEnds = (c : Ctx) (t : ℕ) (image : List ℕ) → formed (c .book) (c .tap
 abbrev pub SixteenIsForm : Type 0
 SixteenIsForm =
     (c : Ctx) (n : ℕ) (image : List ℕ) → (answerOf (bookWrite c n (length image) image) ≡ Refused 16) ↔ (formed (c .book) (c .tape) (c .text) ≡ false)
+
+-- what an accepted read of any bytes leaves, k records on the tape and m bytes in the text buffer, is a well-formed tape of the book, with any
+-- first part of the text buffer that has these m bytes
+abbrev pub ReadIsFormed : Type 0
+ReadIsFormed =
+    (buffer : List ℕ) (len width n : ℕ) (mem tape txt : List ℕ) (r : ReadAnswer) (tape′ txt′ : List ℕ) (k m room : ℕ)
+    → Bytes buffer → Bytes mem → length txt < 2 ^ 64
+    → ReadIs (readTrace buffer len width n mem) tape txt r tape′ txt′ → r ≡ reading.Done k m → m ≤ room
+    → formed (take len buffer) (take (24 * k) tape′) (take room txt′) ≡ true
