@@ -1,0 +1,11 @@
+-- Where a write goes: leaves keep their length (Sizes), what is kept outside ranges (Ranges), along the walk (Outside), of a whole write (Wholes).
+-- The tape's form: the walk of a write follows it (Ends); a read's leaves are in their ranges (ReadLeaf), its records those of a tree
+-- (ReadTree), its tape well formed (ReadForm).
+mod Sizes
+mod Ranges
+mod Outside
+pub mod Wholes
+pub mod Ends
+mod ReadLeaf
+mod ReadTree
+pub mod ReadForm

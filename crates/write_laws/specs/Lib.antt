@@ -1,0 +1,3 @@
+-- The ranges that a write touches, and the laws.
+pub mod Touched
+pub mod Laws

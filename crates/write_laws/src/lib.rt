@@ -1,0 +1,1 @@
+// Laws of the writer: specs/ states them, proofs/ proves them.
