@@ -9,3 +9,7 @@ pub mod Ends
 mod ReadLeaf
 mod ReadTree
 pub mod ReadForm
+mod TextId
+mod TripLeaf
+mod TripWalk
+pub mod RoundTrip

@@ -143,10 +143,16 @@ module _ (tape txt tape′ txt′ : List ℕ) (k m : ℕ) where
   unfolding stepOf
   told t r h e = told-by t (fits (eventsOf t) 0 0 (length tape) (length txt)) refl (sym e ∙ h .answer) (h .tape-is) (h .text-is)
 
-  -- a tape that was read is well formed
-  told-formed : (book : List ℕ) (t : Trace) → Reads book t → Told t tape txt tape′ txt′ k m → length txt < 2 ^ 64 → (room : ℕ) → m ≤ room
-      → formed book (take (24 * k) tape′) (take room txt′) ≡ true
-  told-formed book t h d small room l =
+  -- the events of an accepted read, as they stand in the two buffers
+  pub record Standing (t : Trace) (room : ℕ) : Type 0 where
+    pub events : List Event
+    pub is : t ≡ done events
+    pub records : take (24 * k) tape′ ≡ tapeBytes 0 events
+    pub texts : Stands (take room txt′) 0 (textBytes events)
+    pub small : length (take room txt′) < 2 ^ 64
+
+  standing : (book : List ℕ) (t : Trace) → Reads book t → Told t tape txt tape′ txt′ k m → length txt < 2 ^ 64 → (room : ℕ) → m ≤ room → Standing t room
+  standing book t h d small room l =
       let es = d .events in
       let xs : List ℕ = textBytes es in
       let fit : length xs ≤ room = let z = d .size in omega (arith, z, l) in
@@ -154,11 +160,31 @@ module _ (tape txt tape′ txt′ : List ℕ) (k m : ℕ) where
       let g : Emits book buffer (Value book buffer 64) (done es) = rw (d .is) at (h .forms buffer (part-small xs txt room fit (d .room) small)) in
       let v : Value book buffer 64 0 es = g .emits 0 (part-stands xs txt room fit) in
       let c : 24 * k ≡ length (tapeBytes 0 es) = ap (λ (n : ℕ). 24 * n) (d .count) ∙ whole-records book buffer es v in
-      let p : take (24 * k) tape′ ≡ tapeBytes 0 es = rw (c, d .tape-is) (take-append-seam (tapeBytes 0 es) (drop (length (tapeBytes 0 es)) tape)) in
-      rw (d .text-is) (value-formed book buffer es v (take (24 * k) tape′) p)
+      record {
+        events = es;
+        is = d .is;
+        records = rw (c, d .tape-is) (take-append-seam (tapeBytes 0 es) (drop (length (tapeBytes 0 es)) tape));
+        texts = rw (d .text-is) (part-stands xs txt room fit);
+        small = rw (d .text-is) (part-small xs txt room fit (d .room) small);
+      }
+
+  -- a tape that was read is well formed
+  stands-formed : (book : List ℕ) (t : Trace) → Reads book t → (room : ℕ) → Standing t room → formed book (take (24 * k) tape′) (take room txt′) ≡ true
+  stands-formed book t h room s =
+      let g : Emits book (take room txt′) (Value book (take room txt′) 64) (done (s .events)) = rw (s .is) at (h .forms (take room txt′) (s .small)) in
+      value-formed book (take room txt′) (s .events) (g .emits 0 (s .texts)) (take (24 * k) tape′) (s .records)
+
+pub read-stands : (buffer : List ℕ) (len width n : ℕ) (mem tape txt : List ℕ) (r : ReadAnswer) (tape′ txt′ : List ℕ) (k m room : ℕ)
+    → Bytes buffer → Bytes mem → length txt < 2 ^ 64
+    → ReadIs (readTrace buffer len width n mem) tape txt r tape′ txt′ → r ≡ reading.Done k m → m ≤ room
+    → Standing tape txt tape′ txt′ k m (readTrace buffer len width n mem) room
+unfolding readTrace
+read-stands buffer len width n mem tape txt r tape′ txt′ k m room p b small h e l =
+    standing tape txt tape′ txt′ k m (take len buffer) _ (by-check buffer len width n mem p b (checkRoot buffer len n) refl)
+    (told tape txt tape′ txt′ k m _ r h e) small room l
 
 pub read-is-formed : ReadIsFormed
 unfolding readTrace
 read-is-formed buffer len width n mem tape txt r tape′ txt′ k m room p b small h e l =
-    told-formed tape txt tape′ txt′ k m (take len buffer) _ (by-check buffer len width n mem p b (checkRoot buffer len n) refl)
-    (told tape txt tape′ txt′ k m _ r h e) small room l
+    stands-formed tape txt tape′ txt′ k m (take len buffer) _ (by-check buffer len width n mem p b (checkRoot buffer len n) refl) room
+    (read-stands buffer len width n mem tape txt r tape′ txt′ k m room p b small h e l)

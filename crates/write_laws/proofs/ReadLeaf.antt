@@ -229,7 +229,7 @@ module _ (book : List ℕ) (mem : List ℕ) (b : Bytes mem) where
       by false q = q
 
   module _ (valid : ValidBook book) (width t : ℕ) (y : isType book t ≡ true) where
-    enum-fine : FineValue book (enumLeaf book t mem)
+    pub enum-fine : FineValue book (enumLeaf book t mem)
     unfolding enumLeaf
     enum-fine =
         let d = valid-type book valid t y in

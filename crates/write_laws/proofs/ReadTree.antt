@@ -57,12 +57,12 @@ bytes-take n s b i = by (leb n i) refl
         rw (List·getD-eq-default (take n s) 0 m) (omega arith)
     by false e = rw (getD-take n s i 0 (leb-false n i e)) (b i)
 
-u32-small : (book : List ℕ) → Bytes book → (n k : ℕ) → u32At book n k < 2 ^ 32
+pub u32-small : (book : List ℕ) → Bytes book → (n k : ℕ) → u32At book n k < 2 ^ 32
 u32-small book b n k =
     leValue-below 4 (take 4 (drop (n * 512 + k) book)) (bytes-take 4 (drop (n * 512 + k) book) (bytes-drop (n * 512 + k) book b)) (simp length-take (omega arith))
 
 -- numbers of at most eight bytes
-pow-most : (w : ℕ) → w ≤ 8 → 2 ^ (8 * w) ≤ 2 ^ 64
+pub pow-most : (w : ℕ) → w ≤ 8 → 2 ^ (8 * w) ≤ 2 ^ 64
 pow-most w h = pow-mono {i = 8 * w} {j = 64} (omega arith)
 
 -- ---- a field's type
@@ -72,8 +72,8 @@ TypedBy book (answer.Field f) = isType book (f .resolved) ≡ true
 TypedBy book (answer.Lacks b) = Unit {0}
 TypedBy book answer.Endless = Unit {0}
 
-record TypedField (book : List ℕ) (a : FieldAnswer) : Type 0 where
-  typed : TypedBy book a
+pub record TypedField (book : List ℕ) (a : FieldAnswer) : Type 0 where
+  pub typed : TypedBy book a
 
 of-typed : (book : List ℕ) (f n : ℕ) (r : Resolved) → ((u : ℕ) → r ≡ resolved.Base u → isType book u ≡ true) → TypedField book (fieldOf book f n r)
 unfolding fieldOf
@@ -90,7 +90,7 @@ unfolding fieldFound
 found-typed book width f (found.At n) e = of-typed book f n (resolveAlias book width n) (base-typed book width n (found-type book (typeNameOf book f) n e))
 found-typed book width f found.Nothing e = record { typed = tt }
 
-field-typed : (book : List ℕ) (width f : ℕ) → TypedField book (resolveField book width f)
+pub field-typed : (book : List ℕ) (width f : ℕ) → TypedField book (resolveField book width f)
 unfolding resolveField
 field-typed book width f = found-typed book width f (find book (typeNameOf book f)) refl
 
@@ -162,7 +162,7 @@ module _ (book buffer : List ℕ) where
   pub record Emits (P : ℕ → List Event → Type 0) (t : Trace) : Type 0 where
     pub emits : EmitsBy P t
 
-  emits-refused : (P : ℕ → List Event → Type 0) (n b : ℕ) → Emits P (refuse n b)
+  pub emits-refused : (P : ℕ → List Event → Type 0) (n b : ℕ) → Emits P (refuse n b)
   emits-refused P n b = record { emits = tt }
 
   emits-if : (P : ℕ → List Event → Type 0) (x : Bool) (t : Trace) (n b : ℕ) → Emits P t → Emits P (cond x t (refuse n b))
@@ -176,7 +176,7 @@ module _ (book buffer : List ℕ) where
   emits-checked P check.Endless t p = emits-refused P 8 0
 
   -- one trace after another
-  emits-then : (P Q R : ℕ → List Event → Type 0) (t u : Trace) → Emits P t → Emits Q u
+  pub emits-then : (P Q R : ℕ → List Event → Type 0) (t u : Trace) → Emits P t → Emits Q u
       → ((from : ℕ) (es fs : List Event) → P from es → Q (from + length (textBytes es)) fs → R from (es ++ fs)) → Emits R (t then u)
   unfolding _then_
   emits-then P Q R (done xs) (done ys) p q f =
@@ -190,7 +190,7 @@ module _ (book buffer : List ℕ) where
   emits-then P Q R (stop xs n b) u p q f = record { emits = tt }
 
   -- one record before a trace
-  emits-after : (Q R : ℕ → List Event → Type 0) (k w a b : ℕ) (u : Trace) → Emits Q u
+  pub emits-after : (Q R : ℕ → List Event → Type 0) (k w a b : ℕ) (u : Trace) → Emits Q u
       → ((from : ℕ) (fs : List Event) → Q from fs → R from (rec k w a b ∷ fs)) → Emits R (one (rec k w a b) then u)
   unfolding textBytes
   emits-after Q R k w a b u q f =

@@ -10,12 +10,14 @@ use Rattle.tape_form.specs.Form.{formed}
 use Rattle.steps.specs.declared.ReadAnswer.{ReadAnswer}
 use Rattle.steps.specs.declared.ReadAnswer.the-variants as reading
 use Rattle.steps.specs.Answer.{ReadIs}
+use Rattle.de.specs.Walk as de
 use Rattle.de.specs.Read.{readTrace}
 use Rattle.ser.specs.declared.WriteAnswer.{WriteAnswer}
 use Rattle.ser.specs.declared.WriteAnswer.the-variants.{Done, Refused}
 use Rattle.ser.specs.Write.{Ctx, ctx, Outcome, went, refused}
 use Rattle.ser.specs.Call.{typeWrite, bookWrite, answerOf, writeCall, Wrote}
 use Rattle.write_laws.specs.Touched.{OnlyIn, leavesOf}
+use Rattle.write_laws.specs.Trip.{isKept}
 
 -- "for an accepted write, a leaf being where such a record goes, every output byte outside the leaves that the tape names equals the image's";
 -- the output is as long as the image, and the leaves lie inside it
@@ -51,3 +53,18 @@ ReadIsFormed =
     → Bytes buffer → Bytes mem → length txt < 2 ^ 64
     → ReadIs (readTrace buffer len width n mem) tape txt r tape′ txt′ → r ≡ reading.Done k m → m ≤ room
     → formed (take len buffer) (take (24 * k) tape′) (take room txt′) ≡ true
+
+-- an accepted write that left the bytes as they were
+pub record GivenBack (w : WriteAnswer) (mem new : List ℕ) : Type 0 where
+  pub done : w ≡ Done
+  pub same : new ≡ mem
+
+-- the round trip: the tape that an accepted read of some bytes left, written over these bytes, gives them back, where they are kept
+abbrev pub RoundTrip : Type 0
+RoundTrip =
+    (buffer : List ℕ) (len width n : ℕ) (mem tape txt : List ℕ) (r : ReadAnswer) (tape′ txt′ : List ℕ) (k m room : ℕ) (output : List ℕ) (w : WriteAnswer)
+    (new : List ℕ)
+    → Bytes buffer → Bytes mem → length txt < 2 ^ 64
+    → ReadIs (readTrace buffer len width n mem) tape txt r tape′ txt′ → r ≡ reading.Done k m → m ≤ room
+    → isKept (de.ctx (take len buffer) width) n mem ≡ true → length output ≡ length mem
+    → Wrote (writeCall buffer len width n mem (length output) (take (24 * k) tape′) (take room txt′)) mem output w new → GivenBack w mem new

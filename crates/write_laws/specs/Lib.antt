@@ -1,3 +1,4 @@
--- The ranges that a write touches, and the laws.
+-- The ranges that a write touches, the premises of the round trip, and the laws.
 pub mod Touched
+pub mod Trip
 pub mod Laws

@@ -1,0 +1,92 @@
+-- The round trip. Assumes nothing.
+use mathlib.Core.Path.{_≡_, refl, sym, ap, _∙_}
+use mathlib.Core.Bool.{Bool, true, false, cond}
+use mathlib.Core.List.{List, [], append-nil}
+use Prim.Native.Nat.{ℕ, _+_, _*_, _^_, _≤_, _<_}
+use native.Mathlib.Omega.{arith}
+use borrow.Author.Tests.{eq-eqb}
+use lib.ListN.{length, take, drop}
+use lib.Dec.{eqb}
+use Rattle.number.specs.Le.{Bytes}
+use Rattle.typebook.specs.Book.{isType}
+use Rattle.book_check.specs.Check.{ValidBook, checkRoot}
+use Rattle.book_check.specs.declared.RootCheck.{RootCheck}
+use Rattle.book_check.specs.declared.RootCheck.the-variants as root
+use Rattle.book_check.proofs.Valid.{root-valid}
+use Rattle.resolvers.specs.Resolve.{resolveAlias}
+use Rattle.resolvers.specs.declared.Resolved.{Resolved}
+use Rattle.resolvers.specs.declared.Resolved.the-variants as resolved
+use Rattle.tape.specs.declared.cursor.Cursor.{Cursor}
+use Rattle.tape_form.specs.Form.{formed}
+use Rattle.steps.specs.Trace.{Event, Trace, done, textBytes, tapeBytes, refuse}
+use Rattle.de.specs.Walk as de
+use Rattle.de.specs.Read as reading
+use Rattle.ser.specs.declared.WriteAnswer.{WriteAnswer}
+use Rattle.ser.specs.declared.WriteAnswer.the-variants.{Done}
+use Rattle.ser.specs.Write as ser
+use Rattle.ser.specs.Write.{Outcome, went, refused}
+use Rattle.ser.specs.Call.{typeWrite, rootBy, rootWrite, bookWrite, checkedWrite, writeCall, Wrote}
+use Rattle.write_laws.specs.Trip as trip
+use Rattle.write_laws.specs.Laws.{GivenBack, RoundTrip}
+use Rattle.write_laws.proofs.Sizes.{different}
+use Rattle.write_laws.proofs.ReadTree.{Stands, Emits, bytes-take, base-typed}
+use Rattle.write_laws.proofs.ReadForm.{Standing, read-stands, read-is-formed}
+use Rattle.write_laws.proofs.TripWalk.{Back, place, walk-back}
+
+-- an accepted outcome with these bytes
+record Same (o : Outcome) (mem : List ℕ) : Type 0 where
+  at : Cursor
+  is : o ≡ went at mem
+
+module _ (book buffer tape : List ℕ) (small : length buffer < 2 ^ 64) (width : ℕ) (mem : List ℕ) (b : Bytes mem) (es : List Event)
+    (records : tape ≡ tapeBytes 0 es) (texts : Stands buffer 0 (textBytes es)) where
+  by-type : ValidBook book → Bytes book → (t : ℕ) → isType book t ≡ true → trip.walkKept (de.ctx book width) 64 (de.whole t) mem ≡ true
+      → de.walk (de.ctx book width) 64 (de.whole t) mem ≡ done es → Same (typeWrite (ser.ctx book width tape buffer) t mem) mem
+  unfolding typeWrite
+  by-type v p t y h e =
+      let g : Emits book buffer (Back book buffer tape (ser.walk (ser.ctx book width tape buffer) 64 (ser.whole t)) mem) (done es) =
+      rw e at (walk-back book buffer tape small v p width 64 (de.whole t) mem y b h) in
+      record { at = _; is = g .emits 0 texts .back 0 [] (records ∙ sym (append-nil (tapeBytes 0 es))) }
+
+  by-root : ValidBook book → Bytes book → (r : Resolved) → ((u : ℕ) → r ≡ resolved.Base u → isType book u ≡ true) → trip.rootKept (de.ctx book width) mem r ≡ true
+      → reading.rootBy (de.ctx book width) mem r ≡ done es → Same (rootBy (ser.ctx book width tape buffer) mem r) mem
+  unfolding reading.rootBy rootBy trip.rootKept
+  by-root v p (resolved.Base t) y h e = by-type v p t (y t refl) h e
+  by-root v p (resolved.Lacks n) y h e = different cc
+  by-root v p resolved.Endless y h e = different cc
+
+  book-same : ValidBook book → Bytes book → (n : ℕ) → isType book n ≡ true → trip.isKept (de.ctx book width) n mem ≡ true → reading.rootTrace (de.ctx book width) n mem ≡ done es
+      → formed book tape buffer ≡ true → Same (bookWrite (ser.ctx book width tape buffer) n (length mem) mem) mem
+  unfolding bookWrite rootWrite reading.rootTrace trip.isKept
+  book-same v p n y h e f =
+      let s = by-root v p (resolveAlias book width n) (base-typed book width n y) h e in
+      record { at = s .at; is = rw (eq-eqb (length mem) (length mem) refl, f) (s .is) }
+
+call-same : (buffer : List ℕ) (len width n : ℕ) (mem tape text : List ℕ) → Bytes buffer → Bytes mem → length text < 2 ^ 64 → (es : List Event) → tape ≡ tapeBytes 0 es → Stands text 0 (textBytes es)
+    → trip.isKept (de.ctx (take len buffer) width) n mem ≡ true → formed (take len buffer) tape text ≡ true
+    → (k : RootCheck) → checkRoot buffer len n ≡ k → reading.checkedTrace (take len buffer) width mem k ≡ done es
+    → Same (checkedWrite (ser.ctx (take len buffer) width tape text) (length mem) mem k) mem
+unfolding reading.checkedTrace checkedWrite
+call-same buffer len width n mem tape text p b small es records texts h f (root.Root m) e q =
+    let v = root-valid buffer len n m e in
+    let z : m ≡ n = v .is in
+    book-same (take len buffer) text tape small width mem b es records texts (v .valid) (bytes-take len buffer p) m (v .kind) (rw z h) q f
+call-same buffer len width n mem tape text p b small es records texts h f (root.Refused k) e q = different cc
+
+-- an accepted call's answer and output
+given : (o : Outcome) (mem output : List ℕ) (w : WriteAnswer) (new : List ℕ) → Same o mem → length output ≡ length mem → Wrote o mem output w new → GivenBack w mem new
+given o mem output w new s l x =
+    record {
+      done = x .answer ∙ rw (s .is);
+      same = x .output-is ∙ rw (s .is, eq-eqb (length output) (length mem) l);
+    }
+
+pub round-trip : RoundTrip
+unfolding writeCall reading.readTrace
+round-trip buffer len width n mem tape txt r tape′ txt′ k m room output w new p b small h e l kept same x =
+    let s = read-stands buffer len width n mem tape txt r tape′ txt′ k m room p b small h e l in
+    let f = read-is-formed buffer len width n mem tape txt r tape′ txt′ k m room p b small h e l in
+    given _ mem output w new
+    (rw same
+    (call-same buffer len width n mem (take (24 * k) tape′) (take room txt′) p b (s .small) (s .events) (s .records) (s .texts) kept f (checkRoot buffer len n) refl (s .is)))
+    same x
