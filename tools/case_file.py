@@ -62,6 +62,9 @@ is as before, and if all that it has to leave zero is zero (the walks' scratch; 
     73  read                               width, u32 root, u16 bytes  0, u32 records, u32 text bytes, the records packed, kept
                                     of tape, u16 of text room,  (tape), the text packed, kept (text); or a refusal, kept
                                     memory                      (tape), kept (text)
+    74  write                              width, u32 root, u16 bytes  0 or a refusal, then lent (the output)
+                                    of image, u16 of text,
+                                    image, text, the tape packed
 """
 
 import struct
@@ -73,7 +76,7 @@ CODE_POINT, BYTE_OF, STRING_END, DECODED_LEN, DECODE, ENCODED_LEN, ENCODE = rang
 WSTRING_END, WDECODED_LEN, WDECODE, WENCODED_LEN, WENCODE = range(8, 13)
 WELL_FORMED, ITEMS, PUT, UTF8_LEN = range(13, 17)
 TYPE_ID, LE_VALUE, LE_U32, LE_STORE, INTEGER_READ, INTEGER_WRITE, REAL_READ, REAL_WRITE = range(32, 40)
-BOOK, CHECK, CHANGED, CATEGORY, ALIAS, INDIRECTION, RMW, MISSING, FIELDS, READ = range(64, 74)
+BOOK, CHECK, CHANGED, CATEGORY, ALIAS, INDIRECTION, RMW, MISSING, FIELDS, READ, WRITE = range(64, 75)
 
 
 def u16(n):

@@ -1,8 +1,10 @@
-//! Times the port against the original Rust: both walks, and reads by a visitor that accepts all. The book is checked (the
+//! Times the port against the original Rust: both walks, reads by a visitor that accepts all, and writes of what was read. The book is checked (the
 //! port) and decoded into the library's own descriptions behind a HashMap (the original) beforehand; what that takes is
 //! printed beside.
 
+use serde::Serialize;
 use serde::de::{DeserializeSeed, Deserializer, EnumAccess, Error, MapAccess, SeqAccess, VariantAccess, Visitor};
+use serde::ser::{SerializeMap, SerializeSeq, Serializer};
 use speed::{head, keep, pair, shown, turns};
 use std::fmt;
 use tcads_core::{
@@ -10,9 +12,10 @@ use tcads_core::{
 };
 use tcads_serde::de::AdsDeserializer;
 use tcads_serde::resolvers::{missing_types, requires_read_modify_write};
+use tcads_serde::ser::AdsSerializer;
 use tcads_serde::{AdsTypeCache, TypeProvider};
 use twin::block;
-use typebook::{Scratch, TypeBook};
+use typebook::{Scratch, Tape, TypeBook, Value};
 
 const WIDTH: u8 = 8;
 
@@ -359,7 +362,176 @@ fn whole_read(bytes: &[u8], memory: &[u8], records: usize, texts: usize) {
     );
 }
 
-/// All tables, or those that are named: walks, struct, array.
+/// A value as a program holds it that writes it with the original: made of a tape before anything is timed.
+enum Held<'t> {
+    Array(Vec<Held<'t>>),
+    Map(Vec<(&'t str, Held<'t>)>),
+    Leaf(Value<'t>),
+}
+
+/// The value that begins at a record, and how many records it has.
+fn held<'t>(records: &[Value<'t>]) -> (Held<'t>, usize) {
+    let mut at = 1;
+    match records[0] {
+        Value::Array(_) => {
+            let mut items = Vec::new();
+            while records[at] != Value::End {
+                let (item, taken) = held(&records[at..]);
+                items.push(item);
+                at += taken;
+            }
+            (Held::Array(items), at + 1)
+        }
+        Value::Map(_) => {
+            let mut items = Vec::new();
+            while let Value::Key(key) = records[at] {
+                let (item, taken) = held(&records[at + 1..]);
+                items.push((key, item));
+                at += 1 + taken;
+            }
+            (Held::Map(items), at + 1)
+        }
+        leaf => (Held::Leaf(leaf), 1),
+    }
+}
+
+impl Serialize for Held<'_> {
+    fn serialize<S: Serializer>(&self, s: S) -> Result<S::Ok, S::Error> {
+        match self {
+            Held::Array(items) => {
+                let mut seq = s.serialize_seq(None)?;
+                items.iter().try_for_each(|item| seq.serialize_element(item))?;
+                seq.end()
+            }
+            Held::Map(items) => {
+                let mut map = s.serialize_map(None)?;
+                for (key, item) in items {
+                    map.serialize_key(key)?;
+                    map.serialize_value(item)?;
+                }
+                map.end()
+            }
+            Held::Leaf(leaf) => leaf_by(*leaf, s),
+        }
+    }
+}
+
+fn leaf_by<S: Serializer>(leaf: Value, s: S) -> Result<S::Ok, S::Error> {
+    match leaf {
+        Value::Bool(v) => s.serialize_bool(v),
+        Value::Int { bits: 8, value } => s.serialize_i8(value as i8),
+        Value::Int { bits: 16, value } => s.serialize_i16(value as i16),
+        Value::Int { bits: 32, value } => s.serialize_i32(value as i32),
+        Value::Int { value, .. } => s.serialize_i64(value),
+        Value::Nat { bits: 8, value } => s.serialize_u8(value as u8),
+        Value::Nat { bits: 16, value } => s.serialize_u16(value as u16),
+        Value::Nat { bits: 32, value } => s.serialize_u32(value as u32),
+        Value::Nat { value, .. } => s.serialize_u64(value),
+        Value::Real32(bits) => s.serialize_f32(f32::from_bits(bits)),
+        Value::Real64(bits) => s.serialize_f64(f64::from_bits(bits)),
+        Value::Text(text) => s.serialize_str(text),
+        // No enumeration is timed: serde wants static names for their entries.
+        _ => s.serialize_unit(),
+    }
+}
+
+fn writes(what: &str, (bytes, memory): (Vec<u8>, Vec<u8>)) {
+    let (book, cache) = (TypeBook::new(&bytes[..]).expect("valid"), cache(&bytes));
+    let (port, original) = (book.root(0).expect("a type"), root(&cache, &bytes));
+    let tape = port.read(WIDTH, &memory).expect("read");
+    let values: Vec<Value> = tape.iter().map(|r| r.value).collect();
+    let value = held(&values).0;
+    let image = vec![0x5A; memory.len()];
+    let (mut output, mut other) = (image.clone(), image.clone());
+
+    head(&format!("write, {what}: {} records", tape.len()), "original");
+    pair(
+        "book checked before; the original from values in memory",
+        101,
+        || port.write_into(WIDTH, &image, tape.bytes(), tape.text(), &mut output),
+        || {
+            other.copy_from_slice(&image);
+            value.serialize(AdsSerializer::new(&mut other, &original, &cache))
+        },
+    );
+    assert_eq!(output, other);
+    form_alone(&tape, port, &image);
+    whole_write(&bytes, &image, &tape);
+}
+
+/// The form alone: one record more at the end, so that 16 is found when all is looked at; the image is copied once more.
+fn form_alone(tape: &Tape, port: typebook::TypeRef, image: &[u8]) {
+    let mut longer = tape.bytes().to_vec();
+    longer.extend_from_slice(&[13, 0, 0, 0, 0, 0, 0, 0, 0, 0, 0, 0, 0, 0, 0, 0, 0, 0, 0, 0, 0, 0, 0, 0]);
+    let mut output = image.to_vec();
+    let form = || keep(port.write_into(WIDTH, image, &longer, tape.text(), &mut output));
+    let t = turns(101, &mut [&mut { form }]);
+    println!(
+        "{:58} {:>12}",
+        "  of which the form of the tape, with a copy of the image",
+        shown(t[0])
+    );
+}
+
+fn whole_write(bytes: &[u8], image: &[u8], tape: &Tape) {
+    let (mut output, len) = (image.to_vec(), bytes.len());
+    let (records, text) = (tape.bytes(), tape.text());
+    let whole = || {
+        let values = &mut [0; 1];
+        keep(typebook::calls::write(
+            bytes,
+            len,
+            WIDTH,
+            0,
+            image,
+            records,
+            text,
+            &mut output,
+            values,
+        ))
+    };
+    let t = turns(
+        9,
+        &mut [&mut { whole }, &mut || keep(typebook::calls::check_book(bytes, len))],
+    );
+    println!(
+        "{:58} {:>12} of which the check {}",
+        "whole call",
+        shown(t[0]),
+        shown(t[1])
+    );
+}
+
+/// A tape of a million records: an array of INTs.
+fn million() {
+    let (bytes, memory) = speed::array_of_ints(999_998);
+    let book = TypeBook::new(&bytes[..]).expect("valid");
+    let port = book.root(0).expect("a type");
+    let tape = port.read(WIDTH, &memory).expect("read");
+    let cache = cache(&bytes);
+    let original = root(&cache, &bytes);
+    let values: Vec<Value> = tape.iter().map(|r| r.value).collect();
+    let value = held(&values).0;
+    let (mut output, mut other) = (memory.clone(), memory.clone());
+    let t = turns(
+        9,
+        &mut [
+            &mut || keep(port.write_into(WIDTH, &memory, tape.bytes(), tape.text(), &mut output)),
+            &mut || {
+                other.copy_from_slice(&memory);
+                keep(value.serialize(AdsSerializer::new(&mut other, &original, &cache)))
+            },
+        ],
+    );
+    assert!(output == memory && other == memory);
+    head("write, an array of 999,998 INTs: 1,000,000 records", "original");
+    speed::line("book checked before; the original from values in memory", t[0], t[1]);
+    let rate = tape.len() as f64 / t[0].as_secs_f64() / 1e6;
+    println!("{:58} {rate:>9.1} million records a second", "  by its rate");
+    form_alone(&tape, port, &memory);
+}
+
+/// All tables, or those that are named: walks, struct, array, write-struct, write-array, write-million.
 fn main() {
     let named: Vec<String> = std::env::args().skip(1).collect();
     let wanted = |table: &str| named.is_empty() || named.iter().any(|n| n == table);
@@ -371,5 +543,14 @@ fn main() {
     }
     if wanted("array") {
         reads("an array of 10,000 structs of 6 fields", speed::array_of_10_000());
+    }
+    if wanted("write-struct") {
+        writes("a struct of 200 fields among 4,096 types", speed::struct_of_200());
+    }
+    if wanted("write-array") {
+        writes("an array of 10,000 structs of 6 fields", speed::array_of_10_000());
+    }
+    if wanted("write-million") {
+        million();
     }
 }

@@ -12,12 +12,13 @@ mod replay;
 mod report;
 mod resolving;
 mod sums;
+mod writes;
 
 fn main() {
     let mut book = replay::book_buffer();
     texts_and_numbers(&mut book);
     checks_and_walks(&mut book);
-    reads_and_limits(&mut book);
+    reads_and_writes(&mut book);
 }
 
 // Each file has the buffer for the book that is kept from case to case.
@@ -34,7 +35,8 @@ fn checks_and_walks(book: &mut [u8]) {
     replay::file(b"walks", book);
 }
 
-fn reads_and_limits(book: &mut [u8]) {
+fn reads_and_writes(book: &mut [u8]) {
     replay::file(b"reads", book);
     replay::file(b"limits", book);
+    replay::file(b"writes", book);
 }

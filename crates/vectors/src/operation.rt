@@ -7,6 +7,7 @@ use crate::encodings;
 use crate::numbers;
 use crate::reads;
 use crate::resolving;
+use crate::writes;
 use case_file::input::u32_at;
 
 // The operation that answers with as many numbers as its text has code points.
@@ -15,10 +16,12 @@ const ITEMS: u8 = 14;
 // The first operation on a book. It makes the kept book, and its answer is the book's length.
 const KEEP: u8 = 64;
 
-// The first operation with buffers of its own, and the one that reads.
+// The first operation with buffers of its own, the one that reads and the one that writes.
 const WALKS: u8 = 70;
 
 const READ: u8 = 73;
+
+const WRITE: u8 = 74;
 
 // Puts the answer of an operation at the start of `answer` and returns its length. `book` keeps a type book of `len` bytes
 // from case to case. The buffer `out` that a case lends is empty where the operation takes none. An operation that is not there
@@ -36,6 +39,9 @@ pub(crate) fn run(
     }
     if operation == READ {
         return reads::read(input, book, len, answer);
+    }
+    if operation == WRITE {
+        return writes::write(input, book, len, out, answer);
     }
     if operation >= WALKS {
         return resolving::run(operation, input, book, len, answer);

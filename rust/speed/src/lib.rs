@@ -74,6 +74,12 @@ pub fn array_of_10_000() -> (Vec<u8>, Vec<u8>) {
     (among(vec![root, element]), memory(size as usize))
 }
 
+/// An array of so many INTs in a book of 4,096 types, and a memory of it.
+pub fn array_of_ints(count: u32) -> (Vec<u8>, Vec<u8>) {
+    let root = Type::new("ARRAY OF INT").of("INT").size(2 * count).dimensions(&[count]);
+    (among(vec![root]), memory(2 * count as usize))
+}
+
 /// A struct of 5,000 fields, each of a type of its own, in a book of 60,000 types, and a memory of it.
 pub fn struct_among_60_000() -> (Vec<u8>, Vec<u8>) {
     let root = (0..5_000).fold(Type::new("ST_Machine").size(10_000), |t, i| {

@@ -1,4 +1,4 @@
-//! Times the static library against the plain twin: walks, reads, look-ups, checks, encodings.
+//! Times the static library against the plain twin: walks, reads, writes, look-ups, checks, encodings.
 //!
 //!     cargo run --release --offline -p speed
 //!
@@ -73,6 +73,23 @@ fn reads(what: &str, (bytes, memory): (Vec<u8>, Vec<u8>)) {
         || twin::calls::read_in(&twin, WIDTH, 0, &memory, &mut other, &mut others),
     );
     assert!(tape == other && text == others);
+}
+
+fn writes(what: &str, (bytes, memory): (Vec<u8>, Vec<u8>)) {
+    let (book, twin) = (TypeBook::new(&bytes[..]).expect("valid"), twin::Book::new(&bytes));
+    let root = book.root(0).expect("a type");
+    let tape = root.read(WIDTH, &memory).expect("read");
+    let (records, text) = (tape.bytes(), tape.text());
+    let (mut output, mut other) = (memory.clone(), memory.clone());
+
+    head(&format!("write, {what}"), "twin");
+    pair(
+        &format!("{} records, checked before", tape.len()),
+        41,
+        || root.write_into(WIDTH, &memory, records, text, &mut output),
+        || twin::calls::write_in(&twin, WIDTH, 0, &memory, records, text, &mut other),
+    );
+    assert!(output == other);
 }
 
 /// The whole call with its checks and its own index, in a book that has more types than the index of a short book has slots.
@@ -210,6 +227,9 @@ fn main() {
     reads("a struct of 200 fields among 4,096 types", speed::struct_of_200());
     reads("an array of 10,000 structs of 6 fields", speed::array_of_10_000());
     long_read(speed::struct_among_60_000());
+    writes("a struct of 200 fields among 4,096 types", speed::struct_of_200());
+    writes("an array of 10,000 structs of 6 fields", speed::array_of_10_000());
+    writes("an array of 999,998 INTs", speed::array_of_ints(999_998));
     checks();
     look_ups();
     head("texts of about 1 MB", "twin");

@@ -40,6 +40,31 @@ fn the_glue_recipe() {
     assert_eq!(printed(&folder), wanted);
 }
 
+/// A temperature changed and written back: its bytes change and no others.
+#[test]
+fn the_glue_recipe_edited() {
+    let folder = Path::new(env!("CARGO_MANIFEST_DIR")).join("../../examples/glue");
+    let file = |name: &str| std::fs::read(folder.join(name)).expect("a file");
+    let (book, image) = (TypeBook::new(file("book.bin")).expect("valid"), file("mem.bin"));
+    let root = book.root(0).expect("a type");
+    let mut tape = root.read(8, &image).expect("read");
+    assert_eq!(root.write(8, &image, &tape).as_ref(), Ok(&image));
+    assert_eq!(tape.at("Tank.Target"), Ok(Value::Real32(127.5f32.to_bits())));
+    tape.edit("Tank.Target", 131.25).expect("a real");
+    let output = root.write(8, &image, &tape).expect("written");
+    let at = image
+        .windows(4)
+        .position(|w| w == 127.5f32.to_le_bytes())
+        .expect("there");
+    let mut wanted = image.clone();
+    wanted[at..at + 4].copy_from_slice(&131.25f32.to_le_bytes());
+    assert_eq!(output, wanted);
+    let again = root.read(8, &output).expect("read");
+    assert_eq!(again.at("Tank.Target"), Ok(Value::Real32(131.25f32.to_bits())));
+    // The text buffer may be ordered otherwise, the values are the same.
+    assert!(again.iter().zip(&tape).all(|(a, b)| a.value == b.value));
+}
+
 #[test]
 fn the_example_of_document_01() {
     let program = Path::new(env!("CARGO_MANIFEST_DIR")).join("../../crates/adswalk");

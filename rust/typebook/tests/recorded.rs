@@ -147,6 +147,7 @@ fn answer(operation: u8, given: &[u8], lent: usize, kept: &mut Kept) -> Option<V
             parts.u8() == 1,
         )],
         67..=73 => on_root(operation, parts.u8(), parts.number(4), parts, kept.book()),
+        74 => write(parts.u8(), parts.number(4), parts, kept.book(), &mut out),
         _ => return None,
     })
 }
@@ -265,6 +266,19 @@ fn read(width: u8, root: u64, mut parts: Parts, book: &[u8]) -> Vec<u8> {
     .concat()
 }
 
+/// 0 or a refusal, and the output.
+fn write(width: u8, root: u64, mut parts: Parts, book: &[u8], out: &mut [u8]) -> Vec<u8> {
+    let (image, text) = (parts.number(2) as usize, parts.number(2) as usize);
+    let (image, text) = (parts.bytes(image), parts.bytes(text));
+    let mut tape = Vec::new();
+    while !parts.0.is_empty() {
+        tape.extend(unpacked(&mut parts, 1));
+    }
+    let mut v = [0];
+    let n = calls::write(book, book.len(), width, root, image, &tape, text, out, &mut v);
+    [refusal(n, v[0]), out.to_vec()].concat()
+}
+
 /// A recorded read with its tape and text unpacked.
 fn recorded(operation: u8, told: &[u8]) -> Vec<u8> {
     if operation != 73 || told[0] != 0 {
@@ -304,7 +318,7 @@ fn recorded_answers() {
         }
     }
     println!("replayed by operation: {replayed:?}");
-    for operation in [5, 7, 10, 12, 13, 64, 65, 66, 67, 68, 69, 70, 71, 72, 73] {
+    for operation in [5, 7, 10, 12, 13, 64, 65, 66, 67, 68, 69, 70, 71, 72, 73, 74] {
         assert!(
             replayed.contains_key(&operation),
             "no recorded case of operation {operation}"
