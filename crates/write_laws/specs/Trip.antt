@@ -1,6 +1,6 @@
 -- What a write gives back as it was read: the premises of the round trip, found from the book, the pointer width and the bytes alone. The
 -- recursion is that of de's specs/Walk. Assumes nothing.
-use mathlib.Core.Bool.{Bool, true, false, cond, _&&_}
+use mathlib.Core.Bool.{Bool, true, false, _&&_}
 use mathlib.Core.List.{List}
 use Prim.Native.Nat.{ℕ, zero, suc, _+_, _-_}
 use lib.ListN.{length, getD, take, drop, replicate}
