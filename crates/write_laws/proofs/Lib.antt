@@ -1,7 +1,7 @@
 -- Where a write goes: leaves keep their length (Sizes), what is kept outside ranges (Ranges), along the walk (Outside), of a whole write (Wholes).
 -- The tape's form: the walk of a write follows it (Ends); a read's leaves are in their ranges (ReadLeaf), its records those of a tree
 -- (ReadTree), its tape well formed (ReadForm).
--- The round trip: the ids of texts (TextId), a leaf (TripLeaf), along both walks (TripWalk), of two calls (RoundTrip), its premises (Needed).
+-- The round trip: UTF-16 (WideTrip), the ids of texts (TextId), a leaf (TripLeaf), along both walks (TripWalk), of two calls (RoundTrip), its premises (Needed).
 mod Plain
 mod Sizes
 mod Ranges
@@ -11,6 +11,7 @@ pub mod Ends
 mod ReadLeaf
 mod ReadTree
 pub mod ReadForm
+mod WideTrip
 mod TextId
 mod TripLeaf
 mod TripWalk

@@ -51,9 +51,10 @@ use Rattle.steps.specs.Trace.{Event, rec, text, textBytes, tapeBytes, one}
 use Rattle.ser_leaf.specs.declared.Target.{Target}
 use Rattle.ser_leaf.specs.declared.Target.the-variants as target
 use Rattle.ser_leaf.specs.Leaf.{holds, exactly, boolLeaf, realId, realBytes, realLeaf, integerBy, pointerLeaf, targetOf, integerLeaf, entryBy, entryLeaf, enumLeaf, padded, textBy, textLeaf, leafBy}
-use Rattle.write_laws.specs.Trip.{zerosAfter, sameAgain, entryKept, leafKept}
+use Rattle.write_laws.specs.Trip.{zerosAfter, isWhole, entryKept, leafKept}
 use Rattle.write_laws.proofs.Plain.{different, and-left, and-right}
 use Rattle.write_laws.proofs.ReadLeaf.{FineValue, read-fine, enum-fine, bits-small}
+use Rattle.write_laws.proofs.WideTrip.{wide-again}
 use Rattle.write_laws.proofs.TextId.{text-id}
 use Rattle.write_laws.proofs.ReadTree.{Stands, Emits, pow-most, bytes-take}
 
@@ -277,10 +278,10 @@ module _ (book buffer : List ℕ) (width t : ℕ) (mem : List ℕ) (b : Bytes me
     unfolding textBy decodedBy
     narrow-back n e h = rw e (padded-back _ n 1 (encode-decode (take n mem) (record { each = bytes-take n mem b })) h)
 
-    wide-back : (n : ℕ) → typeIdOf book t ≡ 31 → zerosAfter n 2 mem ≡ true → sameAgain (take n mem) ≡ true
+    wide-back : (n : ℕ) → typeIdOf book t ≡ 31 → zerosAfter n 2 mem ≡ true → isWhole (take n mem) ≡ true
         → textBy (typeIdOf book t) (decodedBy true (take n mem)) mem ≡ holds mem
-    unfolding textBy decodedBy sameAgain
-    wide-back n e h q = rw e (padded-back _ n 2 (same-eq _ (take n mem) q) h)
+    unfolding textBy decodedBy isWhole
+    wide-back n e h q = rw e (padded-back _ n 2 (wide-again (take n mem) (bytes-take n mem b) q) h)
 
     goes-narrow : (n : ℕ) → typeIdOf book t ≡ 30 → Goes (value.Text n)
     unfolding leafKept
