@@ -1,7 +1,6 @@
 -- The walk of a write follows the walk over the form of its tape: it never meets 16, and ends where that ends. Assumes nothing.
-use mathlib.Core.Path.{_≡_, refl, sym, ap, _∙_}
-use mathlib.Core.Bool.{Bool, true, false, cond, _&&_}
-use mathlib.Core.Logic.{_↔_}
+use mathlib.Core.Path.{_≡_, refl, ap, _∙_}
+use mathlib.Core.Bool.{Bool, true, false, cond}
 use mathlib.Core.List.{List}
 use Prim.Native.Nat.{ℕ, zero, suc, _+_}
 use native.Mathlib.Omega.{arith}
@@ -29,7 +28,7 @@ use Rattle.integer.specs.declared.IntegerWrite.the-variants as write
 use Rattle.shape.specs.declared.Shape.{Shape}
 use Rattle.shape.specs.declared.Shape.the-variants as shape
 use Rattle.shape.specs.Value.{shapeOf}
-use Rattle.shape.specs.Array.{strideOf, isLast, bytesOf}
+use Rattle.shape.specs.Array.{strideOf, bytesOf}
 use Rattle.named_blocks.specs.Named.{fieldNamed, entryNamed}
 use Rattle.tape.specs.Record.{stepAt}
 use Rattle.tape.specs.Text.{recordText}
@@ -53,7 +52,7 @@ use Rattle.ser.specs.declared.WriteAnswer.the-variants.{Done, NotFound, Refused
 use Rattle.ser.specs.Write.{Ctx, Outcome, went, refused, _then_, Item, whole, further, Child, placed, takenBy, taken, endBy, leafEnd, leafOf, shapeAt, checked, fieldValue, foundValue, keyBy, keyOf, keysFrom, mapBy, mapOf, elementItem, elementCheck, elementsFrom, elementsBy, dimensionOf, elementType, enteredBy, enteredAt, arrayBy, arrayOf, valueBy, itemWalk, walk}
 use Rattle.ser.specs.Call.{typeWrite, rootBy, rootWrite, bookWrite, answerOf}
 use Rattle.write_laws.specs.Laws.{EndsAt, FormedEnds, SixteenIsForm}
-use Rattle.write_laws.proofs.Sizes.{different}
+use Rattle.write_laws.proofs.Plain.{different, and-left}
 
 -- ---- a walk that ends at a place and is not refused with 16
 
@@ -118,10 +117,6 @@ passed true p next h = record { test = refl; goes = h }
 passed false p next h = broken-at h
 
 -- ---- what a record's form says of its kind
-
-and-left : (a b : Bool) → (a && b) ≡ true → a ≡ true
-and-left true b h = refl
-and-left false b h = different cc
 
 only-kind : (k : ℕ) (r : Record) → onlyA k r ≡ true → r .kind ≡ k
 unfolding onlyA

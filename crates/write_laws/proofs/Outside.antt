@@ -1,10 +1,9 @@
 -- A write changes no byte outside the ranges of its leaves, step by step along the walk. Assumes nothing.
-use mathlib.Core.Path.{_≡_, refl, sym, ap, _∙_}
+use mathlib.Core.Path.{_≡_, refl, sym}
 use mathlib.Core.Bool.{Bool, true, false, cond}
 use mathlib.Core.List.{List, [], _∷_, _++_}
-use Prim.Native.Nat.{ℕ, zero, suc, _+_, _*_, _-_, _≤_, _<_}
+use Prim.Native.Nat.{ℕ, zero, suc, _+_, _*_, _-_, _≤_}
 use native.Mathlib.Omega.{arith}
-use native.Mathlib.Nat.{add-assoc}
 use borrow.Author.Tests.{leb-true, ltb-true}
 use lib.ListN.{length}
 use lib.Dec.{leb, ltb, eqb}
@@ -12,7 +11,7 @@ use Rattle.typebook.specs.Book.{sizeOf, countOf}
 use Rattle.type_provider.specs.declared.Found.{Found}
 use Rattle.type_provider.specs.declared.Found.the-variants as found
 use Rattle.type_category.specs.Category.{categoryOf}
-use Rattle.resolvers.specs.Resolve.{lookUp, resolveAlias}
+use Rattle.resolvers.specs.Resolve.{lookUp}
 use Rattle.resolvers.specs.declared.Resolved.{Resolved}
 use Rattle.resolvers.specs.declared.Resolved.the-variants as resolved
 use Rattle.field_types.specs.Fields.{resolveField, fieldsCheck}
@@ -32,14 +31,13 @@ use Rattle.tape.specs.declared.record.Record.{Record}
 use Rattle.tape.specs.declared.cursor.Cursor.{Cursor}
 use Rattle.tape.specs.declared.cursor.Step.{Step}
 use Rattle.tape.specs.declared.cursor.Step.the-variants as step
-use Rattle.ser_leaf.specs.Leaf.{Leaf, holds, targetOf, leafBy}
+use Rattle.ser_leaf.specs.Leaf.{Leaf, holds, targetOf}
 use Rattle.ser_leaf.specs.Leaf as leaf
-use Rattle.ser.specs.declared.array_writer.Entered.{Entered}
 use Rattle.ser.specs.declared.array_writer.Entered.the-variants as entered
 use Rattle.ser.specs.Write.{Ctx, Outcome, went, refused, _then_, Item, whole, further, Child, cut, placed, takenBy, taken, endBy, leafEnd, leafOf, shapeAt, checked, fieldValue, foundValue, keyBy, keyOf, keysFrom, mapBy, mapOf, elementItem, elementCheck, elementsFrom, elementsBy, dimensionOf, elementType, enteredBy, enteredAt, arrayBy, arrayOf, valueBy, itemWalk, walk}
 use Rattle.write_laws.specs.Touched.{Range, Touched, upto, nowhere, after, _and_, recordBy, endAt, fieldTouched, foundTouched, keyTouched, keysTouched, elementsTouched, dimensionTouched, arrayTouched, valueTouched, itemTouched, walkTouched}
 use Rattle.write_laws.specs.Touched as touched
-use Rattle.write_laws.proofs.Sizes.{different, Sized, sized-leaf}
+use Rattle.write_laws.proofs.Sizes.{Sized, sized-leaf}
 use Rattle.write_laws.proofs.Ranges.{Kept, kept-none, kept-all, kept-then, kept-part, length-cut}
 
 -- ---- a write and the ranges that it touches

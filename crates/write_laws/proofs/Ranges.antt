@@ -1,6 +1,6 @@
 -- What is kept outside some ranges: of bytes at a place of the output, of a part of them, of one change after another. Assumes nothing.
-use mathlib.Core.Path.{_≡_, refl, sym, ap, _∙_}
-use mathlib.Core.Bool.{Bool, true, false, _&&_, _||_}
+use mathlib.Core.Path.{_≡_, refl, sym, _∙_}
+use mathlib.Core.Bool.{Bool, true, false, _||_}
 use mathlib.Core.List.{List, [], _∷_, _++_}
 use Prim.Native.Nat.{ℕ, _+_, _-_, _≤_, _<_}
 use native.Mathlib.Omega.{arith}
@@ -11,7 +11,7 @@ use lib.Seq.{getD-append-add, getD-take, getD-drop, length-take-le}
 use lib.Dec.{leb, ltb}
 use Rattle.ser.specs.Write.{cut, putIn}
 use Rattle.write_laws.specs.Touched.{Range, isIn, isTouched, Within, none, more, OnlyIn}
-use Rattle.write_laws.proofs.Sizes.{different}
+use Rattle.write_laws.proofs.Plain.{different}
 
 -- ---- in no range
 

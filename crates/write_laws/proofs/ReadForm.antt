@@ -1,15 +1,15 @@
 -- What an accepted read leaves on its tape is well formed. Assumes nothing.
 use mathlib.Core.Path.{_≡_, refl, sym, ap, _∙_}
-use mathlib.Core.Bool.{Bool, true, false, cond, _&&_}
-use mathlib.Core.List.{List, [], _∷_, _++_, append-nil}
-use Prim.Native.Nat.{ℕ, zero, suc, _+_, _*_, _-_, _/_, _^_, _≤_, _<_}
+use mathlib.Core.Bool.{Bool, true, false, cond}
+use mathlib.Core.List.{List, [], _∷_, _++_}
+use Prim.Native.Nat.{ℕ, _+_, _*_, _-_, _/_, _^_, _≤_, _<_}
 use native.Mathlib.Omega.{arith}
 use borrow.Author.Tests.{leb-true}
 use lib.ListN.{length, take, drop, length-append, length-take, length-drop}
 use lib.Seq.{take-append-add, take-append-seam}
-use lib.Dec.{leb, eqb}
+use lib.Dec.{eqb}
 use Rattle.number.specs.Le.{Bytes}
-use Rattle.utf_8.specs.Buffer.{splice, fitsIn}
+use Rattle.utf_8.specs.Buffer.{fitsIn}
 use Rattle.utf_8.proofs.Splices.{splice-start}
 use Rattle.typebook.specs.Book.{isType}
 use Rattle.book_check.specs.Check.{ValidBook, checkRoot}
@@ -26,16 +26,15 @@ use Rattle.tape_form.specs.Form.{formed}
 use Rattle.tape_form.specs.Tree.{records}
 use Rattle.tape_form.specs.Tree as trees
 use Rattle.tape_form.proofs.Laws.{complete}
-use Rattle.steps.specs.declared.Step.{Step}
-use Rattle.steps.specs.declared.Step.the-variants.{Next, Stop}
+use Rattle.steps.specs.declared.Step.the-variants.{Stop}
 use Rattle.steps.specs.declared.ReadAnswer.{ReadAnswer}
 use Rattle.steps.specs.declared.ReadAnswer.the-variants as reading
 use Rattle.steps.specs.Trace.{Event, Trace, done, stop, textBytes, tapeBytes, eventsOf, endOf, fits, stepOf, refuse}
 use Rattle.steps.specs.Answer.{answerOf, bufferAfter, ReadIs}
-use Rattle.de.specs.Walk.{Ctx, ctx, whole, walk}
+use Rattle.de.specs.Walk.{ctx, whole}
 use Rattle.de.specs.Read.{rootBy, rootTrace, checkedTrace, readTrace}
 use Rattle.write_laws.specs.Laws.{ReadIsFormed}
-use Rattle.write_laws.proofs.Sizes.{different}
+use Rattle.write_laws.proofs.Plain.{different, and-right}
 use Rattle.write_laws.proofs.ReadTree.{Stands, Value, Emits, bytes-take, base-typed, walk-emits}
 
 -- ---- a trace
@@ -79,10 +78,6 @@ record Told (t : Trace) (tape txt tape′ txt′ : List ℕ) (k m : ℕ) : Type 
   room : length (textBytes events) ≤ length txt
   tape-is : tape′ ≡ tapeBytes 0 events ++ drop (length (tapeBytes 0 events)) tape
   text-is : txt′ ≡ textBytes events ++ drop (length (textBytes events)) txt
-
-and-right : (a b : Bool) → (a && b) ≡ true → b ≡ true
-and-right true b h = h
-and-right false b h = different cc
 
 fits-size : (xs : List ℕ) (room : ℕ) → fitsIn xs 0 room ≡ true → length xs ≤ room
 unfolding fitsIn

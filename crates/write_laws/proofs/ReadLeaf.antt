@@ -1,12 +1,12 @@
 -- What a leaf is read as is in the ranges of its record. Assumes nothing.
-use mathlib.Core.Path.{_≡_, refl, sym, ap, _∙_}
-use mathlib.Core.Bool.{Bool, true, false, cond, not}
-use mathlib.Core.List.{List, [], _∷_, _++_, flatMap}
-use Prim.Native.Nat.{ℕ, zero, suc, _+_, _*_, _-_, _%_, _^_, _≤_, _<_}
+use mathlib.Core.Path.{_≡_, refl, _∙_}
+use mathlib.Core.Bool.{Bool, true, false, cond}
+use mathlib.Core.List.{List, [], _∷_, flatMap}
+use Prim.Native.Nat.{ℕ, zero, suc, _+_, _*_, _%_, _^_, _≤_, _<_}
 use native.Mathlib.Omega.{arith}
 use native.Mathlib.Nat.{mod-lt}
 use borrow.Author.Tests.{eqb-true, eqb-false}
-use lib.ListN.{length, getD, take, drop}
+use lib.ListN.{length}
 use lib.Dec.{eqb}
 use lib.IntN.{ℤ, pos, negsuc}
 use lib.Ieee.{binary32, binary64, nanBits, ofBits, toBits}
@@ -22,9 +22,7 @@ use Rattle.integer.specs.declared.IntegerRead.the-variants as read
 use Rattle.integer.proofs.TwosComplement.{twos-fits}
 use Rattle.integer.proofs.Integers.{width-small}
 use Rattle.float.specs.Float.{realWidth, singleOf, doubleOf, realOf, realBits, readReal}
-use Rattle.float.specs.declared.Real.{Real}
 use Rattle.float.specs.declared.Real.the-variants as real
-use Rattle.float.specs.declared.RealRead.{RealRead}
 use Rattle.float.specs.declared.RealRead.the-variants as realRead
 use Rattle.float.proofs.Reals.{single-back, double-back}
 use Rattle.utf_8.specs.Utf8.{utf8Of, noError, decodeFrom, wellFormed}
@@ -33,8 +31,7 @@ use Rattle.windows_1252.specs.Text as windows1252
 use Rattle.windows_1252.specs.Index.{codePoint}
 use Rattle.utf_16.specs.Decode as utf16
 use Rattle.typebook.specs.Book.{blocks, kindOf, isType, sizeOf, typeIdOf, fieldsOf, entriesOf, valueOf, sameName}
-use Rattle.type_provider.specs.declared.Found.{Found}
-use Rattle.type_provider.specs.declared.Found.the-variants.{At, Nothing}
+use Rattle.type_provider.specs.declared.Found.the-variants.{At}
 use Rattle.type_category.specs.Category.{categoryOf}
 use Rattle.book_check.specs.Check.{ValidBook}
 use Rattle.book_check.proofs.Valid.{valid-below, valid-type}
@@ -42,10 +39,9 @@ use Rattle.leaves.specs.declared.leaf.LeafValue.{LeafValue}
 use Rattle.leaves.specs.declared.leaf.LeafValue.the-variants as leaf
 use Rattle.leaves.specs.declared.leaf.LeafKind.{LeafKind}
 use Rattle.leaves.specs.declared.leaf.LeafKind.the-variants as kind
-use Rattle.leaves.specs.Leaf.{kindOfLeaf, boolLeaf, realLeaf, valueLeaf, integerLeaf, realOr, numberLeaf, pointerLeaf, endOf, textLeaf, entryFrom, unlisted, entryOr, enumLeaf, leafBy, leafAt}
+use Rattle.leaves.specs.Leaf.{kindOfLeaf, boolLeaf, realLeaf, valueLeaf, integerLeaf, realOr, numberLeaf, pointerLeaf, textLeaf, entryFrom, unlisted, entryOr, enumLeaf, leafBy, leafAt}
 use Rattle.steps.specs.Text.{decodedBy}
 use Rattle.tape_form.specs.Ranges.{isWidth}
-use Rattle.write_laws.proofs.Sizes.{different}
 
 -- ---- the ranges of a value
 

@@ -2,14 +2,14 @@
 use mathlib.Core.Path.{_≡_, refl, sym, ap, _∙_}
 use mathlib.Core.Bool.{Bool, true, false, cond}
 use mathlib.Core.List.{List, [], _∷_, _++_, append-assoc, append-nil}
-use Prim.Native.Nat.{ℕ, zero, suc, _+_, _*_, _-_, _^_, _≤_, _<_, max}
+use Prim.Native.Nat.{ℕ, zero, suc, _+_, _*_, _^_, _≤_, _<_}
 use native.Mathlib.Omega.{arith}
 use lib.Pow.{pow-mono}
 use borrow.Author.Tests.{leb-true, leb-false}
-use lib.ListN.{length, getD, take, drop, length-append, length-drop, length-take, List·getD-eq-default}
-use lib.Seq.{getD-take, getD-drop, drop-drop, take-append-seam, drop-append-seam}
+use lib.ListN.{length, getD, take, drop, length-append, length-take, List·getD-eq-default}
+use lib.Seq.{getD-take, drop-drop, take-append-seam, drop-append-seam}
 use lib.Dec.{leb, eqb}
-use Rattle.number.specs.Le.{Bytes, leValue}
+use Rattle.number.specs.Le.{Bytes}
 use Rattle.number.proofs.ByteOrder.{leValue-below, bytes-drop}
 use Rattle.utf_8.specs.Utf8.{wellFormed}
 use Rattle.typebook.specs.Book.{blocks, kindOf, isType, u32At, sizeOf, fieldsOf, countOf, typeNameOf}
@@ -31,7 +31,7 @@ use Rattle.shape.specs.declared.Shape.{Shape}
 use Rattle.shape.specs.declared.Shape.the-variants as shape
 use Rattle.shape.specs.Array.{strideOf, isLast, bytesOf}
 use Rattle.tape.specs.declared.record.Record.{Record}
-use Rattle.tape.specs.Record.{recordBytes, Held}
+use Rattle.tape.specs.Record.{recordBytes}
 use Rattle.leaves.specs.declared.leaf.LeafValue.{LeafValue}
 use Rattle.leaves.specs.declared.leaf.LeafValue.the-variants as value
 use Rattle.leaves.specs.Leaf.{leafAt}
@@ -39,11 +39,10 @@ use Rattle.leaf_steps.specs.Leaves.{traceOf}
 use Rattle.steps.specs.Text.{decodedBy}
 use Rattle.steps.specs.Trace.{Event, rec, text, Trace, done, stop, textBytes, tapeBytes, one, refuse, _then_}
 use Rattle.steps.proofs.Runs.{text-then, tape-then}
-use Rattle.de.specs.Walk.{Ctx, ctx, Item, whole, further, Child, cut, shapeAt, leafOf, checked, fieldValue, memberOf, membersFrom, membersOf, mapOf, elementItem, elementCheck, elementsFrom, elementsOf, dimensionOf, arrayBy, arrayOf, shapeWalk, itemWalk, walk}
+use Rattle.de.specs.Walk.{Ctx, ctx, Item, whole, further, Child, shapeAt, leafOf, checked, fieldValue, memberOf, membersFrom, membersOf, mapOf, elementItem, elementCheck, elementsFrom, elementsOf, dimensionOf, arrayBy, arrayOf, shapeWalk, itemWalk, walk}
 use Rattle.tape_form.specs.Tree.{Tree, leaf, array, map, Elements, none, element, Members, no-keys, member, count, keys, with-A, records, elementRecords, memberRecords, depth, elementsDepth, membersDepth, Leaf, FineLeaf, FineKey, Fine, FineElements, FineMembers}
 use Rattle.tape_form.specs.Tree as trees
-use Rattle.write_laws.proofs.Sizes.{different}
-use Rattle.write_laws.proofs.ReadLeaf.{SignedFine, UnsignedFine, EntryFine, FineBy, FineValue, leaf-fine, bits-small, decoded-formed}
+use Rattle.write_laws.proofs.ReadLeaf.{FineValue, leaf-fine, bits-small, decoded-formed}
 
 -- ---- bytes
 

@@ -1,12 +1,10 @@
 -- The round trip. Assumes nothing.
-use mathlib.Core.Path.{_≡_, refl, sym, ap, _∙_}
-use mathlib.Core.Bool.{Bool, true, false, cond}
+use mathlib.Core.Path.{_≡_, refl, sym, _∙_}
+use mathlib.Core.Bool.{true}
 use mathlib.Core.List.{List, [], append-nil}
-use Prim.Native.Nat.{ℕ, _+_, _*_, _^_, _≤_, _<_}
-use native.Mathlib.Omega.{arith}
+use Prim.Native.Nat.{ℕ, _*_, _^_, _<_}
 use borrow.Author.Tests.{eq-eqb}
-use lib.ListN.{length, take, drop}
-use lib.Dec.{eqb}
+use lib.ListN.{length, take}
 use Rattle.number.specs.Le.{Bytes}
 use Rattle.typebook.specs.Book.{isType}
 use Rattle.book_check.specs.Check.{ValidBook, checkRoot}
@@ -18,20 +16,19 @@ use Rattle.resolvers.specs.declared.Resolved.{Resolved}
 use Rattle.resolvers.specs.declared.Resolved.the-variants as resolved
 use Rattle.tape.specs.declared.cursor.Cursor.{Cursor}
 use Rattle.tape_form.specs.Form.{formed}
-use Rattle.steps.specs.Trace.{Event, Trace, done, textBytes, tapeBytes, refuse}
+use Rattle.steps.specs.Trace.{Event, done, textBytes, tapeBytes}
 use Rattle.de.specs.Walk as de
 use Rattle.de.specs.Read as reading
 use Rattle.ser.specs.declared.WriteAnswer.{WriteAnswer}
-use Rattle.ser.specs.declared.WriteAnswer.the-variants.{Done}
 use Rattle.ser.specs.Write as ser
-use Rattle.ser.specs.Write.{Outcome, went, refused}
+use Rattle.ser.specs.Write.{Outcome, went}
 use Rattle.ser.specs.Call.{typeWrite, rootBy, rootWrite, bookWrite, checkedWrite, writeCall, Wrote}
 use Rattle.write_laws.specs.Trip as trip
 use Rattle.write_laws.specs.Laws.{GivenBack, RoundTrip}
-use Rattle.write_laws.proofs.Sizes.{different}
+use Rattle.write_laws.proofs.Plain.{different}
 use Rattle.write_laws.proofs.ReadTree.{Stands, Emits, bytes-take, base-typed}
-use Rattle.write_laws.proofs.ReadForm.{Standing, read-stands, read-is-formed}
-use Rattle.write_laws.proofs.TripWalk.{Back, place, walk-back}
+use Rattle.write_laws.proofs.ReadForm.{read-stands, read-is-formed}
+use Rattle.write_laws.proofs.TripWalk.{Back, walk-back}
 
 -- an accepted outcome with these bytes
 record Same (o : Outcome) (mem : List ℕ) : Type 0 where

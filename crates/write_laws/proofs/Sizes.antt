@@ -1,11 +1,11 @@
 -- A leaf that is written is as long as what there was. Assumes nothing.
-use mathlib.Core.Path.{_≡_, refl, sym, ap, _∙_}
+use mathlib.Core.Path.{_≡_, refl, sym, _∙_}
 use mathlib.Core.Bool.{Bool, true, false, cond}
-use mathlib.Core.List.{List, _++_}
-use Prim.Native.Nat.{ℕ, _+_, _-_}
+use mathlib.Core.List.{List}
+use Prim.Native.Nat.{ℕ, _+_}
 use native.Mathlib.Omega.{arith}
 use borrow.Author.Tests.{eqb-true, leb-true}
-use lib.ListN.{length, replicate, length-append, length-replicate}
+use lib.ListN.{length, length-append, length-replicate}
 use lib.Dec.{eqb, leb}
 use Rattle.number.proofs.ByteOrder.{length-leBytes}
 use Rattle.typebook.specs.Book.{sizeOf, typeIdOf}
@@ -16,7 +16,6 @@ use Rattle.type_provider.specs.declared.Found.the-variants.{At, Nothing}
 use Rattle.type_id.specs.TypeId.{idWidth}
 use Rattle.integer.specs.Integer.{integerValue, fitsId, writeInteger, integerBytes}
 use Rattle.integer.specs.declared.Integer.{Integer}
-use Rattle.integer.specs.declared.IntegerWrite.{IntegerWrite}
 use Rattle.integer.specs.declared.IntegerWrite.the-variants as write
 use Rattle.named_blocks.specs.Named.{entryNamed}
 use Rattle.tape.specs.Text.{recordText}
@@ -24,9 +23,6 @@ use Rattle.tape.specs.declared.record.Record.{Record}
 use Rattle.ser_leaf.specs.declared.Target.{Target}
 use Rattle.ser_leaf.specs.declared.Target.the-variants as target
 use Rattle.ser_leaf.specs.Leaf.{Leaf, holds, refused, exactly, boolLeaf, realId, realLeaf, integerEnd, integerBy, pointerLeaf, integerLeaf, entryBy, entryLeaf, enumLeaf, padded, textBy, textLeaf, leafBy}
-
-pub different : {X : Type 0} → _≡_ {A = ℕ} 0 1 → X
-different z = absurd (omega arith)
 
 abbrev SizedBy : List ℕ → Leaf → Type 0
 SizedBy old (holds bs) = length bs ≡ length old

@@ -1,10 +1,9 @@
 -- A type of category String has the id 30 or 31. Assumes nothing.
-use mathlib.Core.Path.{_≡_, refl, sym, ap, _∙_}
+use mathlib.Core.Path.{_≡_, refl, sym}
 use mathlib.Core.Bool.{Bool, true, false, cond, not, _&&_, _||_}
 use mathlib.Core.Logic.{_⊎_, inl, inr}
 use mathlib.Core.List.{List}
 use Prim.Native.Nat.{ℕ, _+_, _%_}
-use native.Mathlib.Omega.{arith}
 use borrow.Author.Tests.{eqb-true}
 use lib.Dec.{eqb, ltb}
 use Rattle.typebook.specs.Book.{typeIdOf, nameOf, sizeOf, offsetOf, sameName}
@@ -15,7 +14,7 @@ use Rattle.type_names.specs.Names.{isSubRangeName, isPrimitiveName}
 use Rattle.type_category.specs.Category.{isPointer, isReference, isArray, isEnum, isAlias, idStep, orElse, isUnion, hasFields, hasMethods, implements, methodsCategory, fieldsCategory, isEmptyStruct, bareCategory, sizeCategory, complexCategory, simpleCategory, categoryOf}
 use Rattle.type_category.specs.declared.type_category.AdsTypeCategory.{AdsTypeCategory}
 use Rattle.type_category.specs.declared.type_category.AdsTypeCategory.the-variants as category
-use Rattle.write_laws.proofs.Sizes.{different}
+use Rattle.write_laws.proofs.Plain.{different}
 
 -- 1 for String, 0 for any other category
 abbrev mark : AdsTypeCategory → ℕ

@@ -1,21 +1,21 @@
 -- The record of a leaf that was read, written over the leaf's bytes, gives them back where they are kept. Assumes nothing.
 use mathlib.Core.Path.{_≡_, refl, sym, ap, _∙_}
-use mathlib.Core.Bool.{Bool, true, false, cond, not, _&&_}
-use mathlib.Core.Logic.{_⊎_, inl, inr, ⊎-elim}
-use mathlib.Core.List.{List, [], _∷_, _++_, append-nil}
+use mathlib.Core.Bool.{Bool, true, false, cond, not}
+use mathlib.Core.Logic.{_⊎_, ⊎-elim}
+use mathlib.Core.List.{List, [], _∷_, append-nil}
 use Prim.Native.Nat.{ℕ, zero, suc, _+_, _*_, _-_, _%_, _^_, _≤_, _<_}
 use native.Mathlib.Omega.{arith}
 use native.Mathlib.Nat.{mod-eq-of-lt}
-use borrow.Author.Tests.{eqb-true, eqb-false, eq-eqb, ne-eqb, leb-true, le-leb, lt-ltb}
-use lib.ListN.{length, getD, take, drop, replicate, take-append-drop, length-take}
+use borrow.Author.Tests.{eqb-true, eq-eqb, leb-true, le-leb, lt-ltb}
+use lib.ListN.{length, getD, take, drop, replicate, take-append-drop}
 use lib.Seq.{take-append-seam, length-take-le}
-use lib.Dec.{eqb, leb, ltb}
-use lib.Ieee.{binary32, binary64, nanBits, ofBits, toBits}
+use lib.Dec.{eqb, leb}
+use lib.Ieee.{binary32, binary64, nanBits, ofBits}
 use Rattle.number.specs.Le.{Bytes, leValue, leBytes}
 use Rattle.number.proofs.ByteOrder.{leValue-below, leBytes-leValue}
-use Rattle.type_id.specs.TypeId.{idOf, idWidth}
+use Rattle.type_id.specs.TypeId.{idOf}
 use Rattle.type_id.specs.declared.AdsTypeId.{AdsTypeId}
-use Rattle.type_id.specs.declared.AdsTypeId.the-variants.{Void, Int16, Int32, Real32, Real64, Int8, UInt8, UInt16, UInt32, Int64, UInt64, String, WString, Real80, Bit, MaxTypes, BigType, Unknown}
+use Rattle.type_id.specs.declared.AdsTypeId.the-variants.{Real32, Real64, UInt16, UInt32, UInt64, String}
 use Rattle.integer.specs.Integer.{readInteger, writeInteger, integerBytes, bufferAfter}
 use Rattle.integer.specs.declared.Integer.{Integer}
 use Rattle.integer.specs.declared.Integer.the-variants as integer
@@ -24,15 +24,11 @@ use Rattle.integer.specs.declared.IntegerRead.the-variants as read
 use Rattle.integer.specs.declared.IntegerWrite.the-variants as write
 use Rattle.integer.proofs.Integers.{integer-back}
 use Rattle.float.specs.Float.{realWidth, singleOf, doubleOf, realOf, realBits, readReal}
-use Rattle.float.specs.declared.Real.{Real}
 use Rattle.float.specs.declared.Real.the-variants as real
-use Rattle.float.specs.declared.RealRead.{RealRead}
 use Rattle.float.specs.declared.RealRead.the-variants as realRead
 use Rattle.float.proofs.Reals.{single-back, double-back}
-use Rattle.windows_1252.specs.Text as windows1252
 use Rattle.windows_1252_encoder.proofs.Trips.{encode-decode}
-use Rattle.utf_16.specs.Encode as utf16e
-use Rattle.typebook.specs.Book.{blocks, kindOf, isType, sizeOf, typeIdOf, fieldsOf, entriesOf, valueOf, nameOf, sameName}
+use Rattle.typebook.specs.Book.{blocks, isType, sizeOf, typeIdOf, fieldsOf, entriesOf, valueOf, nameOf}
 use Rattle.typebook.proofs.Names.{same-eq}
 use Rattle.type_provider.specs.declared.Found.{Found}
 use Rattle.type_provider.specs.declared.Found.the-variants.{At, Nothing}
@@ -48,26 +44,19 @@ use Rattle.tape.specs.Text.{partOf, nameIn, recordText}
 use Rattle.leaves.specs.declared.leaf.LeafValue.{LeafValue}
 use Rattle.leaves.specs.declared.leaf.LeafValue.the-variants as value
 use Rattle.leaves.specs.Leaf as leaves
-use Rattle.leaves.specs.Leaf.{kindOfLeaf, endOf, entryFrom, unlisted, entryOr, leafAt}
+use Rattle.leaves.specs.Leaf.{kindOfLeaf, entryFrom, unlisted, entryOr, leafAt}
 use Rattle.leaf_steps.specs.Leaves.{traceOf}
 use Rattle.steps.specs.Text.{decodedBy}
-use Rattle.steps.specs.Trace.{Event, rec, text, Trace, textBytes, tapeBytes, one}
+use Rattle.steps.specs.Trace.{Event, rec, text, textBytes, tapeBytes, one}
 use Rattle.ser_leaf.specs.declared.Target.{Target}
 use Rattle.ser_leaf.specs.declared.Target.the-variants as target
-use Rattle.ser_leaf.specs.Leaf.{Leaf, holds, exactly, boolLeaf, realId, realBytes, realLeaf, integerEnd, integerBy, pointerLeaf, targetOf, integerLeaf, entryBy, entryLeaf, enumLeaf, padded, textBy, textLeaf, leafBy}
-use Rattle.write_laws.specs.Trip.{zerosAfter, sameAgain, entryKept, leafKept}
-use Rattle.write_laws.proofs.Sizes.{different}
+use Rattle.ser_leaf.specs.Leaf.{holds, exactly, boolLeaf, realId, realBytes, realLeaf, integerBy, pointerLeaf, targetOf, integerLeaf, entryBy, entryLeaf, enumLeaf, padded, textBy, textLeaf, leafBy}
+use Rattle.write_laws.specs.Trip.{zerosAfter, isWhole, entryKept, leafKept}
+use Rattle.write_laws.proofs.Plain.{different, and-left, and-right}
 use Rattle.write_laws.proofs.ReadLeaf.{FineValue, read-fine, enum-fine, bits-small}
+use Rattle.write_laws.proofs.WideTrip.{wide-again}
 use Rattle.write_laws.proofs.TextId.{text-id}
 use Rattle.write_laws.proofs.ReadTree.{Stands, Emits, pow-most, bytes-take}
-
-pub and-left : (a b : Bool) → (a && b) ≡ true → a ≡ true
-and-left true b h = refl
-and-left false b h = different cc
-
-pub and-right : (a b : Bool) → (a && b) ≡ true → b ≡ true
-and-right true b h = h
-and-right false b h = different cc
 
 -- a record with nothing in bytes 2 to 7
 abbrev pub rec-of : ℕ → ℕ → ℕ → ℕ → Record
@@ -289,10 +278,10 @@ module _ (book buffer : List ℕ) (width t : ℕ) (mem : List ℕ) (b : Bytes me
     unfolding textBy decodedBy
     narrow-back n e h = rw e (padded-back _ n 1 (encode-decode (take n mem) (record { each = bytes-take n mem b })) h)
 
-    wide-back : (n : ℕ) → typeIdOf book t ≡ 31 → zerosAfter n 2 mem ≡ true → sameAgain (take n mem) ≡ true
+    wide-back : (n : ℕ) → typeIdOf book t ≡ 31 → zerosAfter n 2 mem ≡ true → isWhole (take n mem) ≡ true
         → textBy (typeIdOf book t) (decodedBy true (take n mem)) mem ≡ holds mem
-    unfolding textBy decodedBy sameAgain
-    wide-back n e h q = rw e (padded-back _ n 2 (same-eq _ (take n mem) q) h)
+    unfolding textBy decodedBy isWhole
+    wide-back n e h q = rw e (padded-back _ n 2 (wide-again (take n mem) (bytes-take n mem b) q) h)
 
     goes-narrow : (n : ℕ) → typeIdOf book t ≡ 30 → Goes (value.Text n)
     unfolding leafKept

@@ -1,16 +1,16 @@
 -- A write of what was read of some bytes, over these bytes, gives them back, step by step along both walks. Assumes nothing.
 use mathlib.Core.Path.{_≡_, refl, sym, ap, _∙_}
-use mathlib.Core.Bool.{Bool, true, false, cond, _&&_}
+use mathlib.Core.Bool.{Bool, true, false, cond}
 use mathlib.Core.List.{List, [], _∷_, _++_, append-assoc, append-nil}
 use Prim.Native.Nat.{ℕ, zero, suc, _+_, _*_, _-_, _^_, _≤_, _<_}
 use native.Mathlib.Omega.{arith}
 use borrow.Author.Tests.{eqb-true, eq-eqb, ne-eqb, le-leb, lt-ltb, le-ltb}
 use lib.ListN.{length, take, drop, length-append, length-drop, take-append-drop}
 use lib.Seq.{drop-drop, drop-append-seam}
-use lib.Dec.{leb, ltb, eqb}
+use lib.Dec.{leb, eqb}
 use Rattle.number.specs.Le.{Bytes}
 use Rattle.number.proofs.ByteOrder.{bytes-drop}
-use Rattle.typebook.specs.Book.{blocks, kindOf, isType, sizeOf, fieldsOf, countOf, nameOf}
+use Rattle.typebook.specs.Book.{blocks, isType, sizeOf, fieldsOf, countOf, nameOf}
 use Rattle.type_provider.specs.declared.Found.{Found}
 use Rattle.type_provider.specs.declared.Found.the-variants as found
 use Rattle.type_category.specs.Category.{categoryOf}
@@ -40,14 +40,13 @@ use Rattle.leaves.specs.Leaf.{leafAt}
 use Rattle.steps.specs.Trace.{Event, rec, Trace, done, stop, textBytes, tapeBytes, one, refuse, _then_}
 use Rattle.steps.proofs.Runs.{tape-then}
 use Rattle.de.specs.Walk as de
-use Rattle.ser_leaf.specs.Leaf.{holds, targetOf}
-use Rattle.ser.specs.declared.array_writer.Entered.the-variants as entered
+use Rattle.ser_leaf.specs.Leaf.{targetOf}
 use Rattle.ser.specs.Write as ser
-use Rattle.ser.specs.Write.{Outcome, went, refused}
+use Rattle.ser.specs.Write.{Outcome, went}
 use Rattle.write_laws.specs.Trip as trip
-use Rattle.write_laws.proofs.Sizes.{different}
-use Rattle.write_laws.proofs.ReadTree.{Stands, Emits, emits-refused, emits-then, emits-after, TypedField, field-typed, bytes-take, u32-small}
-use Rattle.write_laws.proofs.TripLeaf.{LeafBack, leaf-back, and-left, and-right, rec-of, held-of}
+use Rattle.write_laws.proofs.Plain.{different, and-left, and-right}
+use Rattle.write_laws.proofs.ReadTree.{Emits, emits-refused, emits-then, emits-after, TypedField, field-typed, bytes-take, u32-small}
+use Rattle.write_laws.proofs.TripLeaf.{LeafBack, leaf-back, rec-of, held-of}
 
 -- ---- the bytes of a part, put back
 

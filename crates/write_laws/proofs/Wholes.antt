@@ -1,10 +1,8 @@
 -- What is kept of the image by a whole write. Assumes nothing.
-use mathlib.Core.Path.{_≡_, refl, sym, ap, _∙_}
+use mathlib.Core.Path.{_≡_, refl, sym, _∙_}
 use mathlib.Core.Bool.{Bool, true, false, cond}
 use mathlib.Core.List.{List}
 use Prim.Native.Nat.{ℕ}
-use native.Mathlib.Omega.{arith}
-use borrow.Author.Tests.{eqb-true}
 use lib.ListN.{length, take}
 use lib.Dec.{eqb}
 use Rattle.book_check.specs.Check.{checkRoot}
@@ -19,10 +17,10 @@ use Rattle.tape.specs.declared.cursor.Cursor.{Cursor}
 use Rattle.ser.specs.declared.WriteAnswer.{WriteAnswer}
 use Rattle.ser.specs.declared.WriteAnswer.the-variants.{Done, NotFound, Refused}
 use Rattle.ser.specs.Write.{Ctx, ctx, Outcome, went, refused, whole}
-use Rattle.ser.specs.Call.{typeWrite, rootBy, rootWrite, bookWrite, checkedWrite, writeCall, refusalOf, answerOf, imageAfter, Wrote}
+use Rattle.ser.specs.Call.{typeWrite, rootBy, rootWrite, bookWrite, checkedWrite, writeCall, Wrote}
 use Rattle.write_laws.specs.Touched.{Touched, rangesOf, rootTouched, leavesOf, OnlyIn}
 use Rattle.write_laws.specs.Laws.{BytesOutside}
-use Rattle.write_laws.proofs.Sizes.{different}
+use Rattle.write_laws.proofs.Plain.{different}
 use Rattle.write_laws.proofs.Ranges.{kept-only}
 use Rattle.write_laws.proofs.Outside.{Agrees, walk-agrees}
 

@@ -1,12 +1,12 @@
 -- What a write gives back as it was read: the premises of the round trip, found from the book, the pointer width and the bytes alone. The
 -- recursion is that of de's specs/Walk. Assumes nothing.
-use mathlib.Core.Bool.{Bool, true, false, cond, _&&_}
+use mathlib.Core.Bool.{Bool, true, false, _&&_}
 use mathlib.Core.List.{List}
 use Prim.Native.Nat.{ℕ, zero, suc, _+_, _-_}
 use lib.ListN.{length, getD, take, drop, replicate}
 use lib.Dec.{eqb, leb}
-use Rattle.utf_16.specs.Decode as utf16d
-use Rattle.utf_16.specs.Encode as utf16e
+use Rattle.utf_8.specs.Utf8.{noError}
+use Rattle.utf_16.specs.Decode as utf16
 use Rattle.typebook.specs.Book.{nameOf, valueOf, fieldsOf, countOf, sameName}
 use Rattle.type_provider.specs.declared.Found.{Found}
 use Rattle.type_provider.specs.declared.Found.the-variants as found
@@ -31,17 +31,17 @@ use Rattle.de.specs.Walk.{Ctx, Item, whole, further, cut, elementItem, shapeAt}
 unfoldable pub zerosAfter : ℕ → ℕ → List ℕ → Bool
 zerosAfter n least mem = leb (n + least) (length mem) && sameName (drop n mem) (replicate (length mem - n) 0)
 
--- a WSTRING's bytes are the same, decoded and encoded again: no surrogate without its other half, no odd byte
-unfoldable pub sameAgain : List ℕ → Bool
-sameAgain bytes = sameName (utf16e.encodeText (utf16d.decodeText bytes)) bytes
+-- UTF-16 bytes are decoded without an error: every surrogate has its other half, and there is no odd byte
+unfoldable pub isWhole : List ℕ → Bool
+isWhole bytes = noError (utf16.decodeItems bytes)
 
 -- the entry that a name finds has these bytes
 unfoldable pub entryKept : List ℕ → List ℕ → Found → Bool
 entryKept book mem (found.At m) = sameName (valueOf book m) mem
 entryKept book mem found.Nothing = false
 
--- by a leaf's value: a bool's byte is 0 or 1; a text is ended and has zeros alone after its end; the first entry of an entry's name has its
--- value; there is no unit, which no type takes; an integer and a real always come back
+-- by a leaf's value: a bool's byte is 0 or 1; a text is ended and has zeros alone after its end, and a WSTRING's is whole; the first entry of
+-- an entry's name has its value; there is no unit, which no type takes; an integer and a real always come back
 unfoldable pub leafKept : List ℕ → ℕ → List ℕ → LeafValue → Bool
 leafKept book t mem (leaf.Signed w b) = true
 leafKept book t mem (leaf.Unsigned w n) = true
@@ -51,7 +51,7 @@ leafKept book t mem (leaf.Double x) = true
 leafKept book t mem (leaf.NanSingle n) = true
 leafKept book t mem (leaf.NanDouble n) = true
 leafKept book t mem (leaf.Text n) = zerosAfter n 1 mem
-leafKept book t mem (leaf.WideText n) = zerosAfter n 2 mem && sameAgain (take n mem)
+leafKept book t mem (leaf.WideText n) = zerosAfter n 2 mem && isWhole (take n mem)
 leafKept book t mem (leaf.Entry n) = entryKept book mem (entryNamed book t (nameOf book n))
 leafKept book t mem leaf.Unit = false
 leafKept book t mem (leaf.Refused k) = true
