@@ -1,4 +1,5 @@
 -- Laws that the functions' proofs cite.
+pub mod Numbers
 mod Blocks
 mod Checks
 pub mod Valid

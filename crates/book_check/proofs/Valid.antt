@@ -9,6 +9,7 @@ use borrow.Author.Tests.{eqb-true, leb-true, ltb-true, ltb-false, not-true}
 use lib.ListN.{length, getD, take, drop, length-take, List·getD-eq-default}
 use lib.Seq.{length-take-le, take-length, take-take, getD-take, getD-drop}
 use lib.Dec.{eqb, leb, ltb}
+use Rattle.number.specs.Answer.{refusalOf}
 use Rattle.typebook.specs.Book.{blocks, blockOf, byteAt, kindOf, isType, dimensionsOf, fieldsOf, entriesOf, nameOf, isNamed}
 use Rattle.type_provider.specs.Find.{find, TypeBlock, UniqueNames}
 use Rattle.type_provider.specs.declared.Found.the-variants.{At}
@@ -16,14 +17,15 @@ use Rattle.typebook.proofs.Blocks.{byte-of-block, part-of-block}
 use Rattle.type_provider.proofs.Finds.{named-own, find-is, searched-all}
 use Rattle.block_form.specs.Form.{every, isZero, isPrintable, part, unusedZero, nameForm, namesForm, typeForm, fieldForm, entryForm}
 use Rattle.doubles.specs.Doubles.{allFrom, isOther, isFirst}
-use Rattle.book_check.specs.Check.{sizeRight, placeOf, onward, placedFrom, checkBook, ValidBook, rootOf, checkRoot, bookRefusal}
+use Rattle.book_check.specs.Check.{sizeRight, placeOf, onward, placedFrom, checkBook, ValidBook, rootOf, checkRoot, bookNumbers}
 use Rattle.book_check.specs.declared.Place.the-variants.{Next, Wrong}
 use Rattle.book_check.specs.declared.BookCheck.the-variants.{Valid}
 use Rattle.book_check.specs.declared.RootCheck.the-variants.{Root, Refused}
 use Rattle.block_form.proofs.Bytes.{and-left, and-right}
 use Rattle.block_form.proofs.Forms.{unused-room}
 use Rattle.doubles.proofs.All.{each-of}
-use Rattle.book_check.proofs.Checks.{Sized, Passed, passes, passed-size, passes-again, size-again, size-in, book-length, zero-valid}
+use Rattle.book_check.proofs.Checks.{Sized, Passed, passes, passed-size, passes-again, size-again, size-in, book-length}
+use Rattle.book_check.proofs.Numbers.{zero-valid}
 
 -- ---- one block
 -- a name of at most 200 bytes, each printable
@@ -363,9 +365,9 @@ root-kind book root r h = by (ltb root (blocks book) && isType book root) refl h
 
 pub root-valid : (buffer : List ℕ) (len root r : ℕ) → checkRoot buffer len root ≡ Root r → Rooted (take len buffer) root r
 unfolding checkRoot
-root-valid buffer len root r h = by (eqb (bookRefusal (checkBook buffer len)) 0) refl h
+root-valid buffer len root r h = by (eqb (refusalOf (bookNumbers (checkBook buffer len))) 0) refl h
   where
-    by : (t : Bool) → eqb (bookRefusal (checkBook buffer len)) 0 ≡ t → cond t (rootOf (take len buffer) root) (Refused (bookRefusal (checkBook buffer len))) ≡ Root r → Rooted (take len buffer) root r
+    by : (t : Bool) → eqb (refusalOf (bookNumbers (checkBook buffer len))) 0 ≡ t → cond t (rootOf (take len buffer) root) (Refused (refusalOf (bookNumbers (checkBook buffer len)))) ≡ Root r → Rooted (take len buffer) root r
     by true e g =
         let k = root-kind (take len buffer) root r g in
         record {

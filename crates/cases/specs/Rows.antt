@@ -14,16 +14,13 @@ use Rattle.utf_16.specs.Decode as utf16
 use Rattle.utf_16.specs.WString.{wstringEnd}
 use Rattle.windows_1252.specs.Text as windows1252
 use Rattle.type_category.specs.Category.{categoryOf}
-use Rattle.category_number.specs.Number.{categoryNumber}
+use Rattle.type_category.specs.Number.{categoryNumbers}
 use Rattle.type_category.specs.declared.type_category.AdsTypeCategory.the-variants as category
-use Rattle.resolvers.specs.Resolve.{resolveAlias}
-use Rattle.resolvers.specs.declared.Resolved.{Resolved}
-use Rattle.resolvers.specs.declared.Resolved.the-variants.{Base, Lacks, Endless}
+use Rattle.resolvers.specs.Resolve.{resolvedNumbers, resolveAlias}
 use Rattle.walks.specs.Walk.{walkOf}
 use Rattle.walks.specs.Reads.{listed}
 use Rattle.read_modify_write.specs.Reads.{rmwOf}
-use Rattle.read_modify_write.specs.declared.Rmw.{Rmw}
-use Rattle.read_modify_write.specs.declared.Rmw.the-variants as rmw
+use Rattle.read_modify_write.specs.Calls.{rmwNumbers}
 use Rattle.cases.specs.Blocks.{typeBlock, fieldBlock}
 
 -- a row of the table: what the definitions give, and what document 01 says, each as numbers
@@ -75,19 +72,6 @@ b = 0x42 ∷ []
 abbrev pub twoFields : ℕ → ℕ → List ℕ
 twoFields first second = typeBlock 65 12 2 s [] ++ fieldBlock first 2 a int ++ fieldBlock second 2 b int
 
--- a resolver's answer: 0 with the block, 7 with its block, or 8
-abbrev pub resolved : Resolved → List ℕ
-resolved (Base t) = 0 ∷ t ∷ []
-resolved (Lacks b) = 7 ∷ b ∷ []
-resolved Endless = 8 ∷ []
-
--- an answer to read-modify-write: 1 yes, 0 no, 7 with its block, or a refusal's number
-abbrev pub needed : Rmw → List ℕ
-needed rmw.Yes = 1 ∷ []
-needed rmw.No = 0 ∷ []
-needed (rmw.NotFound b) = 7 ∷ b ∷ []
-needed (rmw.Refused n) = n ∷ []
-
 -- name n of a chain, from 0 on: the one byte 41h + n
 abbrev pub link : ℕ → List ℕ
 link n = (0x41 + n) ∷ []
@@ -132,22 +116,22 @@ values =
     ∷ (room (roomFor (suc (length (windows1252.encodeText zhe))) 8) is (1 ∷ 8 ∷ []))
     ∷ (room (roomFor (suc (length (windows1252.encodeText zhe))) 7) is (0 ∷ []))
     -- type_category.rs: INT with type name INT is an alias; two fields at 0 a union; at 4 and 8 a function block
-    ∷ ((categoryNumber (categoryOf (typeBlock 2 2 0 int int) 8 0) ∷ []) is (categoryNumber category.Alias ∷ []))
-    ∷ ((categoryNumber (categoryOf (twoFields 0 0) 8 0) ∷ []) is (categoryNumber category.Union ∷ []))
-    ∷ ((categoryNumber (categoryOf (twoFields 4 8) 8 0) ∷ []) is (categoryNumber category.FunctionBlock ∷ []))
+    ∷ (categoryNumbers (categoryOf (typeBlock 2 2 0 int int) 8 0) is categoryNumbers category.Alias)
+    ∷ (categoryNumbers (categoryOf (twoFields 0 0) 8 0) is categoryNumbers category.Union)
+    ∷ (categoryNumbers (categoryOf (twoFields 4 8) 8 0) is categoryNumbers category.FunctionBlock)
     ∷ []
 
 -- the rows on alias chains and on the two walks (resolvers.rs)
 abbrev pub chains : List Row
 chains =
     -- resolvers.rs: INT with type name INT answers 8; 31 hops resolve; 32 answer 8, but 7 if the 32nd target is missing
-    (resolved (resolveAlias (typeBlock 2 2 0 int int) 8 0) is (8 ∷ []))
-    ∷ (resolved (resolveAlias (chain 31) 8 0) is (0 ∷ 31 ∷ []))
-    ∷ (resolved (resolveAlias (chain 32) 8 0) is (8 ∷ []))
-    ∷ (resolved (resolveAlias (aliases 0 32) 8 0) is (7 ∷ 31 ∷ []))
+    (resolvedNumbers (resolveAlias (typeBlock 2 2 0 int int) 8 0) is (8 ∷ []))
+    ∷ (resolvedNumbers (resolveAlias (chain 31) 8 0) is (0 ∷ 31 ∷ []))
+    ∷ (resolvedNumbers (resolveAlias (chain 32) 8 0) is (8 ∷ []))
+    ∷ (resolvedNumbers (resolveAlias (aliases 0 32) 8 0) is (7 ∷ 31 ∷ []))
     -- last in, first out: fields [missing, block] are "yes", [block, missing] are 7; two aliases to one missing name list it twice
-    ∷ (needed (rmwOf (structOf x fb) 8 (walkOf (structOf x fb) 8 0)) is (1 ∷ []))
-    ∷ (needed (rmwOf (structOf fb x) 8 (walkOf (structOf fb x) 8 0)) is (7 ∷ 2 ∷ []))
+    ∷ (rmwNumbers (rmwOf (structOf x fb) 8 (walkOf (structOf x fb) 8 0)) is (0 ∷ 1 ∷ []))
+    ∷ (rmwNumbers (rmwOf (structOf fb x) 8 (walkOf (structOf fb x) 8 0)) is (7 ∷ 2 ∷ []))
     ∷ (listed (walkOf twoAliases 8 0) is (4 ∷ 3 ∷ []))
     ∷ []
 

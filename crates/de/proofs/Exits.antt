@@ -21,6 +21,8 @@ use Rattle.field_types.specs.declared.FieldsCheck.the-variants as check
 use Rattle.field_plan.specs.declared.PlannedField.{PlannedField}
 use Rattle.field_plan.specs.declared.Planned.{Planned}
 use Rattle.field_plan.specs.declared.Planned.the-variants as planned
+use Rattle.resolvers.proofs.Numbers.{resolved-is}
+use Rattle.field_types.proofs.Numbers.{check-is}
 use Rattle.field_plan.specs.Plan.{PlannedIs, Entries, Ready, PlanIs}
 use Rattle.field_plan.proofs.Plans.{ready-none}
 use Rattle.steps.specs.declared.Step.{Step}
@@ -124,15 +126,15 @@ module _ (child : Child) (c : Ctx) (t size : ℕ) (sz : size ≡ sizeOf (c .book
   module _ (ev : length mem ≡ size) (k : FieldsCheck) (before after : List ℕ) (p : PlanIs (c .book) (c .width) t before k after) where
     pub map-fine : {tape′ txt′ : List ℕ} → k ≡ check.Fine → From (membersOf child c t mem) tape txt s r tape′ txt′ → From (mapOf child c t mem) tape txt s r tape′ txt′
     unfolding checked
-    map-fine e h = from-as (walks.map-even child c mem t size sz ev check.Fine (sym e ∙ p .is)) h
+    map-fine e h = from-as (walks.map-even child c mem t size sz ev check.Fine (sym e ∙ check-is _ _ (p .is))) h
 
     pub map-lacks : (b : ℕ) → k ≡ check.Lacks b → Halts s 7 b r → From (mapOf child c t mem) tape txt s r tape txt
     unfolding checked
-    map-lacks b e h = from-as (walks.map-even child c mem t size sz ev (check.Lacks b) (sym e ∙ p .is)) (halted h)
+    map-lacks b e h = from-as (walks.map-even child c mem t size sz ev (check.Lacks b) (sym e ∙ check-is _ _ (p .is))) (halted h)
 
     pub map-endless : k ≡ check.Endless → Halts s 8 0 r → From (mapOf child c t mem) tape txt s r tape txt
     unfolding checked
-    map-endless e h = from-as (walks.map-even child c mem t size sz ev check.Endless (sym e ∙ p .is)) (halted h)
+    map-endless e h = from-as (walks.map-even child c mem t size sz ev check.Endless (sym e ∙ check-is _ _ (p .is))) (halted h)
 
 -- ---- array
 
@@ -143,20 +145,20 @@ module _ (child : Child) (c : Ctx) (t size : ℕ) (sz : size ≡ sizeOf (c .book
   module _ (ev : length mem ≡ size) (k : Resolved) (q : LookedUp (c .book) (c .width) t k) where
     pub array-lacks : (b : ℕ) → k ≡ resolved.Lacks b → Halts s 7 b r → From (arrayOf child c t mem) tape txt s r tape txt
     unfolding arrayBy
-    array-lacks b e h = from-as (walks.array-even child c mem t size sz ev (resolved.Lacks b) (sym e ∙ q .is)) (halted h)
+    array-lacks b e h = from-as (walks.array-even child c mem t size sz ev (resolved.Lacks b) (sym e ∙ resolved-is _ _ (q .is))) (halted h)
 
     pub array-endless : k ≡ resolved.Endless → Halts s 8 0 r → From (arrayOf child c t mem) tape txt s r tape txt
     unfolding arrayBy
-    array-endless e h = from-as (walks.array-even child c mem t size sz ev resolved.Endless (sym e ∙ q .is)) (halted h)
+    array-endless e h = from-as (walks.array-even child c mem t size sz ev resolved.Endless (sym e ∙ resolved-is _ _ (q .is))) (halted h)
 
     module _ (e : ℕ) (z : k ≡ resolved.Base e) (b : Bool) (p : b ≡ eqb (bytesOf (c .book) t e) (length mem)) where
       pub array-other : b ≡ false → Halts s 10 0 r → From (arrayOf child c t mem) tape txt s r tape txt
       unfolding arrayBy
-      array-other h x = from-as (walks.array-even child c mem t size sz ev (resolved.Base e) (sym z ∙ q .is) ∙ rw (← p, h)) (halted x)
+      array-other h x = from-as (walks.array-even child c mem t size sz ev (resolved.Base e) (sym z ∙ resolved-is _ _ (q .is)) ∙ rw (← p, h)) (halted x)
 
       pub array-base : {tape′ txt′ : List ℕ} → b ≡ true → From (dimensionOf child c 0 t e mem) tape txt s r tape′ txt′ → From (arrayOf child c t mem) tape txt s r tape′ txt′
       unfolding arrayBy
-      array-base h x = from-as (walks.array-even child c mem t size sz ev (resolved.Base e) (sym z ∙ q .is) ∙ rw (← p, h)) x
+      array-base h x = from-as (walks.array-even child c mem t size sz ev (resolved.Base e) (sym z ∙ resolved-is _ _ (q .is)) ∙ rw (← p, h)) x
 
 -- ---- dimension
 

@@ -18,6 +18,7 @@ use Rattle.type_category.specs.Category.{categoryOf}
 use Rattle.type_category.specs.declared.type_category.AdsTypeCategory.{AdsTypeCategory}
 use Rattle.field_plan.specs.declared.PlannedField.{PlannedField}
 use Rattle.field_plan.specs.Plan.{FieldIs, PlanIs}
+use Rattle.field_types.proofs.Numbers.{check-is}
 use Rattle.de.specs.Plans.{ElementChecked}
 use Rattle.shape.specs.declared.Shape.{Shape}
 use Rattle.shape.specs.declared.Shape.the-variants as shape
@@ -151,7 +152,7 @@ module _ (c : Ctx) (d t e : ℕ) (b : Bool) (q : b ≡ isLast (c .book) d t) whe
 
     pub check-map : k ≡ shape.Map → (r : FieldsCheck) (before : List ℕ) → PlanIs (c .book) (c .width) e before r plan → ElementChecked c d t e r plan
     unfolding elementCheck shapeCheck
-    check-map z r before x = record { is = rw (← q, h, ← s, z) (x .is); entries = λ f l m. x .entries f }
+    check-map z r before x = record { is = rw (← q, h, ← s, z) (check-is _ _ (x .is)); entries = λ f l m. x .entries f }
 
     pub check-array : k ≡ shape.Array → ElementChecked c d t e check.Fine plan
     unfolding elementCheck shapeCheck

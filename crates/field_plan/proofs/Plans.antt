@@ -16,8 +16,8 @@ use Rattle.type_provider.specs.declared.Found.{Found}
 use Rattle.type_provider.specs.declared.Found.the-variants.{At, Nothing}
 use Rattle.type_category.specs.declared.type_category.AdsTypeCategory.{AdsTypeCategory}
 use Rattle.type_category.specs.Category.{categoryOf}
-use Rattle.category_number.specs.Number.{categoryNumber, categoryAt}
-use Rattle.category_number.proofs.Numbers.{number-small, number-back}
+use Rattle.type_category.specs.Number.{categoryNumber, categoryAt}
+use Rattle.type_category.proofs.Numbers.{number-small, number-back}
 use Rattle.book_check.specs.Check.{ValidBook}
 use Rattle.book_check.proofs.Valid.{valid-size, valid-type}
 use Rattle.resolvers.specs.Resolve.{goesOn, isFollowed, resolveAlias, ResolvedIs}
@@ -32,6 +32,9 @@ use Rattle.field_types.proofs.Fields.{field-at, field-nothing, fields-more, fie
 use Rattle.field_plan.specs.declared.PlannedField.{PlannedField}
 use Rattle.field_plan.specs.declared.Planned.{Planned}
 use Rattle.field_plan.specs.declared.Planned.the-variants as planned
+use Rattle.resolvers.proofs.Numbers.{resolved-is as resolved-by, resolved-says}
+use Rattle.field_types.proofs.Numbers.{check-says}
+use Rattle.field_plan.proofs.Numbers.{planned-says}
 use Rattle.field_plan.specs.Plan.{entryOf, plannedOf, FieldIs, PlannedIs, Known, PlanEntry, Entries, Ready, noted, planFrom, planOf, PlanIs}
 
 -- ---- one field
@@ -62,7 +65,7 @@ module _ (book : List ℕ) (width f : ℕ) (x : ResolvedField) where
 lacks-only : {book : List ℕ} {width f : ℕ} (b : ℕ) → resolveField book width f ≡ answer.Lacks b → PlannedIs book width f (planned.Lacks b)
 unfolding plannedOf
 lacks-only b h = record {
-  is = rw h;
+  is = planned-says _ _ (rw h);
   field = λ y g. absurd (let z : _≡_ {A = ℕ} 0 1 = cc in omega arith);
   lacks = λ d g. let z : b ≡ d = cc in h ∙ ap answer.Lacks z;
   endless = λ g. absurd (let z : _≡_ {A = ℕ} 0 1 = cc in omega arith);
@@ -71,7 +74,7 @@ lacks-only b h = record {
 field-only : {book : List ℕ} {width f : ℕ} (x : PlannedField) → FieldIs book width f x → PlannedIs book width f (planned.Field x)
 unfolding plannedOf
 field-only {book} {width} {f} x h = record {
-  is = rw (h .found, h .offset-is, h .size-is, h .resolved-is, ← h .category-is);
+  is = planned-says _ _ (rw (h .found, h .offset-is, h .size-is, h .resolved-is, ← h .category-is));
   field = λ y g. let a : _≡_ {A = PlannedField} x y = cc in subst (FieldIs book width f) a h;
   lacks = λ b g. absurd (let z : _≡_ {A = ℕ} 0 1 = cc in omega arith);
   endless = λ g. absurd (let z : _≡_ {A = ℕ} 0 1 = cc in omega arith);
@@ -80,7 +83,7 @@ field-only {book} {width} {f} x h = record {
 -- by what the named type resolves to
 module _ (book : List ℕ) (width f n : ℕ) (w : find book (typeNameOf book f) ≡ At n) (r : Resolved) (q : ResolvedIs book (resolveAlias book width n) r) where
   at : resolveField book width f ≡ fieldOf book f n r
-  at = field-at book width f n w ∙ ap (fieldOf book f n) (sym (q .is))
+  at = field-at book width f n w ∙ ap (fieldOf book f n) (sym (resolved-by _ _ (q .is)))
 
   pub alias-base : (u o s : ℕ) (c : AdsTypeCategory) → r ≡ resolved.Base u → c ≡ categoryOf book width u → o ≡ offsetOf book f → s ≡ sizeOf book f
       → PlannedIs book width f (planned.Field (record { offset = o; size = s; resolved = u; category = c }))
@@ -106,7 +109,7 @@ module _ (book : List ℕ) (width f n : ℕ) (w : find book (typeNameOf book f) 
   alias-endless e =
       let z : resolveField book width f ≡ answer.Endless = at ∙ ap (fieldOf book f n) e in
       record {
-        is = rw z;
+        is = planned-says _ _ (rw z);
         field = λ y g. absurd (let z : _≡_ {A = ℕ} 0 1 = cc in omega arith);
         lacks = λ d g. absurd (let z : _≡_ {A = ℕ} 0 1 = cc in omega arith);
         endless = λ g. z;
@@ -134,7 +137,7 @@ module _ (book : List ℕ) (width f : ℕ) (x : Found) (ex : x ≡ find book (ty
         let t : isType book n ≡ true = alias-typed book f n plan-found in
         alias-base book width f n plan-found (resolved.Base n)
         (record {
-          is = sym (follow-base (isFollowed false book width) book 31 n y);
+          is = resolved-says _ _ (sym (follow-base (isFollowed false book width) book 31 n y));
           typed = λ u e. let a : n ≡ u = cc in rw (← a) t;
         })
         n o s c refl k eo es
@@ -250,7 +253,7 @@ module _ (book : List ℕ) (width t n : ℕ) where
     planning-end z h =
         let k : n - i ≡ 0 = omega arith in
         record {
-          is = sym (p .left ∙ ap (fieldsFrom book width (t + 1 + i)) k ∙ fields-none book width (t + 1 + i));
+          is = check-says _ _ (sym (p .left ∙ ap (fieldsFrom book width (t + 1 + i)) k ∙ fields-none book width (t + 1 + i)));
           plan = sym (p .rest ∙ ap (λ (m : ℕ). planFrom book width (t + 1 + i) i m now) k);
           entries = λ e. record { at = λ j l. p .upto j (omega arith) };
         }
@@ -267,14 +270,14 @@ module _ (book : List ℕ) (width t n : ℕ) where
 
       pub planning-lacks : (b : ℕ) → a ≡ planned.Lacks b → PlanIs book width t before (check.Lacks b) now
       planning-lacks b e = record {
-        is = sym (turn ∙ fields-lacks book width (t + 1 + i) (n - (i + 1)) b (q .lacks b e));
+        is = check-says _ _ (sym (turn ∙ fields-lacks book width (t + 1 + i) (n - (i + 1)) b (q .lacks b e)));
         plan = sym (fill ∙ plan-lacks book width (t + 1 + i) i (n - (i + 1)) now b (q .lacks b e));
         entries = λ f. absurd (let z : _≡_ {A = ℕ} 0 1 = cc in omega arith);
       }
 
       pub planning-endless : a ≡ planned.Endless → PlanIs book width t before check.Endless now
       planning-endless e = record {
-        is = sym (turn ∙ fields-endless book width (t + 1 + i) (n - (i + 1)) (q .endless e));
+        is = check-says _ _ (sym (turn ∙ fields-endless book width (t + 1 + i) (n - (i + 1)) (q .endless e)));
         plan = sym (fill ∙ plan-endless book width (t + 1 + i) i (n - (i + 1)) now (q .endless e));
         entries = λ f. absurd (let z : _≡_ {A = ℕ} 0 1 = cc in omega arith);
       }

@@ -1,13 +1,13 @@
 -- A plan: for each field of a type what resolving it came to, kept as one number. Assumes nothing.
 use mathlib.Core.Path.{_≡_}
 use mathlib.Core.Bool.{true}
-use mathlib.Core.List.{List}
+use mathlib.Core.List.{List, [], _∷_}
 use Prim.Native.Nat.{ℕ, zero, suc, _+_, _*_, _<_}
 use lib.ListN.{length, getD, set}
 use Rattle.typebook.specs.Book.{isType, fieldsOf}
 use Rattle.type_category.specs.Category.{categoryOf}
-use Rattle.category_number.specs.Number.{categoryNumber}
-use Rattle.field_types.specs.Fields.{resolveField, fieldsCheck}
+use Rattle.type_category.specs.Number.{categoryNumber}
+use Rattle.field_types.specs.Fields.{checkNumbers, resolveField, fieldsCheck}
 use Rattle.field_types.specs.declared.ResolvedField.{ResolvedField}
 use Rattle.field_types.specs.declared.FieldAnswer.{FieldAnswer}
 use Rattle.field_types.specs.declared.FieldAnswer.the-variants as answer
@@ -21,11 +21,12 @@ use Rattle.field_plan.specs.declared.Planned.the-variants as planned
 abbrev pub entryOf : PlannedField → ℕ
 entryOf x = 1 + x .resolved * 16 + categoryNumber (x .category)
 
--- document 01's number of a planned field, 0 where its type is found; 7 comes with the block that `Lacks` carries
-abbrev pub plannedRefusal : Planned → ℕ
-plannedRefusal (planned.Field x) = 0
-plannedRefusal (planned.Lacks b) = 7
-plannedRefusal planned.Endless = 8
+-- document 01's number and values of a planned field: 0 and its offset, size, resolved block and that type's category, 7 and the block whose
+-- type name is not found, or 8
+unfoldable pub plannedNumbers : Planned → List ℕ
+plannedNumbers (planned.Field x) = 0 ∷ x .offset ∷ x .size ∷ x .resolved ∷ categoryNumber (x .category) ∷ []
+plannedNumbers (planned.Lacks b) = 7 ∷ b ∷ []
+plannedNumbers planned.Endless = 8 ∷ []
 
 -- what a field came to, with the category of its type
 unfoldable pub plannedOf : List ℕ → ℕ → FieldAnswer → Planned
@@ -46,7 +47,7 @@ pub record FieldIs (book : List ℕ) (width f : ℕ) (x : PlannedField) : Type 0
 
 -- an answer is that of resolving field block f; what each of its cases tells
 pub record PlannedIs (book : List ℕ) (width f : ℕ) (r : Planned) : Type 0 where
-  pub is : r ≡ plannedOf book width (resolveField book width f)
+  pub is : plannedNumbers r ≡ plannedNumbers (plannedOf book width (resolveField book width f))
   pub field : (x : PlannedField) → r ≡ planned.Field x → FieldIs book width f x
   pub lacks : (b : ℕ) → r ≡ planned.Lacks b → resolveField book width f ≡ answer.Lacks b
   pub endless : r ≡ planned.Endless → resolveField book width f ≡ answer.Endless
@@ -87,6 +88,6 @@ planOf book width t plan = planFrom book width (t + 1) 0 (fieldsOf book t) plan
 
 -- the answer is the first refusal of the fields, and the plan has the entries of those before it; without one it serves for all, whatever it held
 pub record PlanIs (book : List ℕ) (width t : ℕ) (before : List ℕ) (r : FieldsCheck) (after : List ℕ) : Type 0 where
-  pub is : r ≡ fieldsCheck book width t
+  pub is : checkNumbers r ≡ checkNumbers (fieldsCheck book width t)
   pub plan : after ≡ planOf book width t before
   pub entries : r ≡ check.Fine → Entries book width t after

@@ -7,7 +7,7 @@ ghost use lib.ListN.{length};
 ghost use lib.Seq.{sets};
 ghost use Rattle.typebook.specs.Book.{isType, fieldsOf};
 ghost use Rattle.book_check.specs.Check.{ValidBook};
-ghost use Rattle.field_types.specs.Fields.{fieldsFrom, fieldsCheck, FieldResolved};
+ghost use Rattle.field_types.specs.Fields.{checkNumbers, fieldsFrom, fieldsCheck, FieldResolved};
 ghost use Rattle.field_types.specs.Calls.{fits, recordOf, fieldRecords, fieldsAnswer, Filled, rootFields, rootRecords};
 use book_check::RootCheck;
 use resolvers::Resolved;
@@ -93,7 +93,7 @@ fn check_first(book: &[u8], index: &[u32], width: u8, t: u32, n: u32) -> FieldsC
 // Resolves all fields of type block t in order, up to the first that is refused.
 pub fn check_fields_in(book: &[u8], index: &[u32], width: u8, t: u32) -> FieldsCheck
     requires { ⌜ ValidBook (now book) × (isType (now book) t ≡ true) ⌝ }
-    ensures { λ r. ⌜ r ≡ fieldsCheck (now (book .entry)) width t ⌝ }
+    ensures { λ r. ⌜ checkNumbers r ≡ checkNumbers (fieldsCheck (now (book .entry)) width t) ⌝ }
 {
     check_first(book, index, width, t, block::fields(book, t))
 }

@@ -8,26 +8,17 @@ use lib.ListN.{length, take}
 use lib.Dec.{eqb}
 use borrow.Author.Tests.{ne-eqb}
 use Rattle.typebook.specs.Book.{isType}
-use Rattle.book_check.specs.Check.{checkBook, bookRefusal, ValidBook}
-use Rattle.book_check.specs.declared.BookCheck.{BookCheck}
-use Rattle.book_check.specs.declared.BookCheck.the-variants.{Valid, Size, Sum, Form, Doubled}
+use Rattle.book_check.specs.Check.{checkBook, bookNumbers, ValidBook}
+use Rattle.book_check.proofs.Numbers.{zero-valid}
 use Rattle.book_check.proofs.Valid.{valid-book}
 use Rattle.type_cache.specs.declared.Appended.the-variants.{Done, Refused}
-use Rattle.type_cache.specs.Append.{appendRefusal, appendCall}
+use Rattle.type_cache.specs.Append.{appendedNumbers, appendRefusal, appendCall}
 use Rattle.type_cache.proofs.Adds.{grown}
-use Rattle.codes.specs.Numbers.{truthNumber}
-use Rattle.book_answers.specs.Answers.{appendedRefusal}
+use Rattle.number.specs.Answer.{refusalOf, truthNumber}
 use Rattle.gateway.specs.Calls.{AppendGiven}
 
-zero-valid : (c : BookCheck) → bookRefusal c ≡ 0 → c ≡ Valid
-zero-valid Valid e = refl
-zero-valid Size e = absurd (omega arith)
-zero-valid Sum e = absurd (omega arith)
-zero-valid Form e = absurd (omega arith)
-zero-valid Doubled e = absurd (omega arith)
-
 -- `gateway_check_book` returned 0
-pub book-checked : (buffer : List ℕ) (len : ℕ) → bookRefusal (checkBook buffer len) ≡ 0 → ValidBook (take len buffer)
+pub book-checked : (buffer : List ℕ) (len : ℕ) → refusalOf (bookNumbers (checkBook buffer len)) ≡ 0 → ValidBook (take len buffer)
 book-checked buffer len e = valid-book buffer len (zero-valid _ e)
 
 one-true : (b : Bool) → truthNumber b ≡ 1 → b ≡ true
@@ -38,7 +29,8 @@ one-true false e = absurd (omega arith)
 pub root-checked : (book : List ℕ) (n : ℕ) → truthNumber (isType book n) ≡ 1 → isType book n ≡ true
 root-checked book n e = one-true (isType book n) e
 
-none-refused : (n k : ℕ) → 0 ≡ appendedRefusal (cond (eqb n 0) (Done k) (Refused n)) → n ≡ 0
+none-refused : (n k : ℕ) → 0 ≡ refusalOf (appendedNumbers (cond (eqb n 0) (Done k) (Refused n))) → n ≡ 0
+unfolding appendedNumbers
 none-refused zero k e = refl
 none-refused (suc n) k e = sym (rw (ne-eqb (suc n) 0 (λ q. omega arith)) at e)
 
@@ -47,5 +39,5 @@ pub append-checked : (buffer : List ℕ) (len : ℕ) (piece : List ℕ) {before 
     → ValidBook (take (len + length piece) buffer′)
 unfolding appendCall
 append-checked buffer len piece {buffer′ = buffer′} a =
-    let z : appendRefusal buffer len piece ≡ 0 = none-refused _ _ (a .gives .is ∙ ap appendedRefusal (a .by .answer)) in
+    let z : appendRefusal buffer len piece ≡ 0 = none-refused _ _ (a .gives .is ∙ ap refusalOf (a .by .answer)) in
     valid-book buffer′ (len + length piece) (rw (a .by .bytes) (grown buffer len piece z .check))

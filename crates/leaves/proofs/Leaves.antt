@@ -10,8 +10,8 @@ use lib.Ieee.{Float}
 use borrow.Author.Tests.{eq-eqb, ne-eqb}
 use Rattle.type_id.specs.TypeId.{idOf, numberOf}
 use Rattle.type_id.proofs.TypeIds.{number-of-id}
-use Rattle.integer.specs.Integer.{readInteger}
-use Rattle.float.specs.Float.{readReal}
+use Rattle.integer.specs.Integer.{integerReadNumbers, readInteger}
+use Rattle.float.specs.Float.{realReadNumbers, readReal}
 use Rattle.type_id.specs.declared.AdsTypeId.{AdsTypeId}
 use Rattle.type_id.specs.declared.AdsTypeId.the-variants.{UInt16, UInt32, UInt64}
 use Rattle.integer.specs.declared.Integer.{Integer}
@@ -62,10 +62,32 @@ pub real-nan-double : {v : Real} (n : ℕ) → v ≡ real.NanDouble n → leaf.N
 real-nan-double n e = rw e
 
 pub integer-signed : {r : IntegerRead} {v : Integer} (w b : ℕ) → r ≡ read.Value v → v ≡ integer.Signed w b → leaf.Signed w b ≡ integerLeaf r
+unfolding integerLeaf
 integer-signed w b e q = rw (e, q)
 
 pub integer-unsigned : {r : IntegerRead} {v : Integer} (w n : ℕ) → r ≡ read.Value v → v ≡ integer.Unsigned w n → leaf.Unsigned w n ≡ integerLeaf r
+unfolding integerLeaf
 integer-unsigned w n e q = rw (e, q)
+
+pub integer-size : {r : IntegerRead} → r ≡ read.Size → leaf.Refused 10 ≡ integerLeaf r
+unfolding integerLeaf integerReadNumbers
+integer-size e = rw e
+
+pub integer-id : {r : IntegerRead} → r ≡ read.Unsupported → leaf.Refused 11 ≡ integerLeaf r
+unfolding integerLeaf integerReadNumbers
+integer-id e = rw e
+
+pub unlisted-value : {r : IntegerRead} (v : Integer) → r ≡ read.Value v → leaf.Refused 12 ≡ unlisted r
+unfolding unlisted
+unlisted-value v e = rw e
+
+pub unlisted-size : {r : IntegerRead} → r ≡ read.Size → leaf.Refused 10 ≡ unlisted r
+unfolding unlisted integerReadNumbers
+unlisted-size e = rw e
+
+pub unlisted-id : {r : IntegerRead} → r ≡ read.Unsupported → leaf.Refused 11 ≡ unlisted r
+unfolding unlisted integerReadNumbers
+unlisted-id e = rw e
 
 -- ---- a number by its id
 
@@ -83,12 +105,15 @@ module _ (book : List ℕ) (t : ℕ) (mem : List ℕ) (id : AdsTypeId) (ei : id 
     number-by e = rw (ne-eqb (typeIdOf book t) 33 (λ q. h (number-is ∙ q)), ← ei, ← ef) e
 
     pub number-real : (v : Real) → f ≡ realRead.Value v → r ≡ realLeaf v → r ≡ numberLeaf book t mem
+    unfolding realOr
     number-real v q e = number-by (rw q e)
 
     pub number-size : f ≡ realRead.Size → r ≡ leaf.Refused 10 → r ≡ numberLeaf book t mem
+    unfolding realOr realReadNumbers
     number-size q e = number-by (rw q e)
 
     pub number-integer : f ≡ realRead.Unsupported → (i : IntegerRead) → i ≡ readInteger id mem → r ≡ integerLeaf i → r ≡ numberLeaf book t mem
+    unfolding realOr
     number-integer q i ei e = number-by (rw (q, ← ei) e)
 
 -- ---- a pointer

@@ -1,12 +1,13 @@
 -- What the bytes of a type stand for that is neither struct nor array (document 01: deserializer.rs, refusals 10 to 13). Assumes nothing.
 use mathlib.Core.Bool.{Bool, cond, not}
-use mathlib.Core.List.{List}
+use mathlib.Core.List.{List, [], _∷_}
 use Prim.Native.Nat.{ℕ, zero, suc, _+_}
 use lib.ListN.{length, getD}
 use lib.Dec.{eqb}
+use Rattle.number.specs.Answer.{refusalOf, truthNumber}
 use Rattle.type_id.specs.TypeId.{idOf}
-use Rattle.integer.specs.Integer.{readInteger}
-use Rattle.float.specs.Float.{readReal}
+use Rattle.integer.specs.Integer.{integerNumbers, integerReadNumbers, readInteger}
+use Rattle.float.specs.Float.{realNumbers, realReadNumbers, readReal}
 use Rattle.type_id.specs.declared.AdsTypeId.the-variants.{UInt16, UInt32, UInt64}
 use Rattle.integer.specs.declared.Integer.{Integer}
 use Rattle.integer.specs.declared.Integer.the-variants as integer
@@ -30,6 +31,22 @@ use Rattle.leaves.specs.declared.leaf.LeafValue.{LeafValue}
 use Rattle.leaves.specs.declared.leaf.LeafValue.the-variants as leaf
 use Rattle.leaves.specs.declared.leaf.LeafKind.{LeafKind}
 use Rattle.leaves.specs.declared.leaf.LeafKind.the-variants as kind
+
+-- document 01's number and values of a leaf's answer: 0, then the tape's kind and what the value holds; a text by the type id of STRING (30) or
+-- WSTRING (31) and the number of bytes before its end; or the refusal
+unfoldable pub leafNumbers : LeafValue → List ℕ
+leafNumbers (leaf.Signed w b) = 0 ∷ integerNumbers (integer.Signed w b)
+leafNumbers (leaf.Unsigned w n) = 0 ∷ integerNumbers (integer.Unsigned w n)
+leafNumbers (leaf.Bool b) = 0 ∷ 6 ∷ truthNumber b ∷ []
+leafNumbers (leaf.Single x) = 0 ∷ realNumbers (real.Single x)
+leafNumbers (leaf.Double x) = 0 ∷ realNumbers (real.Double x)
+leafNumbers (leaf.NanSingle n) = 0 ∷ realNumbers (real.NanSingle n)
+leafNumbers (leaf.NanDouble n) = 0 ∷ realNumbers (real.NanDouble n)
+leafNumbers (leaf.Text n) = 0 ∷ 11 ∷ 30 ∷ n ∷ []
+leafNumbers (leaf.WideText n) = 0 ∷ 11 ∷ 31 ∷ n ∷ []
+leafNumbers (leaf.Entry n) = 0 ∷ 12 ∷ n ∷ []
+leafNumbers leaf.Unit = 0 ∷ 13 ∷ []
+leafNumbers (leaf.Refused n) = n ∷ []
 
 -- how the categories are read; a struct, union, function block or array is no leaf, an alias was resolved, programs and functions never arise
 abbrev pub kindOfLeaf : AdsTypeCategory → LeafKind
@@ -66,16 +83,16 @@ abbrev pub valueLeaf : Integer → LeafValue
 valueLeaf (integer.Signed w b) = leaf.Signed w b
 valueLeaf (integer.Unsigned w n) = leaf.Unsigned w n
 
--- 11 for an id that is no integer's, 10 for another size
-abbrev pub integerLeaf : IntegerRead → LeafValue
+-- the integer that was read, or the integer reader's refusal
+unfoldable pub integerLeaf : IntegerRead → LeafValue
 integerLeaf (read.Value v) = valueLeaf v
-integerLeaf read.Size = leaf.Refused 10
-integerLeaf read.Unsupported = leaf.Refused 11
+integerLeaf read.Size = leaf.Refused (refusalOf (integerReadNumbers read.Size))
+integerLeaf read.Unsupported = leaf.Refused (refusalOf (integerReadNumbers read.Unsupported))
 
--- a real's value, or 10 for another size; the other answer for an id that is no real's
-abbrev pub realOr : RealRead → LeafValue → LeafValue
+-- the real that was read, or the real reader's refusal of its size; the other answer for an id that is no real's
+unfoldable pub realOr : RealRead → LeafValue → LeafValue
 realOr (realRead.Value v) other = realLeaf v
-realOr realRead.Size other = leaf.Refused 10
+realOr realRead.Size other = leaf.Refused (refusalOf (realReadNumbers realRead.Size))
 realOr realRead.Unsupported other = other
 
 -- by the type's id alone: Bit (33), a real, an integer, else 11
@@ -108,11 +125,11 @@ unfoldable pub entryFrom : List ℕ → List ℕ → ℕ → ℕ → Found
 entryFrom book mem n zero = Nothing
 entryFrom book mem n (suc k) = cond (sameName (valueOf book n) mem) (At n) (entryFrom book mem (n + 1) k)
 
--- bytes that no entry has: the integer reader's 11 or 10, else 12
-abbrev pub unlisted : IntegerRead → LeafValue
+-- bytes that no entry has: the integer reader's refusal, else 12
+unfoldable pub unlisted : IntegerRead → LeafValue
 unlisted (read.Value v) = leaf.Refused 12
-unlisted read.Size = leaf.Refused 10
-unlisted read.Unsupported = leaf.Refused 11
+unlisted read.Size = leaf.Refused (refusalOf (integerReadNumbers read.Size))
+unlisted read.Unsupported = leaf.Refused (refusalOf (integerReadNumbers read.Unsupported))
 
 -- the entry that was found, else the other answer
 abbrev pub entryOr : Found → LeafValue → LeafValue

@@ -2,7 +2,7 @@
 ghost use mathlib.Core.Path.{_≡_};
 ghost use Prim.Native.Nat.{_+_, _<_};
 ghost use Rattle.typebook.specs.Book.{fieldsOf, entriesOf};
-ghost use Rattle.leaves.specs.Leaf.{kindOfLeaf, boolLeaf, realLeaf, integerLeaf, numberLeaf, pointerLeaf, textLeaf, unlisted, enumLeaf, leafBy, leafAt};
+ghost use Rattle.leaves.specs.Leaf.{leafNumbers, kindOfLeaf, boolLeaf, realLeaf, integerLeaf, numberLeaf, pointerLeaf, textLeaf, unlisted, enumLeaf, leafBy, leafAt};
 use crate::enum_access::find_entry;
 use float::Real;
 use float::RealRead;
@@ -188,7 +188,7 @@ fn enum_leaf(book: &[u8], t: u32, bytes: &[u8]) -> LeafValue
 // The value of resolved type t in `bytes`, where t's category is known.
 pub fn leaf_by(book: &[u8], width: u8, t: u32, category: AdsTypeCategory, bytes: &[u8]) -> LeafValue
     requires { ⌜ t + fieldsOf (now book) t + entriesOf (now book) t < 65536 ⌝ }
-    ensures { λ r. ⌜ r ≡ leafBy (now (book .entry)) width t (now (bytes .entry)) (kindOfLeaf category) ⌝ }
+    ensures { λ r. ⌜ leafNumbers r ≡ leafNumbers (leafBy (now (book .entry)) width t (now (bytes .entry)) (kindOfLeaf category)) ⌝ }
 {
     let kind = kind_of(category);
     match kind {
@@ -204,7 +204,7 @@ pub fn leaf_by(book: &[u8], width: u8, t: u32, category: AdsTypeCategory, bytes:
 // The value of resolved type t in `bytes`.
 pub fn leaf_in(book: &[u8], width: u8, t: u32, bytes: &[u8]) -> LeafValue
     requires { ⌜ t + fieldsOf (now book) t + entriesOf (now book) t < 65536 ⌝ }
-    ensures { λ r. ⌜ r ≡ leafAt (now (book .entry)) width t (now (bytes .entry)) ⌝ }
+    ensures { λ r. ⌜ leafNumbers r ≡ leafNumbers (leafAt (now (book .entry)) width t (now (bytes .entry))) ⌝ }
 {
     leaf_by(
         book,

@@ -21,7 +21,6 @@ use Rattle.walks.specs.Reads.{names, listed, whole}
 use Rattle.walks.specs.Reached.{Reached, Needed, reached, chain}
 use Rattle.walks.proofs.Goes.{Goes, none, old, fresh, stop, goes}
 use Rattle.walks.proofs.Reach.{whole-rest, met-is-reached, reached-met, reached-found}
-use Rattle.missing_types.specs.Calls.{missingRefusal, missingAnswer}
 use Rattle.missing_types.specs.Needs.{Lacking, Listing, Defined}
 
 different : {X : Type 0} → _≡_ {A = ℕ} 0 1 → X
@@ -201,10 +200,3 @@ module _ (book : List ℕ) (width root : ℕ) (h : whole (walkOf book width root
       (λ o. let z : find book y ≡ At root = valid-own book v root t in let n : find book y ≡ Nothing = ap (find book) (sym o) ∙ q in different cc)
       (λ n. rest-listing book width root y f w x (goes-listing book width (goes book width 4095 (y ∷ []) _) (whole-rest root y f w h) x n q))
       (List·Memᴰ·cases-cons (reached-met book width root h r))
-
--- ---- the answer's number
-
--- `missing_types` is not refused after 1 to 6
-pub missing-number : (book : List ℕ) (width t : ℕ) → missingRefusal (missingAnswer true book width t) ≡ 0
-unfolding missingAnswer
-missing-number book width t = refl

@@ -13,20 +13,21 @@ use Rattle.walks.specs.Scratch.{scratchFits}
 use Rattle.walks.proofs.Zeros.{zeros-again}
 use Rattle.read_modify_write.specs.declared.Rmw.{Rmw}
 use Rattle.read_modify_write.specs.declared.Rmw.the-variants as rmw
-use Rattle.read_modify_write.specs.Calls.{rmwAnswer, RmwIn, RmwIs}
+use Rattle.read_modify_write.specs.Calls.{rmwAnswer, rmwCall, RmwIn, RmwIs}
+use Rattle.read_modify_write.proofs.Numbers.{rmw-says}
 
 -- ---- a book that was checked: the scratch is cleared before the walk and after it
 
 pub rmw-done : (book : List ℕ) (width t : ℕ) (sc sc₁ : List ℕ) → sc₁ ≡ replicate (length sc) 0 → (sc₂ : List ℕ) → length sc₂ ≡ length sc₁ → {sc₃ : List ℕ} → sc₃ ≡ replicate (length sc₂) 0
     → {r : Rmw} → r ≡ rmwAnswer true book width t → RmwIn true book width t sc r sc₃
-rmw-done book width t sc sc₁ z sc₂ e y w = record { answer = w; scratch = zeros-again sc sc₁ z sc₂ e y }
+rmw-done book width t sc sc₁ z sc₂ e y w = record { answer = rmw-says _ _ w; scratch = zeros-again sc sc₁ z sc₂ e y }
 
 -- ---- 6
 
 module _ (book : List ℕ) (width t : ℕ) (sc : List ℕ) where
   pub rmw-scratch : length sc < 16384 → RmwIn (scratchFits sc) book width t sc (rmw.Refused 6) sc
   unfolding rmwAnswer
-  rmw-scratch h = let f = lt-leb 16384 (length sc) h in record { answer = rw f; scratch = rw f }
+  rmw-scratch h = let f = lt-leb 16384 (length sc) h in record { answer = rmw-says _ _ (rw f); scratch = rw f }
 
   pub rmw-fits : 16384 ≤ length sc → {sc′ : List ℕ} {r : Rmw} → RmwIn true book width t sc r sc′ → RmwIn (scratchFits sc) book width t sc r sc′
   rmw-fits h q = rw (le-leb 16384 (length sc) h) q
@@ -35,9 +36,9 @@ module _ (book : List ℕ) (width t : ℕ) (sc : List ℕ) where
 
 module _ (buffer : List ℕ) (len root : ℕ) (k : RootCheck) (e : k ≡ checkRoot buffer len root) (width : ℕ) (sc : List ℕ) where
   pub rmw-refused : (n : ℕ) → k ≡ checked.Refused n → RmwIs buffer len width root sc (rmw.Refused n) sc
-  unfolding atRoot
-  rmw-refused n h = record { answer = rw (← e, h); scratch = rw (← e, h) }
+  unfolding rmwCall atRoot
+  rmw-refused n h = record { answer = rmw-says _ _ (rw (← e, h)); scratch = rw (← e, h) }
 
   pub rmw-root : (t : ℕ) → k ≡ checked.Root t → {sc′ : List ℕ} {r : Rmw} → RmwIn (scratchFits sc) (take len buffer) width t sc r sc′ → RmwIs buffer len width root sc r sc′
-  unfolding atRoot
+  unfolding rmwCall atRoot
   rmw-root t h q = record { answer = rw (← e, h) (q .answer); scratch = rw (← e, h) (q .scratch) }

@@ -8,6 +8,7 @@ use Rattle.shape.proofs.Strides.{Along, along-start, along-again, along-end, al
 use Rattle.shape.specs.Array.{strideOf}
 use Rattle.de.proofs.Exits.{value-deep, value-map, value-array, value-leaf, member-lacks, member-endless, member-over, member-value, members-start, members-again, members-end, members-stop, map-odd, map-fine, map-lacks, map-endless, array-odd, array-lacks, array-endless, array-other, array-base, dimension-fine, dimension-lacks, dimension-endless, elements-start, elements-again, elements-end, elements-stop, element-last, element-deep, element-further, field-number, field-first, typed-base, typed-field, category-field, leaf-inside, map-ready, given-none, map-given, own-entries, own-elements, last-given}
 use Rattle.field_plan.proofs.Plans.{entry-of}
+use Rattle.type_category.proofs.Numbers.{category-is}
 use borrow.Fn.Kinds.{In}
 use borrow.Fn.PlainCycle.{Measures, is, falls, and}
 use Rattle.de.proofs.array_access.array.Reads as array-access·array
@@ -262,7 +263,7 @@ array-access·array-determine-requires : (t : ℕ) → array-access·array-lts.N
 array-access·array-determine-requires t c κs = search needs
 
 array-access·array-dimension-requires : (t : ℕ) → array-access·array-lts.Need-dimension-requires (array-access·array-calls t) (array-access·array-at t) array-access·array.Post
-array-access·array-dimension-requires t c κs = (search needs, (search needs, search typed-base, search needs, search fills-first))
+array-access·array-dimension-requires t c κs = (search needs, (search needs, search typed-base, search category-is, search fills-first))
 
 array-access·array-same-length : (t : ℕ) → array-access·array-lts.Need-same-length (array-access·array-calls t) (array-access·array-at t) array-access·array.Post
 array-access·array-same-length t c = search needs

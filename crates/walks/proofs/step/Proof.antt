@@ -3,10 +3,11 @@ use Rattle.resolvers.proofs.Chains.{found-typed}
 use Rattle.walks.proofs.Places.{found-below}
 use Rattle.walks.proofs.Turns.{step-marked, step-full, step-new, step-listed, step-full′, step-lacking}
 use borrow.Author.Needs.{needs}
+use Rattle.type_provider.proofs.Numbers.{found-is}
 use Rattle.walks.proofs.step.Statement.{statement}
 use Rattle.walks.proofs.step.Tie as tie
 
-ruleset exits = (step-marked, step-full, step-new, step-listed, step-full′, step-lacking)
+ruleset exits = (step-marked, step-full, step-new, step-listed, step-full′, step-lacking, found-is)
 
 take-requires : tie.Need-take-requires
 take-requires c κs = search needs
@@ -18,7 +19,7 @@ enum-known-found : tie.Need-enum-known-found
 enum-known-found c = search needs
 
 marked-requires : tie.Need-marked-requires
-marked-requires c κs = (search found-below, search needs)
+marked-requires c κs = (search (found-below, found-is), search needs)
 
 same-length : tie.Need-same-length
 same-length c = search needs
@@ -33,7 +34,7 @@ returns-2 : tie.Need-returns-2
 returns-2 c = search exits
 
 settle-requires : tie.Need-settle-requires
-settle-requires c κs = (search needs, search found-typed, search needs, search needs)
+settle-requires c κs = (search needs, search (found-typed, found-is), search needs, search needs)
 
 enum-told : tie.Need-enum-told
 enum-told c = search needs

@@ -8,6 +8,7 @@ use Rattle.shape.proofs.Strides.{Along, along-start, along-again, along-end, al
 use Rattle.shape.specs.Array.{strideOf}
 use Rattle.de.proofs.Exits.{value-deep, value-map, value-array, value-leaf, member-lacks, member-endless, member-over, member-value, members-start, members-again, members-end, members-stop, map-odd, map-fine, map-lacks, map-endless, array-odd, array-lacks, array-endless, array-other, array-base, dimension-fine, dimension-lacks, dimension-endless, elements-start, elements-again, elements-end, elements-stop, element-last, element-deep, element-further, field-number, field-first, typed-base, typed-field, category-field, leaf-inside, map-ready, given-none, map-given, own-entries, own-elements, last-given}
 use Rattle.field_plan.proofs.Plans.{entry-of}
+use Rattle.type_category.proofs.Numbers.{category-is}
 def μ-array-access·array => 6 * a .1 .1 .1 .1 .1 .1 .0 + 4
 def μ-array-access·dimension => 6 * a .1 .1 .1 .1 .1 .1 .1 .1 .1 .0 + 3
 def μ-array-access·element => 6 * a .1 .1 .1 .1 .1 .1 .1 .1 .1 .1 .0 + 1
@@ -49,7 +50,7 @@ array-access·array-returns-2 => search array-base
 array-access·array-returns-3 => search array-other
 array-access·array-returns-4 => search array-lacks
 array-access·array-returns-5 => search array-endless
-array-access·array-dimension-requires => (search needs, (search needs, search typed-base, search needs, search fills-first))
+array-access·array-dimension-requires => (search needs, (search needs, search typed-base, search category-is, search fills-first))
 array-access·dimension-elements-requires => (search needs, (search needs, search needs, search needs, own-elements _ _ _ _ _ _ (c .before .before .before .before .before .before .element-check .ensures) (search needs), search needs))
 array-access·element-value-requires => (search needs, (search needs, search needs, search needs, search last-given))
 array-access·dimension-returns => search dimension-fine

@@ -1,5 +1,6 @@
 use Rattle.de.proofs.Wholes.{typed-root, root-base, root-lacks, root-endless}
 use Rattle.de.proofs.Exits.{given-none}
+use Rattle.type_category.proofs.Numbers.{category-is}
 use borrow.Author.Needs.{needs}
 use Rattle.de.proofs.deserializer.read_in.Statement.{statement}
 use Rattle.de.proofs.deserializer.read_in.Tie as tie
@@ -29,7 +30,7 @@ part-value-end : tie.Need-part-value-end
 part-value-end c = search needs
 
 value-requires : tie.Need-value-requires
-value-requires c κs = (search needs, search typed-root, search needs, search given-none)
+value-requires c κs = (search needs, search typed-root, search category-is, search given-none)
 
 finish-requires : tie.Need-finish-requires
 finish-requires c κs = search needs

@@ -1,9 +1,10 @@
--- The number of a category, and the category of a number. Assumes nothing.
+-- The number of a category, the numbers of an answer that is one, and the category of a number. Assumes nothing.
 use mathlib.Core.Bool.{cond}
+use mathlib.Core.List.{List, [], _∷_}
 use Prim.Native.Nat.{ℕ}
 use lib.Dec.{eqb}
 use Rattle.type_category.specs.declared.type_category.AdsTypeCategory.{AdsTypeCategory}
 use Rattle.type_category.specs.declared.type_category.AdsTypeCategory.the-variants.{None, Primitive, Alias, Enum, Array, Struct, FunctionBlock, Program, Function, SubRange, String, Bitset, Pointer, Union, Reference, Interface}
 
 -- a category's place in the Rust's declaration, from 0 on
 abbrev pub categoryNumber : AdsTypeCategory → ℕ
@@ -23,6 +24,10 @@ categoryNumber Pointer = 12
 categoryNumber Union = 13
 categoryNumber Reference = 14
 categoryNumber Interface = 15
+
+-- document 01's number and value of an answer: nothing is refused, and the category
+unfoldable pub categoryNumbers : AdsTypeCategory → List ℕ
+categoryNumbers c = 0 ∷ categoryNumber c ∷ []
 
 -- the category of a number; past the last one it is the last
 unfoldable pub categoryAt : ℕ → AdsTypeCategory
