@@ -27,6 +27,7 @@ use Rattle.steps.specs.declared.Step.{Step}
 use Rattle.steps.specs.declared.Step.the-variants.{Stop}
 use Rattle.shape.specs.declared.Shape.{Shape}
 use Rattle.shape.specs.declared.Shape.the-variants as shape
+use Rattle.tape.specs.Record.{newRecord}
 use Rattle.steps.specs.Trace.{rec, one, From, Halts}
 use Rattle.de.specs.Plans.{Given, GivenElement, ElementChecked}
 use Rattle.de.specs.Walk.{Ctx, ctx, whole, Child, shapeAt, shapeCheck, leafOf, checked, memberOf, membersFrom, membersOf, mapOf, elementItem, elementCheck, elementsFrom, elementsOf, dimensionOf, arrayBy, arrayOf, shapeWalk, walk}
@@ -72,7 +73,7 @@ module _ (c : Ctx) (left t : ℕ) (mem : List ℕ) {tape txt : List ℕ} {s r : 
 
 -- ---- member
 
-module _ (child : Child) (c : Ctx) (mem : List ℕ) (f : ℕ) {tape tape₁ txt txt₁ : List ℕ} {s k r : Step} (key : From (one (rec 4 0 f 0)) tape txt s k tape₁ txt₁)
+module _ (child : Child) (c : Ctx) (mem : List ℕ) (f : ℕ) {tape tape₁ txt txt₁ : List ℕ} {s k r : Step} (key : From (one (rec (newRecord 4 0 f 0))) tape txt s k tape₁ txt₁)
     (a : Planned) (q : PlannedIs (c .book) (c .width) f a) where
   pub member-lacks : (b : ℕ) → a ≡ planned.Lacks b → Halts k 7 b r → From (memberOf child c mem f) tape txt s r tape₁ txt₁
   member-lacks b e h = from-as (walks.member-lacks child c mem f b (q .lacks b e)) (chain key (halted h))
@@ -102,9 +103,9 @@ module _ (child : Child) (c : Ctx) (t n : ℕ) (mem : List ℕ) where
       → Rest (membersFrom child c mem (t + 1) n) tape₁ txt₁ first (membersFrom child c mem (t + 1 + (i + 1)) (n - (i + 1))) tape₃ txt₃ next
   members-again i q l v = rest-next q (walks.members-more child c mem t i n l) v
 
-  module _ (e : n ≡ fieldsOf (c .book) t) {tape tape₁ tape₂ txt txt₁ txt₂ : List ℕ} {s first here : Step} (h : From (one (rec 3 0 n 0)) tape txt s first tape₁ txt₁) (i : ℕ)
+  module _ (e : n ≡ fieldsOf (c .book) t) {tape tape₁ tape₂ txt txt₁ txt₂ : List ℕ} {s first here : Step} (h : From (one (rec (newRecord 3 0 n 0))) tape txt s first tape₁ txt₁) (i : ℕ)
       (q : Rest (membersFrom child c mem (t + 1) n) tape₁ txt₁ first (membersFrom child c mem (t + 1 + i) (n - i)) tape₂ txt₂ here) where
-    pub members-end : {tape₃ txt₃ : List ℕ} {r : Step} → n ≤ i → From (one (rec 5 0 0 0)) tape₂ txt₂ here r tape₃ txt₃ → From (membersOf child c t mem) tape txt s r tape₃ txt₃
+    pub members-end : {tape₃ txt₃ : List ℕ} {r : Step} → n ≤ i → From (one (rec (newRecord 5 0 0 0))) tape₂ txt₂ here r tape₃ txt₃ → From (membersOf child c t mem) tape txt s r tape₃ txt₃
     members-end l x = from-as (walks.members-of child c mem t n e) (chain h (q .finish _ _ _ (from-as (walks.members-none child c mem t i n l) x)))
 
     -- a refusal leaves the loop at once
@@ -188,9 +189,9 @@ module _ (child : Child) (c : Ctx) (d t e n : ℕ) (mem : List ℕ) where
       let y : stride ≡ strideOf (c .book) d t e = a .step (omega arith) in
       rw y (rest-next q (walks.elements-more child (elementItem c d t e) mem (strideOf (c .book) d t e) from i n l) (rw (z, y) at v))
 
-  module _ (z : n ≡ countOf (c .book) t d) {tape tape₁ tape₂ txt txt₁ txt₂ : List ℕ} {s first here : Step} (h : From (one (rec 1 0 n 0)) tape txt s first tape₁ txt₁) (from i : ℕ)
+  module _ (z : n ≡ countOf (c .book) t d) {tape tape₁ tape₂ txt txt₁ txt₂ : List ℕ} {s first here : Step} (h : From (one (rec (newRecord 1 0 n 0))) tape txt s first tape₁ txt₁) (from i : ℕ)
       (q : Rest (elementsFrom child (elementItem c d t e) (strideOf (c .book) d t e) mem 0 n) tape₁ txt₁ first (elementsFrom child (elementItem c d t e) (strideOf (c .book) d t e) mem from (n - i)) tape₂ txt₂ here) where
-    pub elements-end : {tape₃ txt₃ : List ℕ} {r : Step} → n ≤ i → From (one (rec 2 0 0 0)) tape₂ txt₂ here r tape₃ txt₃ → From (elementsOf child c d t e mem) tape txt s r tape₃ txt₃
+    pub elements-end : {tape₃ txt₃ : List ℕ} {r : Step} → n ≤ i → From (one (rec (newRecord 2 0 0 0))) tape₂ txt₂ here r tape₃ txt₃ → From (elementsOf child c d t e mem) tape txt s r tape₃ txt₃
     elements-end l x =
         from-as (walks.elements-of child c mem d t e n z)
         (chain h (q .finish _ _ _ (from-as (walks.elements-none child (elementItem c d t e) mem (strideOf (c .book) d t e) from i n l) x)))

@@ -21,6 +21,7 @@ use Rattle.field_plan.specs.Plan.{FieldIs, PlanIs}
 use Rattle.de.specs.Plans.{ElementChecked}
 use Rattle.shape.specs.declared.Shape.{Shape}
 use Rattle.shape.specs.declared.Shape.the-variants as shape
+use Rattle.tape.specs.Record.{newRecord}
 use Rattle.steps.specs.Trace.{rec, one, refuse, _then_}
 use Rattle.de.specs.Walk.{Ctx, Item, whole, further, Child, cut, shapeAt, checked, fieldValue, memberOf, membersFrom, membersOf, mapOf, elementItem, shapeCheck, elementCheck, elementsFrom, elementsOf, dimensionOf, arrayBy, arrayOf, shapeWalk, itemWalk, walk}
 use Rattle.shape.specs.Value.{shapeOf}
@@ -49,20 +50,20 @@ module _ (c : Ctx) (left : ℕ) (mem : List ℕ) where
 
 module _ (child : Child) (c : Ctx) (mem : List ℕ) where
   module _ (f : ℕ) where
-    pub member-lacks : (b : ℕ) → resolveField (c .book) (c .width) f ≡ answer.Lacks b → memberOf child c mem f ≡ one (rec 4 0 f 0) then refuse 7 b
+    pub member-lacks : (b : ℕ) → resolveField (c .book) (c .width) f ≡ answer.Lacks b → memberOf child c mem f ≡ one (rec (newRecord 4 0 f 0)) then refuse 7 b
     unfolding memberOf fieldValue
     member-lacks b e = rw e
 
-    pub member-endless : resolveField (c .book) (c .width) f ≡ answer.Endless → memberOf child c mem f ≡ one (rec 4 0 f 0) then refuse 8 0
+    pub member-endless : resolveField (c .book) (c .width) f ≡ answer.Endless → memberOf child c mem f ≡ one (rec (newRecord 4 0 f 0)) then refuse 8 0
     unfolding memberOf fieldValue
     member-endless e = rw e
 
     module _ (x : PlannedField) (h : FieldIs (c .book) (c .width) f x) where
-      pub member-over : length mem < x .offset + x .size → memberOf child c mem f ≡ one (rec 4 0 f 0) then refuse 10 0
+      pub member-over : length mem < x .offset + x .size → memberOf child c mem f ≡ one (rec (newRecord 4 0 f 0)) then refuse 10 0
       unfolding memberOf fieldValue
       member-over l = rw (h .found, h .offset-is, h .size-is, lt-leb (x .offset + x .size) (length mem) l)
 
-      pub member-in : x .offset + x .size ≤ length mem → memberOf child c mem f ≡ one (rec 4 0 f 0) then child (whole (x .resolved)) (cut (x .offset) (x .size) mem)
+      pub member-in : x .offset + x .size ≤ length mem → memberOf child c mem f ≡ one (rec (newRecord 4 0 f 0)) then child (whole (x .resolved)) (cut (x .offset) (x .size) mem)
       unfolding memberOf fieldValue
       member-in l = rw (h .found, h .offset-is, h .size-is, h .resolved-is, le-leb (x .offset + x .size) (length mem) l)
 
@@ -80,11 +81,11 @@ module _ (child : Child) (c : Ctx) (mem : List ℕ) where
       let k : t + 1 + i + 1 ≡ t + 1 + (i + 1) = omega arith in
       rw (e, k)
 
-  pub members-none : (t i n : ℕ) → n ≤ i → membersFrom child c mem (t + 1 + i) (n - i) ≡ one (rec 5 0 0 0)
+  pub members-none : (t i n : ℕ) → n ≤ i → membersFrom child c mem (t + 1 + i) (n - i) ≡ one (rec (newRecord 5 0 0 0))
   unfolding membersFrom
   members-none t i n h = let e : n - i ≡ 0 = omega arith in rw e
 
-  pub members-of : (t n : ℕ) → n ≡ fieldsOf (c .book) t → membersOf child c t mem ≡ one (rec 3 0 n 0) then membersFrom child c mem (t + 1) n
+  pub members-of : (t n : ℕ) → n ≡ fieldsOf (c .book) t → membersOf child c t mem ≡ one (rec (newRecord 3 0 n 0)) then membersFrom child c mem (t + 1) n
   unfolding membersOf
   members-of t n e = rw e
 
@@ -110,7 +111,7 @@ module _ (child : Child) (c : Ctx) (mem : List ℕ) where
     array-even h r q = rw (← s, eq-eqb (length mem) size h, q)
 
   pub elements-of : (d t e n : ℕ) → n ≡ countOf (c .book) t d
-      → elementsOf child c d t e mem ≡ one (rec 1 0 n 0) then elementsFrom child (elementItem c d t e) (strideOf (c .book) d t e) mem 0 n
+      → elementsOf child c d t e mem ≡ one (rec (newRecord 1 0 n 0)) then elementsFrom child (elementItem c d t e) (strideOf (c .book) d t e) mem 0 n
   unfolding elementsOf
   elements-of d t e n q = rw q
 
@@ -127,7 +128,7 @@ module _ (child : Child) (item : Item) (mem : List ℕ) (stride : ℕ) where
   unfolding elementsFrom
   elements-more from i n h = let q : n - i ≡ suc (n - (i + 1)) = omega arith in rw q
 
-  pub elements-none : (from i n : ℕ) → n ≤ i → elementsFrom child item stride mem from (n - i) ≡ one (rec 2 0 0 0)
+  pub elements-none : (from i n : ℕ) → n ≤ i → elementsFrom child item stride mem from (n - i) ≡ one (rec (newRecord 2 0 0 0))
   unfolding elementsFrom
   elements-none from i n h = let q : n - i ≡ 0 = omega arith in rw q
 

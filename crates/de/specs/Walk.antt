@@ -20,6 +20,7 @@ use Rattle.shape.specs.Value.{shapeOf}
 use Rattle.shape.specs.Array.{strideOf, isLast, bytesOf}
 use Rattle.leaves.specs.Leaf.{leafAt}
 use Rattle.leaf_steps.specs.Leaves.{traceOf}
+use Rattle.tape.specs.Record.{newRecord}
 use Rattle.steps.specs.Trace.{Trace, rec, one, refuse, _then_}
 
 -- what is read and never written
@@ -68,16 +69,16 @@ fieldValue child mem answer.Endless = refuse 8 0
 
 -- field block f: its key, then its value
 unfoldable pub memberOf : Child → Ctx → List ℕ → ℕ → Trace
-memberOf child c mem f = one (rec 4 0 f 0) then fieldValue child mem (resolveField (c .book) (c .width) f)
+memberOf child c mem f = one (rec (newRecord 4 0 f 0)) then fieldValue child mem (resolveField (c .book) (c .width) f)
 
 -- the k fields from block f on, and the end record
 unfoldable pub membersFrom : Child → Ctx → List ℕ → ℕ → ℕ → Trace
-membersFrom child c mem f zero = one (rec 5 0 0 0)
+membersFrom child c mem f zero = one (rec (newRecord 5 0 0 0))
 membersFrom child c mem f (suc k) = memberOf child c mem f then membersFrom child c mem (f + 1) k
 
 -- the map record, the fields in order, the end record
 unfoldable pub membersOf : Child → Ctx → ℕ → List ℕ → Trace
-membersOf child c t mem = one (rec 3 0 (fieldsOf (c .book) t) 0) then membersFrom child c mem (t + 1) (fieldsOf (c .book) t)
+membersOf child c t mem = one (rec (newRecord 3 0 (fieldsOf (c .book) t) 0)) then membersFrom child c mem (t + 1) (fieldsOf (c .book) t)
 
 -- 10 unless the bytes are as many as the type says; all fields are resolved before the map record
 unfoldable pub mapOf : Child → Ctx → ℕ → List ℕ → Trace
@@ -102,13 +103,13 @@ elementCheck c d t e = cond (isLast (c .book) d t) (shapeCheck (shapeAt c e) (fi
 
 -- the k elements of `stride` bytes from `from` on, and the end record
 unfoldable pub elementsFrom : Child → Item → ℕ → List ℕ → ℕ → ℕ → Trace
-elementsFrom child item stride mem from zero = one (rec 2 0 0 0)
+elementsFrom child item stride mem from zero = one (rec (newRecord 2 0 0 0))
 elementsFrom child item stride mem from (suc k) = child item (cut from stride mem) then elementsFrom child item stride mem (from + stride) k
 
 -- dimension d of array t: the array record with its count, its elements in order, the end record
 unfoldable pub elementsOf : Child → Ctx → ℕ → ℕ → ℕ → List ℕ → Trace
 elementsOf child c d t e mem =
-    one (rec 1 0 (countOf (c .book) t d) 0) then elementsFrom child (elementItem c d t e) (strideOf (c .book) d t e) mem 0 (countOf (c .book) t d)
+    one (rec (newRecord 1 0 (countOf (c .book) t d) 0)) then elementsFrom child (elementItem c d t e) (strideOf (c .book) d t e) mem 0 (countOf (c .book) t d)
 
 -- one dimension: in the last one the element's fields are resolved before the array record
 unfoldable pub dimensionOf : Child → Ctx → ℕ → ℕ → ℕ → List ℕ → Trace

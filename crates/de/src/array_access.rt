@@ -18,7 +18,7 @@ use shape::array::product_is;
 use shape::array::stride_of;
 use shape::shape_of;
 use steps::Step;
-use steps::put;
+use steps::put_frame;
 use steps::stop;
 use tape::record::ARRAY;
 use tape::record::ARRAY_END;
@@ -157,7 +157,7 @@ pub(crate) fn elements(
     ensures { λ r. ⌜ From (elementsOf (walk (ctx (now (book .entry)) width) left) (ctx (now (book .entry)) width) d t e (now (bytes .entry))) (now (tape .entry)) (now (text .entry)) s r (now (tape .exit)) (now (text .exit)) ⌝ }
 {
     let n = typebook::block::count(book, t, d) as usize;
-    let mut here = put(s, tape, text, ARRAY, 0, n as u64, 0);
+    let mut here = put_frame(s, tape, text, ARRAY, n as u64);
     let stride = stride_of(n, bytes.len());
     let mut from: usize = 0;
     let mut i: usize = 0;
@@ -184,7 +184,7 @@ pub(crate) fn elements(
         from = to;
         i += 1;
     }
-    put(here, tape, text, ARRAY_END, 0, 0, 0)
+    put_frame(here, tape, text, ARRAY_END, 0)
 }
 
 // What one index of dimension d holds: an element, or the next dimension one level deeper.

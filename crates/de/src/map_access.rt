@@ -11,7 +11,7 @@ use crate::deserializer::value;
 use field_plan::Planned;
 use field_types::FieldsCheck;
 use steps::Step;
-use steps::put;
+use steps::put_frame;
 use steps::stop;
 use tape::record::KEY;
 use tape::record::MAP;
@@ -65,7 +65,7 @@ pub(crate) fn members(
     ensures { λ r. ⌜ From (membersOf (walk (ctx (now (book .entry)) width) left) (ctx (now (book .entry)) width) t (now (bytes .entry))) (now (tape .entry)) (now (text .entry)) s r (now (tape .exit)) (now (text .exit)) ⌝ }
 {
     let n = typebook::block::fields(book, t);
-    let mut here = put(s, tape, text, MAP, 0, n as u64, 0);
+    let mut here = put_frame(s, tape, text, MAP, n as u64);
     let mut i: u32 = 0;
     while i < n {
         let Step::Next(_, _) = here else {
@@ -86,7 +86,7 @@ pub(crate) fn members(
         );
         i += 1;
     }
-    put(here, tape, text, MAP_END, 0, 0, 0)
+    put_frame(here, tape, text, MAP_END, 0)
 }
 
 // Field block f, by its entry of a plan: its key, then its value.
@@ -105,7 +105,7 @@ pub(crate) fn member(
     requires { ⌜ ValidBook (now book) × PlanEntry (now book) width f entry ⌝ }
     ensures { λ r. ⌜ From (memberOf (walk (ctx (now (book .entry)) width) left) (ctx (now (book .entry)) width) (now (bytes .entry)) f) (now (tape .entry)) (now (text .entry)) s r (now (tape .exit)) (now (text .exit)) ⌝ }
 {
-    let key = put(s, tape, text, KEY, 0, f as u64, 0);
+    let key = put_frame(s, tape, text, KEY, f as u64);
     let found = field_plan::planned_field(book, index, width, f, entry);
     match found {
         Planned::Field(x) => {

@@ -16,10 +16,9 @@ use Rattle.float.specs.declared.Real.{Real}
 use Rattle.float.specs.declared.Real.the-variants as real
 use Rattle.float.specs.declared.RealRead.{RealRead}
 use Rattle.float.specs.declared.RealRead.the-variants as realRead
-use Rattle.utf_8.specs.declared.TextEnd.{TextEnd}
-use Rattle.utf_8.specs.declared.TextEnd.the-variants.{Terminated, Unterminated}
-use Rattle.windows_1252.specs.Text.{stringEnd}
-use Rattle.utf_16.specs.WString.{wstringEnd}
+use Rattle.text_decoder.specs.Text.{endBy}
+use Rattle.text_decoder.specs.declared.Decoder.{Decoder}
+use Rattle.text_decoder.specs.declared.Decoder.the-variants as decoder
 use Rattle.typebook.specs.Book.{sizeOf, typeIdOf, fieldsOf, entriesOf, valueOf, sameName}
 use Rattle.type_provider.specs.declared.Found.{Found}
 use Rattle.type_provider.specs.declared.Found.the-variants.{At, Nothing}
@@ -91,17 +90,13 @@ pointerLeaf width mem =
     (cond (eqb width 4) (integerLeaf (readInteger UInt32 mem))
     (cond (eqb width 8) (integerLeaf (readInteger UInt64 mem)) (leaf.Refused 13)))
 
--- the number of bytes before a text's end, whether or not a terminator was found
-abbrev pub endOf : TextEnd → ℕ
-endOf (Terminated n) = n
-endOf (Unterminated n) = n
+-- id 31 is a WSTRING, in UTF-16; else it is a STRING, in Windows-1252
+unfoldable pub decoderOf : List ℕ → ℕ → Decoder
+decoderOf book t = cond (eqb (typeIdOf book t) 31) decoder.Utf16 decoder.Windows1252
 
--- 10 unless the bytes are as many as the type says; id 31 is a WSTRING
+-- 10 unless the bytes are as many as the type says; then the text's decoder and its end
 unfoldable pub textLeaf : List ℕ → ℕ → List ℕ → LeafValue
-textLeaf book t mem =
-    cond (eqb (length mem) (sizeOf book t))
-    (cond (eqb (typeIdOf book t) 31) (leaf.WideText (endOf (wstringEnd mem))) (leaf.Text (endOf (stringEnd mem))))
-    (leaf.Refused 10)
+textLeaf book t mem = cond (eqb (length mem) (sizeOf book t)) (leaf.Text (decoderOf book t) (endBy (decoderOf book t) mem)) (leaf.Refused 10)
 
 -- the first of the k entries from block n on whose value is these bytes
 unfoldable pub entryFrom : List ℕ → List ℕ → ℕ → ℕ → Found
@@ -127,14 +122,18 @@ enumLeaf book t mem =
     (leaf.Refused 10)
 
 -- the value of resolved type t in some bytes, by how it is read; what is no leaf is 11
-unfoldable pub leafBy : List ℕ → ℕ → ℕ → List ℕ → LeafKind → LeafValue
-leafBy book width t mem kind.Number = numberLeaf book t mem
-leafBy book width t mem kind.Text = textLeaf book t mem
-leafBy book width t mem kind.Enum = enumLeaf book t mem
-leafBy book width t mem kind.Pointer = pointerLeaf width mem
-leafBy book width t mem kind.Unit = leaf.Unit
-leafBy book width t mem kind.None = leaf.Refused 11
+unfoldable pub kindLeaf : List ℕ → ℕ → ℕ → List ℕ → LeafKind → LeafValue
+kindLeaf book width t mem kind.Number = numberLeaf book t mem
+kindLeaf book width t mem kind.Text = textLeaf book t mem
+kindLeaf book width t mem kind.Enum = enumLeaf book t mem
+kindLeaf book width t mem kind.Pointer = pointerLeaf width mem
+kindLeaf book width t mem kind.Unit = leaf.Unit
+kindLeaf book width t mem kind.None = leaf.Refused 11
+
+-- the value of resolved type t, of a category, in some bytes
+unfoldable pub leafBy : List ℕ → ℕ → ℕ → AdsTypeCategory → List ℕ → LeafValue
+leafBy book width t c mem = kindLeaf book width t mem (kindOfLeaf c)
 
 -- the value of resolved type t in some bytes
 unfoldable pub leafAt : List ℕ → ℕ → ℕ → List ℕ → LeafValue
-leafAt book width t mem = leafBy book width t mem (kindOfLeaf (categoryOf book width t))
+leafAt book width t mem = leafBy book width t (categoryOf book width t) mem

@@ -40,7 +40,7 @@ use Rattle.shape.proofs.array.product_is.Reads as product-is-reads
 use Rattle.shape.proofs.array.stride_of.Reads as stride-of-reads
 use Rattle.leaf_steps.proofs.leaf.Reads as leaf-reads
 use Rattle.shape.proofs.shape_of.Reads as shape-of-reads
-use Rattle.steps.proofs.put.Reads as put-reads
+use Rattle.steps.proofs.put_frame.Reads as put-frame-reads
 use Rattle.steps.proofs.stop.Reads as stop-reads
 use Rattle.field_plan.proofs.entry_at.Reads as entry-at-reads
 use Rattle.field_plan.proofs.plan_fields_in.Reads as plan-fields-in-reads
@@ -223,7 +223,7 @@ abbrev array-access·element-calls : ℕ → array-access·element-lts.Claims
 array-access·element-calls t = (is-last-reads.Asked, is-last-reads.Learnt, deserializer·value-below t, deserializer·value.Post, stop-reads.Asked, stop-reads.Learnt, array-access·dimension-below t, array-access·dimension.Post)
 
 abbrev array-access·elements-calls : ℕ → array-access·elements-lts.Claims
-array-access·elements-calls t = (count-reads.Asked, count-reads.Learnt, put-reads.Asked, put-reads.Learnt, stride-of-reads.Asked, stride-of-reads.Learnt, array-access·element-below t, array-access·element.Post)
+array-access·elements-calls t = (count-reads.Asked, count-reads.Learnt, put-frame-reads.Asked, put-frame-reads.Learnt, stride-of-reads.Asked, stride-of-reads.Learnt, array-access·element-below t, array-access·element.Post)
 
 abbrev deserializer·value-calls : ℕ → deserializer·value-lts.Claims
 deserializer·value-calls t = (stop-reads.Asked, stop-reads.Learnt, shape-of-reads.Asked, shape-of-reads.Learnt, map-access·map-below t, map-access·map.Post, array-access·array-below t, array-access·array.Post, leaf-reads.Asked, leaf-reads.Learnt)
@@ -232,10 +232,10 @@ abbrev map-access·map-calls : ℕ → map-access·map-lts.Claims
 map-access·map-calls t = (size-reads.Asked, size-reads.Learnt, stop-reads.Asked, stop-reads.Learnt, map-access·members-below t, map-access·members.Post, plan-fields-in-reads.Asked, plan-fields-in-reads.Learnt)
 
 abbrev map-access·member-calls : ℕ → map-access·member-lts.Claims
-map-access·member-calls t = (put-reads.Asked, put-reads.Learnt, planned-field-reads.Asked, planned-field-reads.Learnt, stop-reads.Asked, stop-reads.Learnt, deserializer·value-below t, deserializer·value.Post)
+map-access·member-calls t = (put-frame-reads.Asked, put-frame-reads.Learnt, planned-field-reads.Asked, planned-field-reads.Learnt, stop-reads.Asked, stop-reads.Learnt, deserializer·value-below t, deserializer·value.Post)
 
 abbrev map-access·members-calls : ℕ → map-access·members-lts.Claims
-map-access·members-calls t = (fields-reads.Asked, fields-reads.Learnt, put-reads.Asked, put-reads.Learnt, entry-at-reads.Asked, entry-at-reads.Learnt, map-access·member-below t, map-access·member.Post)
+map-access·members-calls t = (fields-reads.Asked, fields-reads.Learnt, put-frame-reads.Asked, put-frame-reads.Learnt, entry-at-reads.Asked, entry-at-reads.Learnt, map-access·member-below t, map-access·member.Post)
 
 array-access·array-size-requires : (t : ℕ) → array-access·array-lts.Need-size-requires (array-access·array-calls t) (array-access·array-at t) array-access·array.Post
 array-access·array-size-requires t c κs = search needs
@@ -399,8 +399,8 @@ array-access·elements-count-requires t c κs = search needs
 array-access·elements-cast-n : (t : ℕ) → array-access·elements-lts.Need-cast-n (array-access·elements-calls t) (array-access·elements-at t) array-access·elements.Post array-access·elements-Inv-loop array-access·elements-μ-loop
 array-access·elements-cast-n t c = search needs
 
-array-access·elements-put-requires : (t : ℕ) → array-access·elements-lts.Need-put-requires (array-access·elements-calls t) (array-access·elements-at t) array-access·elements.Post array-access·elements-Inv-loop array-access·elements-μ-loop
-array-access·elements-put-requires t c κs = search needs
+array-access·elements-put-frame-requires : (t : ℕ) → array-access·elements-lts.Need-put-frame-requires (array-access·elements-calls t) (array-access·elements-at t) array-access·elements.Post array-access·elements-Inv-loop array-access·elements-μ-loop
+array-access·elements-put-frame-requires t c κs = search needs
 
 array-access·elements-stride-of-requires :
     (t : ℕ) → array-access·elements-lts.Need-stride-of-requires (array-access·elements-calls t) (array-access·elements-at t) array-access·elements.Post array-access·elements-Inv-loop array-access·elements-μ-loop
@@ -449,8 +449,8 @@ array-access·elements-loop-less t c = search needs
 array-access·elements-loop-again : (t : ℕ) → array-access·elements-lts.Need-loop-again (array-access·elements-calls t) (array-access·elements-at t) array-access·elements.Post array-access·elements-Inv-loop array-access·elements-μ-loop
 array-access·elements-loop-again t c = (search needs, search along-again, search needs, search needs, search elements-again)
 
-array-access·elements-put-requires-2 : (t : ℕ) → array-access·elements-lts.Need-put-requires-2 (array-access·elements-calls t) (array-access·elements-at t) array-access·elements.Post array-access·elements-Inv-loop array-access·elements-μ-loop
-array-access·elements-put-requires-2 t c κs = search needs
+array-access·elements-put-frame-requires-2 : (t : ℕ) → array-access·elements-lts.Need-put-frame-requires-2 (array-access·elements-calls t) (array-access·elements-at t) array-access·elements.Post array-access·elements-Inv-loop array-access·elements-μ-loop
+array-access·elements-put-frame-requires-2 t c κs = search needs
 
 array-access·elements-same-length-3 : (t : ℕ) → array-access·elements-lts.Need-same-length-3 (array-access·elements-calls t) (array-access·elements-at t) array-access·elements.Post array-access·elements-Inv-loop array-access·elements-μ-loop
 array-access·elements-same-length-3 t c = search needs
@@ -588,8 +588,8 @@ map-access·map-returns-4 t c = search map-lacks
 map-access·map-returns-5 : (t : ℕ) → map-access·map-lts.Need-returns-5 (map-access·map-calls t) (map-access·map-at t) map-access·map.Post
 map-access·map-returns-5 t c = search map-endless
 
-map-access·member-put-requires : (t : ℕ) → map-access·member-lts.Need-put-requires (map-access·member-calls t) (map-access·member-at t) map-access·member.Post
-map-access·member-put-requires t c κs = search needs
+map-access·member-put-frame-requires : (t : ℕ) → map-access·member-lts.Need-put-frame-requires (map-access·member-calls t) (map-access·member-at t) map-access·member.Post
+map-access·member-put-frame-requires t c κs = search needs
 
 map-access·member-planned-field-requires :
     (t : ℕ) → map-access·member-lts.Need-planned-field-requires (map-access·member-calls t) (map-access·member-at t) map-access·member.Post
@@ -690,11 +690,11 @@ map-access·members-μ-loop book index width t plan bytes left tape₀ text₀ n
 map-access·members-fields-requires : (t : ℕ) → map-access·members-lts.Need-fields-requires (map-access·members-calls t) (map-access·members-at t) map-access·members.Post map-access·members-Inv-loop map-access·members-μ-loop
 map-access·members-fields-requires t c κs = search needs
 
-map-access·members-cast-put : (t : ℕ) → map-access·members-lts.Need-cast-put (map-access·members-calls t) (map-access·members-at t) map-access·members.Post map-access·members-Inv-loop map-access·members-μ-loop
-map-access·members-cast-put t c = search needs
+map-access·members-cast-put-frame : (t : ℕ) → map-access·members-lts.Need-cast-put-frame (map-access·members-calls t) (map-access·members-at t) map-access·members.Post map-access·members-Inv-loop map-access·members-μ-loop
+map-access·members-cast-put-frame t c = search needs
 
-map-access·members-put-requires : (t : ℕ) → map-access·members-lts.Need-put-requires (map-access·members-calls t) (map-access·members-at t) map-access·members.Post map-access·members-Inv-loop map-access·members-μ-loop
-map-access·members-put-requires t c κs = search needs
+map-access·members-put-frame-requires : (t : ℕ) → map-access·members-lts.Need-put-frame-requires (map-access·members-calls t) (map-access·members-at t) map-access·members.Post map-access·members-Inv-loop map-access·members-μ-loop
+map-access·members-put-frame-requires t c κs = search needs
 
 map-access·members-loop-holds : (t : ℕ) → map-access·members-lts.Need-loop-holds (map-access·members-calls t) (map-access·members-at t) map-access·members.Post map-access·members-Inv-loop map-access·members-μ-loop
 map-access·members-loop-holds t c = (search needs, search needs, search needs, search members-start)
@@ -735,8 +735,8 @@ map-access·members-loop-less t c = search needs
 map-access·members-loop-again : (t : ℕ) → map-access·members-lts.Need-loop-again (map-access·members-calls t) (map-access·members-at t) map-access·members.Post map-access·members-Inv-loop map-access·members-μ-loop
 map-access·members-loop-again t c = (search needs, search needs, search needs, search members-again)
 
-map-access·members-put-requires-2 : (t : ℕ) → map-access·members-lts.Need-put-requires-2 (map-access·members-calls t) (map-access·members-at t) map-access·members.Post map-access·members-Inv-loop map-access·members-μ-loop
-map-access·members-put-requires-2 t c κs = search needs
+map-access·members-put-frame-requires-2 : (t : ℕ) → map-access·members-lts.Need-put-frame-requires-2 (map-access·members-calls t) (map-access·members-at t) map-access·members.Post map-access·members-Inv-loop map-access·members-μ-loop
+map-access·members-put-frame-requires-2 t c κs = search needs
 
 map-access·members-same-length-3 : (t : ℕ) → map-access·members-lts.Need-same-length-3 (map-access·members-calls t) (map-access·members-at t) map-access·members.Post map-access·members-Inv-loop map-access·members-μ-loop
 map-access·members-same-length-3 t c = search needs
@@ -818,7 +818,7 @@ pub +array-access·array+array-access·dimension+array-access·element+array-acc
     array-access·elements-μ-loop
     (array-access·elements-count-requires t)
     (array-access·elements-cast-n t)
-    (array-access·elements-put-requires t)
+    (array-access·elements-put-frame-requires t)
     (array-access·elements-stride-of-requires t)
     (array-access·elements-loop-holds t)
     (array-access·elements-enum-told t)
@@ -834,7 +834,7 @@ pub +array-access·array+array-access·dimension+array-access·element+array-acc
     (array-access·elements-add-i t)
     (array-access·elements-loop-less t)
     (array-access·elements-loop-again t)
-    (array-access·elements-put-requires-2 t)
+    (array-access·elements-put-frame-requires-2 t)
     (array-access·elements-same-length-3 t)
     (array-access·elements-same-length-4 t)
     (array-access·elements-returns-2 t))
@@ -886,7 +886,7 @@ pub +array-access·array+array-access·dimension+array-access·element+array-acc
     (map-access·map-returns-5 t))
     (λ t. map-access·member-lts.spec (map-access·member-calls t) (map-access·member-at t)
     map-access·member.Post
-    (map-access·member-put-requires t)
+    (map-access·member-put-frame-requires t)
     (map-access·member-planned-field-requires t)
     (map-access·member-enum-known-found t)
     (map-access·member-cast-from t)
@@ -921,8 +921,8 @@ pub +array-access·array+array-access·dimension+array-access·element+array-acc
     map-access·members-Inv-loop
     map-access·members-μ-loop
     (map-access·members-fields-requires t)
-    (map-access·members-cast-put t)
-    (map-access·members-put-requires t)
+    (map-access·members-cast-put-frame t)
+    (map-access·members-put-frame-requires t)
     (map-access·members-loop-holds t)
     (map-access·members-enum-told t)
     (map-access·members-enum-told-2 t)
@@ -936,7 +936,7 @@ pub +array-access·array+array-access·dimension+array-access·element+array-acc
     (map-access·members-add-i t)
     (map-access·members-loop-less t)
     (map-access·members-loop-again t)
-    (map-access·members-put-requires-2 t)
+    (map-access·members-put-frame-requires-2 t)
     (map-access·members-same-length-3 t)
     (map-access·members-same-length-4 t)
     (map-access·members-returns-2 t)
