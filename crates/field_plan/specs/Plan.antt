@@ -6,6 +6,7 @@ use Prim.Native.Nat.{ℕ, zero, suc, _+_, _*_, _<_}
 use lib.ListN.{length, getD, set}
 use Rattle.typebook.specs.Book.{isType, fieldsOf}
 use Rattle.type_category.specs.Category.{categoryOf}
+use Rattle.type_category.specs.declared.type_category.AdsTypeCategory.{AdsTypeCategory}
 use Rattle.category_number.specs.Number.{categoryNumber}
 use Rattle.field_types.specs.Fields.{resolveField, fieldsCheck}
 use Rattle.field_types.specs.declared.ResolvedField.{ResolvedField}
@@ -17,9 +18,13 @@ use Rattle.field_plan.specs.declared.PlannedField.{PlannedField}
 use Rattle.field_plan.specs.declared.Planned.{Planned}
 use Rattle.field_plan.specs.declared.Planned.the-variants as planned
 
--- a field's entry: 1, sixteen times the block of its resolved type, and the number of that type's category
+-- an entry: 1, the blocks of a type as named and as resolved, each in 16 bits, and the number of its category in 4
+abbrev pub entryBy : ℕ → ℕ → AdsTypeCategory → ℕ
+entryBy named block c = 1 + (named * 65536 + block) * 16 + categoryNumber c
+
+-- a field's entry
 abbrev pub entryOf : PlannedField → ℕ
-entryOf x = 1 + x .resolved * 16 + categoryNumber (x .category)
+entryOf x = entryBy (x .named) (x .resolved) (x .category)
 
 -- document 01's number of a planned field, 0 where its type is found; 7 comes with the block that `Lacks` carries
 abbrev pub plannedRefusal : Planned → ℕ
@@ -30,7 +35,7 @@ plannedRefusal planned.Endless = 8
 -- what a field came to, with the category of its type
 unfoldable pub plannedOf : List ℕ → ℕ → FieldAnswer → Planned
 plannedOf book width (answer.Field x) =
-    planned.Field (record { offset = x .offset; size = x .size; resolved = x .resolved; category = categoryOf book width (x .resolved) })
+    planned.Field (record { offset = x .offset; size = x .size; named = x .named; resolved = x .resolved; category = categoryOf book width (x .resolved) })
 plannedOf book width (answer.Lacks b) = planned.Lacks b
 plannedOf book width answer.Endless = planned.Endless
 
@@ -40,7 +45,9 @@ pub record FieldIs (book : List ℕ) (width f : ℕ) (x : PlannedField) : Type 0
   pub found : resolveField book width f ≡ answer.Field whole
   pub offset-is : whole .offset ≡ x .offset
   pub size-is : whole .size ≡ x .size
+  pub named-is : whole .named ≡ x .named
   pub resolved-is : whole .resolved ≡ x .resolved
+  pub named-typed : isType book (x .named) ≡ true
   pub typed : isType book (x .resolved) ≡ true
   pub category-is : x .category ≡ categoryOf book width (x .resolved)
 
@@ -72,7 +79,7 @@ pub record Ready (book : List ℕ) (width t : ℕ) (plan : List ℕ) : Type 0 wh
 
 -- a plan after field i was resolved: with its entry the plan is filled further, after a refusal it stays
 unfoldable pub noted : List ℕ → ℕ → (List ℕ → List ℕ) → ℕ → List ℕ → FieldAnswer → List ℕ
-noted book width further i plan (answer.Field x) = further (set plan i (1 + x .resolved * 16 + categoryNumber (categoryOf book width (x .resolved))))
+noted book width further i plan (answer.Field x) = further (set plan i (entryBy (x .named) (x .resolved) (categoryOf book width (x .resolved))))
 noted book width further i plan (answer.Lacks b) = plan
 noted book width further i plan answer.Endless = plan
 
