@@ -3,3 +3,4 @@ mod Blocks
 mod Checks
 pub mod Valid
 pub mod Append
+pub mod Roots

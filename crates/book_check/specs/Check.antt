@@ -15,9 +15,13 @@ use Rattle.book_check.specs.declared.BookCheck.the-variants.{Valid, Size
 use Rattle.book_check.specs.declared.RootCheck.{RootCheck}
 use Rattle.book_check.specs.declared.RootCheck.the-variants.{Root, Refused}
 
--- 1: a book lies in its buffer, is not empty, and is 1 to 65,536 whole blocks
+-- 1: a book is not empty; a book of no bytes is turned away by this alone
+abbrev pub notEmpty : ℕ → Bool
+notEmpty len = ltb 0 len
+
+-- 1: a book lies in its buffer, is not empty, and is at most 65,536 whole blocks
 unfoldable pub sizeRight : ℕ → ℕ → Bool
-sizeRight room len = leb len room && (ltb 0 len && (eqb (len % 512) 0 && leb (len / 512) 65536))
+sizeRight room len = leb len room && (notEmpty len && (eqb (len % 512) 0 && leb (len / 512) 65536))
 
 -- block n holds its sum
 unfoldable pub sumAt : List ℕ → ℕ → Bool
@@ -82,3 +86,8 @@ checkRoot buffer len root =
     cond (eqb (bookRefusal (checkBook buffer len)) 0)
     (rootOf (take len buffer) root)
     (Refused (bookRefusal (checkBook buffer len)))
+
+-- what a call with a root answers: its refusal for 1 to 5, else what is said of the root block
+unfoldable pub atRoot : {A : Type 0} → (ℕ → A) → (ℕ → A) → RootCheck → A
+atRoot refuse go (Root t) = go t
+atRoot refuse go (Refused n) = refuse n

@@ -5,8 +5,7 @@ use mathlib.Core.Bool.{Bool, true, false, cond, _&&_}
 use mathlib.Core.List.{List, _++_}
 use Prim.Native.Nat.{ℕ}
 use lib.ListN.{length, take, drop}
-use Rattle.book_check.specs.Check.{checkRoot}
-use Rattle.resolvers.specs.Calls.{atRoot}
+use Rattle.book_check.specs.Check.{checkRoot, atRoot}
 use Rattle.walks.specs.Walk.{walkOf}
 use Rattle.walks.specs.Reads.{count, listed, whole}
 use Rattle.walks.specs.Scratch.{scratchFits, listFits, zeroed}

@@ -4,12 +4,13 @@ use mathlib.Core.Bool.{Bool, true, false, not}
 use mathlib.Core.List.{List}
 use Prim.Native.Nat.{ℕ}
 use lib.ListN.{length, take, replicate}
+use borrow.Author.Tests.{not-true, not-false}
 use Rattle.book_check.specs.declared.RootCheck.{RootCheck}
 use Rattle.book_check.specs.declared.RootCheck.the-variants as checked
 use Rattle.book_check.specs.Check.{checkRoot}
-use Rattle.resolvers.specs.Calls.{atRoot}
+use Rattle.book_check.proofs.Roots.{at-refused, at-block}
 use Rattle.walks.specs.Scratch.{scratchFits}
-use Rattle.walks.proofs.Zeros.{passed, failed, zeros-again}
+use Rattle.walks.proofs.Zeros.{zeros-again}
 use Rattle.read_modify_write.specs.declared.Rmw.{Rmw}
 use Rattle.read_modify_write.specs.declared.Rmw.the-variants as rmw
 use Rattle.read_modify_write.specs.Calls.{rmwAnswer, RmwIn, RmwIs}
@@ -25,18 +26,16 @@ rmw-done book width t sc sc₁ z sc₂ e y w = record { answer = w; scratch = ze
 module _ (book : List ℕ) (width t : ℕ) (sc : List ℕ) (g : Bool) (e : g ≡ scratchFits sc) where
   pub rmw-scratch : not g ≡ true → RmwIn (scratchFits sc) book width t sc (rmw.Refused 6) sc
   unfolding rmwAnswer
-  rmw-scratch h = let f = sym e ∙ failed g h in record { answer = rw f; scratch = rw f }
+  rmw-scratch h = let f = sym e ∙ not-true g h in record { answer = rw f; scratch = rw f }
 
   pub rmw-fits : not g ≡ false → {sc′ : List ℕ} {r : Rmw} → RmwIn true book width t sc r sc′ → RmwIn (scratchFits sc) book width t sc r sc′
-  rmw-fits h q = rw (sym e ∙ passed g h) q
+  rmw-fits h q = rw (sym e ∙ not-false g h) q
 
 -- ---- 1 to 5
 
 module _ (buffer : List ℕ) (len root : ℕ) (k : RootCheck) (e : k ≡ checkRoot buffer len root) (width : ℕ) (sc : List ℕ) where
   pub rmw-refused : (n : ℕ) → k ≡ checked.Refused n → RmwIs buffer len width root sc (rmw.Refused n) sc
-  unfolding atRoot
-  rmw-refused n h = record { answer = rw (← e, h); scratch = rw (← e, h) }
+  rmw-refused n h = record { answer = at-refused _ _ k e n h; scratch = at-refused (λ n. sc) _ k e n h }
 
   pub rmw-root : (t : ℕ) → k ≡ checked.Root t → {sc′ : List ℕ} {r : Rmw} → RmwIn (scratchFits sc) (take len buffer) width t sc r sc′ → RmwIs buffer len width root sc r sc′
-  unfolding atRoot
-  rmw-root t h q = record { answer = rw (← e, h) (q .answer); scratch = rw (← e, h) (q .scratch) }
+  rmw-root t h q = record { answer = q .answer ∙ at-block _ _ k e t h; scratch = q .scratch ∙ at-block _ _ k e t h }

@@ -5,8 +5,7 @@ use mathlib.Core.Bool.{Bool, true, false, cond}
 use mathlib.Core.List.{List}
 use Prim.Native.Nat.{ℕ}
 use lib.ListN.{take}
-use Rattle.book_check.specs.Check.{checkRoot}
-use Rattle.resolvers.specs.Calls.{atRoot}
+use Rattle.book_check.specs.Check.{checkRoot, atRoot}
 use Rattle.walks.specs.Walk.{walkOf}
 use Rattle.walks.specs.Scratch.{scratchFits, zeroed}
 use Rattle.read_modify_write.specs.declared.Rmw.{Rmw}

@@ -3,9 +3,7 @@ use mathlib.Core.Bool.{Bool, true, false}
 use mathlib.Core.List.{List}
 use Prim.Native.Nat.{ℕ}
 use lib.ListN.{take}
-use Rattle.book_check.specs.declared.RootCheck.{RootCheck}
-use Rattle.book_check.specs.declared.RootCheck.the-variants as checked
-use Rattle.book_check.specs.Check.{checkRoot}
+use Rattle.book_check.specs.Check.{checkRoot, atRoot}
 use Rattle.resolvers.specs.declared.Resolved.{Resolved}
 use Rattle.resolvers.specs.declared.Resolved.the-variants as resolved
 use Rattle.resolvers.specs.declared.Resolution.{Resolution}
@@ -17,11 +15,6 @@ abbrev pub resolutionRefusal : Resolution → ℕ
 resolutionRefusal (Block b) = 0
 resolutionRefusal (NotFound b) = 7
 resolutionRefusal (Refused n) = n
-
--- 1 to 5 come first; then what is said of the root block
-unfoldable pub atRoot : {A : Type 0} → (ℕ → A) → (ℕ → A) → RootCheck → A
-atRoot refuse go (checked.Root t) = go t
-atRoot refuse go (checked.Refused n) = refuse n
 
 -- ---- resolve_alias, resolve_indirection
 

@@ -16,10 +16,10 @@ use Rattle.resolvers.specs.declared.Resolved.{Resolved}
 use Rattle.resolvers.specs.declared.Resolved.the-variants.{Base, Lacks, Endless}
 use Rattle.resolvers.specs.Resolve.{onward, resolveAlias}
 use Rattle.visits.specs.Parts.{partsOf}
-use Rattle.walks.specs.Walk.{Walk, met, comesTo, has, push, meet, walk, walkFrom, walkOf}
+use Rattle.walks.specs.Walk.{Walk, over, met, comesTo, has, push, meet, walk, walkFrom, walkOf}
 use Rattle.walks.specs.Reads.{names, count, listed, whole}
 use Rattle.walks.specs.Reached.{Reached, start, part, Distinct, none as nothing, more, Resolves}
-use Rattle.walks.proofs.Goes.{Goes, none, old, fresh, stop, goes}
+use Rattle.walks.proofs.Goes.{Goes, none, old, fresh, stop, walk-none, goes}
 
 pub true-false : {X : Type 0} → true ≡ false → X
 true-false e = absurd (let z : _≡_ {A = ℕ} 0 1 = cc in omega arith)
@@ -254,3 +254,8 @@ from-count book width name block h =
 pub count-whole : (book : List ℕ) (width root : ℕ) → whole (walkOf book width root) ≡ true → count (walkOf book width root) ≤ 4096
 unfolding walkOf
 count-whole book width root = from-count book width (nameOf book root) root
+
+-- a walk from a name that the book lacks meets that name alone: its block is listed, or 7 is answered with it
+pub from-lacking : (book : List ℕ) (width : ℕ) (name : List ℕ) (block : ℕ) → find book name ≡ Nothing → walkFrom book width name block ≡ met block name (Lacks block) over
+unfolding meet push onward
+from-lacking book width name block h = rw (h, walk-none book width 4095 (name ∷ []))
