@@ -1,4 +1,5 @@
--- What the answers tell a caller of the forms whose names end in `_in`: how it comes to a valid book and a type block. Assumes nothing.
+-- What the answers tell a caller: how it comes to a valid book and a type block, which the forms whose names end in `_in` want, and what the number that
+-- a write returned says of its output. Assumes nothing.
 use mathlib.Core.Path.{_≡_, refl, sym, ap, _∙_}
 use mathlib.Core.Bool.{Bool, true, false, cond}
 use mathlib.Core.List.{List}
@@ -17,7 +18,9 @@ use Rattle.type_cache.specs.Append.{appendRefusal, appendCall}
 use Rattle.type_cache.proofs.Adds.{grown}
 use Rattle.codes.specs.Numbers.{truthNumber}
 use Rattle.book_answers.specs.Answers.{appendedRefusal}
-use Rattle.gateway.specs.Calls.{AppendGiven}
+use Rattle.ser.specs.Write.{Outcome, went, refused}
+use Rattle.write_answers.specs.Answers.{writeRefusal, isWritten, Numbered}
+use Rattle.gateway.specs.Calls.{AppendGiven, WriteGiven}
 
 zero-valid : (c : BookCheck) → bookRefusal c ≡ 0 → c ≡ Valid
 zero-valid Valid e = refl
@@ -49,3 +52,18 @@ unfolding appendCall
 append-checked buffer len piece {buffer′ = buffer′} a =
     let z : appendRefusal buffer len piece ≡ 0 = none-refused _ _ (a .gives .is ∙ ap appendedRefusal (a .by .answer)) in
     valid-book buffer′ (len + length piece) (rw (a .by .bytes) (grown buffer len piece z .check))
+
+-- `gateway_write` returned 0: something was written, and the output is that (`call-numbered` and `book-numbered` of write_answers give the premise)
+pub write-done : (o : Outcome) {image output before output′ after : List ℕ} → Numbered o → WriteGiven o image output before 0 output′ after → isWritten o ≡ true
+write-done o n g = n .nought (sym (g .gives .is ∙ ap writeRefusal (g .by .answer)))
+
+-- it returned another number: an output as long as the image is the image
+pub write-kept : (o : Outcome) {image output before output′ after : List ℕ} {r : ℕ} → WriteGiven o image output before r output′ after → (r ≡ 0 → ⊥)
+    → eqb (length output) (length image) ≡ true → output′ ≡ image
+write-kept (went at bytes) g h e = absurd (h (g .gives .is ∙ ap writeRefusal (g .by .answer)))
+write-kept (refused n b bytes) g h e = rw e at (g .by .output-is)
+
+-- whatever it returned: an output of another length is as before
+pub write-other : (o : Outcome) {image output before output′ after : List ℕ} {r : ℕ} → WriteGiven o image output before r output′ after
+    → eqb (length output) (length image) ≡ false → output′ ≡ output
+write-other o g e = rw e at (g .by .output-is)
