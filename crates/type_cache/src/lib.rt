@@ -71,7 +71,7 @@ fn is_known(book: &[u8], name: &[u8]) -> bool
 }
 
 // The longer book fits the buffer, and has at most 65,536 blocks.
-fn has_room(room: usize, len: usize, more: usize) -> bool
+pub fn has_room(room: usize, len: usize, more: usize) -> bool
     ensures { λ r. ⌜ r ≡ hasRoom room len more ⌝ }
 {
     if len > room {
@@ -105,7 +105,7 @@ fn append_refusal(buffer: &[u8], len: usize, addition: &[u8]) -> u8
 }
 
 // Writes the addition after the first `len` bytes, and gives the length of both.
-fn copy(buffer: &mut [u8], len: usize, addition: &[u8]) -> usize
+pub fn copy(buffer: &mut [u8], len: usize, addition: &[u8]) -> usize
     requires { ⌜ len + length (now addition) ≤ length (now buffer) ⌝ }
     ensures { λ r. ⌜ CopyIs (now (buffer .entry)) len (now (addition .entry)) r (now (buffer .exit)) ⌝ }
 {
