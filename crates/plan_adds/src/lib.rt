@@ -37,7 +37,7 @@ pub enum Added {
 }
 
 // Whether a block names a type that its own type is made of, and how many fields are due after it.
-enum Due {
+pub enum Due {
     Names(u32),
     Rest(u32),
 }
