@@ -1,10 +1,15 @@
 -- The rounds of a plan are a list of asks and adds. Assumes nothing.
-use mathlib.Core.Path.{_≡_, refl, sym, ap, _∙_}
+use mathlib.Core.Path.{_≡_, refl, sym, ap, _∙_, subst}
 use mathlib.Core.Bool.{Bool, true, false, cond}
-use mathlib.Core.List.{List, [], _∷_, _++_}
+use mathlib.Core.List.{List, [], _∷_, _++_, append-nil, append-assoc}
 use Prim.Native.Nat.{ℕ, zero, suc, _+_, _-_, _≤_}
 use native.Mathlib.Omega.{arith}
-use lib.ListN.{length}
+use borrow.Author.Tests.{eqb-true, eqb-false}
+use lib.ListN.{length, replicate, length-replicate}
+use Rattle.book_check.specs.declared.BookCheck.the-variants.{Valid}
+use Rattle.book_check.specs.Check.{checkBook}
+use Rattle.type_cache.proofs.Appends.{call-done, call-refused, buffer-kept}
+use Rattle.type_cache.proofs.Adds.{Grown, grown}
 use lib.Dec.{eqb, ltb}
 use Rattle.typebook.specs.Book.{blocks, isType, typeNameOf}
 use Rattle.type_provider.specs.declared.Found.{Found}
@@ -17,14 +22,14 @@ use Rattle.walks.specs.Reads.{listed, whole}
 use Rattle.read_modify_write.specs.declared.Rmw.{Rmw}
 use Rattle.read_modify_write.specs.declared.Rmw.the-variants as rmw
 use Rattle.read_modify_write.specs.Reads.{rmwOf}
-use Rattle.closure.specs.Calls.{Ours, bookOf, Item, ask, add, next, after, Each, none, more, walkAt}
+use Rattle.closure.specs.Calls.{Ours, bookOf, Item, ask, add, appended, next, after, Each, none, more, walkAt}
 use Rattle.closure.specs.Demand.{Given, ListedNone, here, later}
 use Rattle.plan_adds.specs.declared.Due.{Due}
 use Rattle.plan_adds.specs.declared.Due.the-variants.{Names, Rest}
 use Rattle.plan_adds.specs.Adds.{Adding, on, lacks, room, thenOn, appendOf, fetchBy, fetchOf, addListed, passing, dueOf, sweepBy, sweepFrom, sweep, addAll}
 use Rattle.plan_save.specs.Rounds.{Outcome, decided, lacking, refused, ruled, nextRound, closing, notWhole, roundOf, planFrom}
 use Rattle.plan_save.specs.Call.{outcomeOurs}
-use Rattle.plan_decides.specs.Made.{Made, PlanMade}
+use Rattle.plan_decides.specs.Made.{Made, PlanMade, Extends, PlanKeeps}
 
 -- our buffer after some adds
 abbrev endOf : Adding → Ours
@@ -203,3 +208,49 @@ module _ (c : List ℕ) (width root : ℕ) (sc list : List ℕ) (p : 16384 ≤ l
 pub plan-made : PlanMade
 unfolding PlanMade
 plan-made c width root k s sc list p q = rounds-made c width root sc list p q k s
+
+-- ---- our book stays valid
+
+extends-same : (s : Ours) → checkBook (s .buffer) (s .len) ≡ Valid → Extends s s
+extends-same s v = record { valid = v; more = []; grows = sym (append-nil (bookOf s)) }
+
+extends-then : (s y z : Ours) → Extends s y → Extends y z → Extends s z
+extends-then s y z a b =
+    record {
+      valid = b .valid;
+      more = a .more ++ b .more;
+      grows = b .grows ∙ ap (λ (l : List ℕ). l ++ b .more) (a .grows) ∙ append-assoc (bookOf s) (a .more) (b .more);
+    }
+
+-- appending leaves the book as it was, or with the addition after it
+module _ (s : Ours) (d : List ℕ) (v : checkBook (s .buffer) (s .len) ≡ Valid) where
+  appended-extends : Extends s (appended s d)
+  appended-extends = by (eqb (appendRefusal (s .buffer) (s .len) d) 0) refl
+    where
+      by : (g : Bool) → eqb (appendRefusal (s .buffer) (s .len) d) 0 ≡ g → Extends s (appended s d)
+      by true e =
+          let h : appendRefusal (s .buffer) (s .len) d ≡ 0 = eqb-true _ _ e in
+          let g : Grown (s .buffer) (s .len) d = grown (s .buffer) (s .len) d h in
+          record { valid = rw (call-done (s .buffer) (s .len) d h) (g .check); more = d; grows = rw (call-done (s .buffer) (s .len) d h) (g .book) }
+      by false e =
+          let h : appendRefusal (s .buffer) (s .len) d ≡ 0 → ⊥ = eqb-false _ _ e in
+          rw (buffer-kept (s .buffer) (s .len) d h, call-refused (s .buffer) (s .len) d h) (extends-same s v)
+
+extends-next : (c : List ℕ) (s : Ours) (i : Item) → checkBook (s .buffer) (s .len) ≡ Valid → Extends s (next c i s)
+extends-next c s (ask sc ls) v = extends-same s v
+extends-next c s (add n) v = appended-extends s (definitionOf c n) v
+extends-next c s (Item.bytes m) v = appended-extends s m v
+
+extends-after : (c : List ℕ) (is : List Item) (s : Ours) → checkBook (s .buffer) (s .len) ≡ Valid → Extends s (after c is s)
+unfolding after
+extends-after c [] s v = extends-same s v
+extends-after c (i ∷ is) s v =
+    let a : Extends s (next c i s) = extends-next c s i v in
+    extends-then s (next c i s) (after c is (next c i s)) a (extends-after c is (next c i s) (a .valid))
+
+pub plan-keeps : PlanKeeps
+unfolding PlanKeeps
+plan-keeps c width root k s v =
+    let m : Made c width root s (planFrom c width root k s) =
+    rounds-made c width root (replicate 16384 0) (replicate 4096 0) (omega (arith, length-replicate {A = ℕ} 16384 0)) (omega (arith, length-replicate {A = ℕ} 4096 0)) k s in
+    subst (λ (z : Ours). Extends s z) (m .left) (extends-after c (m .items) s v)

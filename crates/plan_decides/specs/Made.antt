@@ -1,10 +1,12 @@
 -- The list of asks and adds that a plan makes, in the words of demand 3. Assumes nothing.
 use mathlib.Core.Path.{_≡_}
 use mathlib.Core.Bool.{Bool}
-use mathlib.Core.List.{List}
+use mathlib.Core.List.{List, _++_}
 use Prim.Native.Nat.{ℕ, _≤_}
 use lib.ListN.{length}
-use Rattle.closure.specs.Calls.{Ours, Item, after, Each}
+use Rattle.book_check.specs.declared.BookCheck.the-variants.{Valid}
+use Rattle.book_check.specs.Check.{checkBook}
+use Rattle.closure.specs.Calls.{Ours, bookOf, Item, after, Each}
 use Rattle.closure.specs.Demand.{Given, ListedNone}
 use Rattle.plan_save.specs.Rounds.{Outcome, decided, planFrom}
 use Rattle.plan_save.specs.Call.{outcomeOurs}
@@ -21,3 +23,13 @@ pub record Made (c : List ℕ) (width root : ℕ) (s : Ours) (o : Outcome) : Typ
 unfoldable pub PlanMade : Type 0
 PlanMade = (c : List ℕ) (width root k : ℕ) (s : Ours) (sc list : List ℕ) → 16384 ≤ length sc → 4096 ≤ length list
     → Made c width root s (planFrom c width root k s)
+
+-- our book is valid, and is the old one with whole definitions after it, or the old one: each call of a list left it so
+pub record Extends (s z : Ours) : Type 0 where
+  pub valid : checkBook (z .buffer) (z .len) ≡ Valid
+  pub more : List ℕ
+  pub grows : bookOf z ≡ bookOf s ++ more
+
+-- the claim: in every outcome, a refusal too, a valid book of ours stays one, whatever the controller's book holds
+unfoldable pub PlanKeeps : Type 0
+PlanKeeps = (c : List ℕ) (width root k : ℕ) (s : Ours) → checkBook (s .buffer) (s .len) ≡ Valid → Extends s (outcomeOurs (planFrom c width root k s))
