@@ -1,8 +1,8 @@
 -- Each premise of the round trip is needed: bytes that a read takes and a write of the same tape does not give back. Assumes nothing.
 use mathlib.Core.Path.{_≡_, refl}
 use mathlib.Core.Bool.{Bool, true, false}
-use mathlib.Core.List.{List, [], _∷_, _++_, flatMap}
-use Prim.Native.Nat.{ℕ, _-_}
+use mathlib.Core.List.{List, [], _∷_, flatMap}
+use Prim.Native.Nat.{ℕ}
 use lib.ListN.{length, replicate}
 use Rattle.ser.specs.Write.{Outcome, went, refused}
 use Rattle.de.specs.Walk.{ctx}
@@ -41,18 +41,7 @@ use Rattle.ser_leaf.specs.Leaf as ser-leaf-leaf
 use Rattle.ser.specs.Write as ser-write
 use Rattle.ser.specs.Call as ser-call
 use Rattle.write_laws.specs.Trip as trip
-
--- bytes, filled up with zeros
-filled : ℕ → List ℕ → List ℕ
-filled n bytes = bytes ++ replicate (n - length bytes) 0
-
--- a block: kind, byte 1, bytes 4 to 7, 8 to 11, 12 to 15 and 16 to 19, the bytes from 20 on, name and type name
-made : ℕ → ℕ → ℕ → ℕ → ℕ → ℕ → List ℕ → List ℕ → List ℕ → List ℕ
-made kind flags low size fields entries value name typeName =
-    let bytes : List ℕ =
-    kind ∷ flags ∷ 0 ∷ 0 ∷ (number-le.leBytes 4 low ++ number-le.leBytes 4 size ++ number-le.leBytes 4 fields ++ number-le.leBytes 4 entries ++ filled 32 value
-    ++ (length name ∷ length typeName ∷ (filled 200 name ++ filled 200 typeName ++ replicate 54 0))) in
-    bytes ++ number-le.leBytes 4 (block-form-form.sumOf bytes)
+use Rattle.write_laws.proofs.Books.{filled, made, bare, enum, struct}
 
 -- what a call writes over some bytes of root block 0, of what a call reads of them
 again : List ℕ → List ℕ → Outcome
@@ -60,19 +49,6 @@ again book mem =
     ser-call.writeCall book (length book) 8 0 mem (length mem)
     (steps-trace.tapeBytes 0 (steps-trace.eventsOf (de-read.readTrace book (length book) 8 0 mem)))
     (steps-trace.textBytes (steps-trace.eventsOf (de-read.readTrace book (length book) 8 0 mem)))
-
--- a type T without fields: id and size
-bare : ℕ → ℕ → List ℕ
-bare id size = made 1 0 id size 0 0 [] (0x54 ∷ []) []
-
--- an enum of one byte, with two entries of these names, 1 and 2
-enum : ℕ → ℕ → List ℕ
-enum x y = made 1 4 17 1 0 2 [] (0x45 ∷ []) [] ++ made 3 1 0 0 0 0 (1 ∷ []) (x ∷ []) [] ++ made 3 1 0 0 0 0 (2 ∷ []) (y ∷ []) []
-
--- a struct of two bytes, with two fields of these names and of the type T, an unsigned byte
-struct : ℕ → ℕ → List ℕ
-struct x y =
-    made 1 0 65 2 2 0 [] (0x53 ∷ []) [] ++ made 2 0 0 1 0 0 [] (x ∷ []) (0x54 ∷ []) ++ made 2 0 1 1 0 0 [] (y ∷ []) (0x54 ∷ []) ++ bare 17 1
 
 -- whether the bytes of root block 0 are kept
 kept : List ℕ → List ℕ → Bool
