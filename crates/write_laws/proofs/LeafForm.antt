@@ -18,15 +18,12 @@ use Rattle.integer.specs.declared.IntegerWrite.the-variants as write
 use Rattle.named_blocks.specs.Named.{entryNamed}
 use Rattle.tape.specs.Text.{recordText}
 use Rattle.tape.specs.declared.record.Record.{Record}
-use Rattle.tape_form.specs.declared.form.Place.the-variants.{At}
 use Rattle.tape_form.specs.Ranges.{leafFine}
 use Rattle.tape_form.specs.Ranges as ranges
 use Rattle.ser_leaf.specs.declared.Target.{Target}
 use Rattle.ser_leaf.specs.declared.Target.the-variants as target
 use Rattle.ser_leaf.specs.Leaf.{Leaf, holds, exactly, boolLeaf, realLeaf, integerEnd, integerBy, pointerLeaf, integerLeaf, entryBy, entryLeaf, enumLeaf, padded, textBy, textLeaf, leafBy}
 use Rattle.ser_leaf.specs.Leaf as leaf
-use Rattle.ser.specs.declared.WriteAnswer.the-variants.{Done}
-use Rattle.ser.specs.Write.{refused}
 use Rattle.write_laws.proofs.Plain.{different}
 
 pub record Mild (l : Leaf) : Type 0 where

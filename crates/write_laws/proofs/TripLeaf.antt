@@ -15,7 +15,7 @@ use Rattle.number.specs.Le.{Bytes, leValue, leBytes}
 use Rattle.number.proofs.ByteOrder.{leValue-below, leBytes-leValue}
 use Rattle.type_id.specs.TypeId.{idOf}
 use Rattle.type_id.specs.declared.AdsTypeId.{AdsTypeId}
-use Rattle.type_id.specs.declared.AdsTypeId.the-variants.{Real32, Real64, UInt16, UInt32, UInt64, String}
+use Rattle.type_id.specs.declared.AdsTypeId.the-variants.{Real32, Real64, UInt16, UInt32, UInt64}
 use Rattle.integer.specs.Integer.{readInteger, writeInteger, integerBytes, bufferAfter}
 use Rattle.integer.specs.declared.Integer.{Integer}
 use Rattle.integer.specs.declared.Integer.the-variants as integer

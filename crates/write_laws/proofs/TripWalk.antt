@@ -37,7 +37,7 @@ use Rattle.tape.specs.Record.{recordBytes, stepAt, Held}
 use Rattle.tape.specs.Text.{nameIn, recordText}
 use Rattle.tape.proofs.Records.{record-back, length-record}
 use Rattle.leaves.specs.Leaf.{leafAt}
-use Rattle.steps.specs.Trace.{Event, rec, Trace, done, stop, textBytes, tapeBytes, one, refuse, _then_}
+use Rattle.steps.specs.Trace.{Event, rec, Trace, done, stop, textBytes, tapeBytes, one, refuse}
 use Rattle.steps.proofs.Runs.{tape-then}
 use Rattle.de.specs.Walk as de
 use Rattle.ser_leaf.specs.Leaf.{targetOf}
