@@ -29,14 +29,14 @@ rec k w a b = tape-record.recordBytes (record { kind = k; width = w; spare = 0; 
 
 -- a key that names the second field of a struct, with a value: the second byte alone
 second : leavesOf (ctx (struct 0x41 0x42) 8 (rec 3 0 1 0 ++ rec 4 0 2 0 ++ rec 8 1 0 7 ++ rec 5 0 0 0) []) 0 2 ≡ record { from = 1; size = 1 } ∷ []
-unfolding rec struct bare made filled number-le.leValue number-le.leBytes typebook-book.sameName typebook-book.isNamed type-id-typeid.idOf type-names-text.isOneOf type-names-text.startsWith type-names-text.contains type-names-names.isPointerName type-names-names.isSubRangeName type-names-names.isPrimitiveName type-category-category.isPointer type-category-category.isReference type-category-category.isAlias type-category-category.orElse type-category-category.isUnion type-category-category.methodsCategory type-category-category.fieldsCategory type-category-category.isEmptyStruct type-category-category.bareCategory type-category-category.sizeCategory type-category-category.complexCategory type-category-category.simpleCategory type-category-category.categoryOf type-provider-find.findFrom type-provider-find.find block-form-form.sumOf block-form-form.sumRight block-form-form.every block-form-form.unusedZero block-form-form.nameForm block-form-form.namesForm block-form-form.typeForm block-form-form.fieldForm block-form-form.entryForm resolvers-resolve.isFollowed resolvers-resolve.onward resolvers-resolve.follow resolvers-resolve.lookUp field-types-fields.fieldOf field-types-fields.fieldFound field-types-fields.resolveField field-types-fields.fieldThen field-types-fields.fieldsFrom field-types-fields.fieldsCheck named-blocks-named.namedFrom tape-record.recordBytes tape-record.recordOf tape-record.stepAt tape-text.partOf tape-text.nameIn tape-text.recordText shape-array.productFrom shape-array.strideOf shape-array.isLast shape-array.bytesOf ser-write._then_ ser-write.placed ser-write.takenBy ser-write.taken ser-write.endBy ser-write.leafEnd ser-write.leafOf ser-write.shapeAt ser-write.checked ser-write.fieldValue ser-write.foundValue ser-write.keyBy ser-write.keyOf ser-write.keysFrom ser-write.mapBy ser-write.mapOf ser-write.elementItem ser-write.shapeCheck ser-write.elementCheck ser-write.elementsFrom ser-write.elementsBy ser-write.dimensionOf ser-write.elementType ser-write.enteredBy ser-write.enteredAt ser-write.arrayBy ser-write.arrayOf ser-write.valueBy ser-write.itemWalk ser-write.walk ser-call.typeWrite ser-call.rootBy ser-call.rootWrite ser-call.bookWrite ser-call.checkedWrite ser-call.writeCall touched.isIn touched.isTouched touched.after touched._and_ touched.recordBy touched.endAt touched.fieldTouched touched.foundTouched touched.keyTouched touched.keysTouched touched.elementsTouched touched.dimensionTouched touched.arrayTouched touched.valueTouched touched.itemTouched touched.walkTouched touched.rootTouched touched.leavesOf
+unfolding rec struct bare made filled number-le.leValue number-le.leBytes typebook-book.sameName typebook-book.isNamed type-id-typeid.idOf type-names-text.isOneOf type-names-text.startsWith type-names-text.contains type-names-names.isPointerName type-names-names.isSubRangeName type-names-names.isPrimitiveName type-category-category.isPointer type-category-category.isReference type-category-category.isAlias type-category-category.orElse type-category-category.isUnion type-category-category.fieldsCategory type-category-category.complexCategory type-category-category.simpleCategory type-category-category.categoryOf type-provider-find.findFrom type-provider-find.find resolvers-resolve.isFollowed resolvers-resolve.follow field-types-fields.fieldOf field-types-fields.fieldFound field-types-fields.resolveField named-blocks-named.namedFrom tape-record.recordBytes tape-record.recordOf tape-record.stepAt tape-text.nameIn tape-text.recordText touched.after touched._and_ touched.recordBy touched.endAt touched.fieldTouched touched.foundTouched touched.keyTouched touched.keysTouched touched.valueTouched touched.itemTouched touched.walkTouched touched.rootTouched touched.leavesOf
 second = refl
 
 -- no key: no byte; a leaf by itself: all its bytes
 none : leavesOf (ctx (struct 0x41 0x42) 8 (rec 3 0 0 0 ++ rec 5 0 0 0) []) 0 2 ≡ []
-unfolding rec struct bare made filled number-le.leValue number-le.leBytes typebook-book.sameName typebook-book.isNamed type-id-typeid.idOf type-names-text.isOneOf type-names-text.startsWith type-names-text.contains type-names-names.isPointerName type-names-names.isSubRangeName type-names-names.isPrimitiveName type-category-category.isPointer type-category-category.isReference type-category-category.isAlias type-category-category.orElse type-category-category.isUnion type-category-category.methodsCategory type-category-category.fieldsCategory type-category-category.isEmptyStruct type-category-category.bareCategory type-category-category.sizeCategory type-category-category.complexCategory type-category-category.simpleCategory type-category-category.categoryOf type-provider-find.findFrom type-provider-find.find block-form-form.sumOf block-form-form.sumRight block-form-form.every block-form-form.unusedZero block-form-form.nameForm block-form-form.namesForm block-form-form.typeForm block-form-form.fieldForm block-form-form.entryForm resolvers-resolve.isFollowed resolvers-resolve.onward resolvers-resolve.follow resolvers-resolve.lookUp field-types-fields.fieldOf field-types-fields.fieldFound field-types-fields.resolveField field-types-fields.fieldThen field-types-fields.fieldsFrom field-types-fields.fieldsCheck named-blocks-named.namedFrom tape-record.recordBytes tape-record.recordOf tape-record.stepAt tape-text.partOf tape-text.nameIn tape-text.recordText shape-array.productFrom shape-array.strideOf shape-array.isLast shape-array.bytesOf ser-write._then_ ser-write.placed ser-write.takenBy ser-write.taken ser-write.endBy ser-write.leafEnd ser-write.leafOf ser-write.shapeAt ser-write.checked ser-write.fieldValue ser-write.foundValue ser-write.keyBy ser-write.keyOf ser-write.keysFrom ser-write.mapBy ser-write.mapOf ser-write.elementItem ser-write.shapeCheck ser-write.elementCheck ser-write.elementsFrom ser-write.elementsBy ser-write.dimensionOf ser-write.elementType ser-write.enteredBy ser-write.enteredAt ser-write.arrayBy ser-write.arrayOf ser-write.valueBy ser-write.itemWalk ser-write.walk ser-call.typeWrite ser-call.rootBy ser-call.rootWrite ser-call.bookWrite ser-call.checkedWrite ser-call.writeCall touched.isIn touched.isTouched touched.after touched._and_ touched.recordBy touched.endAt touched.fieldTouched touched.foundTouched touched.keyTouched touched.keysTouched touched.elementsTouched touched.dimensionTouched touched.arrayTouched touched.valueTouched touched.itemTouched touched.walkTouched touched.rootTouched touched.leavesOf
+unfolding rec struct made filled number-le.leValue number-le.leBytes typebook-book.sameName type-id-typeid.idOf type-names-text.isOneOf type-names-text.startsWith type-names-text.contains type-names-names.isPointerName type-names-names.isSubRangeName type-names-names.isPrimitiveName type-category-category.isPointer type-category-category.isReference type-category-category.isAlias type-category-category.orElse type-category-category.isUnion type-category-category.fieldsCategory type-category-category.complexCategory type-category-category.simpleCategory type-category-category.categoryOf resolvers-resolve.isFollowed resolvers-resolve.follow tape-record.recordBytes tape-record.recordOf tape-record.stepAt touched.recordBy touched.endAt touched.keysTouched touched.valueTouched touched.itemTouched touched.walkTouched touched.rootTouched touched.leavesOf
 none = refl
 
 whole : leavesOf (ctx (bare 19 4) 8 (rec 8 4 0 7) []) 0 4 ≡ record { from = 0; size = 4 } ∷ []
-unfolding rec struct bare made filled number-le.leValue number-le.leBytes typebook-book.sameName typebook-book.isNamed type-id-typeid.idOf type-names-text.isOneOf type-names-text.startsWith type-names-text.contains type-names-names.isPointerName type-names-names.isSubRangeName type-names-names.isPrimitiveName type-category-category.isPointer type-category-category.isReference type-category-category.isAlias type-category-category.orElse type-category-category.isUnion type-category-category.methodsCategory type-category-category.fieldsCategory type-category-category.isEmptyStruct type-category-category.bareCategory type-category-category.sizeCategory type-category-category.complexCategory type-category-category.simpleCategory type-category-category.categoryOf type-provider-find.findFrom type-provider-find.find block-form-form.sumOf block-form-form.sumRight block-form-form.every block-form-form.unusedZero block-form-form.nameForm block-form-form.namesForm block-form-form.typeForm block-form-form.fieldForm block-form-form.entryForm resolvers-resolve.isFollowed resolvers-resolve.onward resolvers-resolve.follow resolvers-resolve.lookUp field-types-fields.fieldOf field-types-fields.fieldFound field-types-fields.resolveField field-types-fields.fieldThen field-types-fields.fieldsFrom field-types-fields.fieldsCheck named-blocks-named.namedFrom tape-record.recordBytes tape-record.recordOf tape-record.stepAt tape-text.partOf tape-text.nameIn tape-text.recordText shape-array.productFrom shape-array.strideOf shape-array.isLast shape-array.bytesOf ser-write._then_ ser-write.placed ser-write.takenBy ser-write.taken ser-write.endBy ser-write.leafEnd ser-write.leafOf ser-write.shapeAt ser-write.checked ser-write.fieldValue ser-write.foundValue ser-write.keyBy ser-write.keyOf ser-write.keysFrom ser-write.mapBy ser-write.mapOf ser-write.elementItem ser-write.shapeCheck ser-write.elementCheck ser-write.elementsFrom ser-write.elementsBy ser-write.dimensionOf ser-write.elementType ser-write.enteredBy ser-write.enteredAt ser-write.arrayBy ser-write.arrayOf ser-write.valueBy ser-write.itemWalk ser-write.walk ser-call.typeWrite ser-call.rootBy ser-call.rootWrite ser-call.bookWrite ser-call.checkedWrite ser-call.writeCall touched.isIn touched.isTouched touched.after touched._and_ touched.recordBy touched.endAt touched.fieldTouched touched.foundTouched touched.keyTouched touched.keysTouched touched.elementsTouched touched.dimensionTouched touched.arrayTouched touched.valueTouched touched.itemTouched touched.walkTouched touched.rootTouched touched.leavesOf
+unfolding rec bare made filled number-le.leValue number-le.leBytes typebook-book.sameName type-id-typeid.idOf type-names-text.isOneOf type-names-text.startsWith type-names-text.contains type-names-names.isPointerName type-names-names.isSubRangeName type-category-category.isPointer type-category-category.isReference type-category-category.isAlias type-category-category.orElse type-category-category.simpleCategory type-category-category.categoryOf resolvers-resolve.isFollowed resolvers-resolve.follow tape-record.recordBytes tape-record.recordOf tape-record.stepAt touched.recordBy touched.valueTouched touched.itemTouched touched.walkTouched touched.rootTouched touched.leavesOf
 whole = refl
