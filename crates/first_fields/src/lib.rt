@@ -52,12 +52,13 @@ fn note_few(book: &[u8], t: u32, firsts: &mut [u32])
     note_fields(book, t, &mut names, firsts);
 }
 
-// With marks for as many names as a book can have.
+// With marks for some thousand names. They are few enough for each level of a walk to have them on its stack; of a longer type more names
+// find their marks taken, and more fields are searched.
 fn note_many(book: &[u8], t: u32, firsts: &mut [u32])
     requires { ⌜ (t + fieldsOf (now book) t + entriesOf (now book) t < 65536) × (fieldsOf (now book) t ≤ 32 * length (now firsts)) × Firsts (now book) t (now firsts) ⌝ }
     ensures { λ _. ⌜ Firsts (now (book .entry)) t (now (firsts .exit)) ⌝ }
 {
-    let mut names = [0u32; 32768];
+    let mut names = [0u32; 1024];
     note_fields(book, t, &mut names, firsts);
 }
 
