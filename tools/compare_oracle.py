@@ -18,6 +18,7 @@ Ends with 1 if anything else differs. Run by hand: it takes five to twenty minut
 
 import argparse
 import collections
+import math
 import sys
 import time
 from random import Random
@@ -99,7 +100,7 @@ class Comparison:
 
     def why_written(self, request, made, data, image, tape, text, raw, ours):
         """What of document 01 makes a write's answer another than the original's, or None."""
-        if raw.startswith("panic"):
+        if raw.startswith("panic") or any(math.prod(t.dims) >= 2**32 for t in made.book.types):
             return "product of 2^64 or more"
         if request == "write":
             by_document = self.original.ask("writedoc", made.width, data, made.root, image, tape, text).split(" raw=")[0]

@@ -1,14 +1,15 @@
 -- The form of one block: one law for each way out of each function. Assumes nothing.
-use mathlib.Core.Path.{_≡_, sym, _∙_}
+use mathlib.Core.Path.{_≡_, refl, sym, ap, _∙_}
 use mathlib.Core.Bool.{Bool, true, false, _&&_, not}
 use mathlib.Core.List.{List}
 use Prim.Native.Nat.{ℕ, _*_, _-_, _≤_, _<_}
 use native.Mathlib.Omega.{arith}
 use lib.ListN.{length, getD, take, drop, length-drop}
-use lib.Seq.{length-take-le, take-all}
-use lib.Dec.{eqb}
-use borrow.Author.Tests.{leb-true, lt-ltb, le-ltb, le-leb, lt-leb, eq-eqb, ne-eqb, not-true, not-false}
-use Rattle.block_form.specs.Form.{every, isZero, isPrintable, unusedZero, part, nameForm, namesForm, typeForm, fieldForm, entryForm}
+use lib.Seq.{length-take-le, take-all, take-take}
+use lib.Dec.{eqb, ltb}
+use borrow.Author.Tests.{leb-true, ltb-true, lt-ltb, le-ltb, le-leb, lt-leb, eq-eqb, ne-eqb, not-true, not-false}
+use Rattle.number.specs.Le.{leValue}
+use Rattle.block_form.specs.Form.{every, isZero, isPrintable, unusedZero, part, nameForm, namesForm, flagsForm, typeForm, fieldForm, entryForm}
 use Rattle.block_form.proofs.Bytes.{and-left}
 
 module _ (used : ℕ) (part : List ℕ) where
@@ -53,36 +54,49 @@ module _ (b : List ℕ) where
       unfolding namesForm
       names-rest h r s = rw (← e, ← q, not-false t g, ← f, ← o, not-false u h) s
 
+-- the flags of a type block, and the one place that opens their form
+pub flags-is : (flags id : ℕ) → ltb flags 32 ≡ flagsForm flags id
+unfolding flagsForm
+flags-is flags id = refl
+
+pub flags-below : (flags id : ℕ) → flagsForm flags id ≡ true → flags < 32
+unfolding flagsForm
+flags-below flags id h = ltb-true flags 32 h
+
 module _ (b : List ℕ) where
   pub type-kind : (getD b 0 0 ≡ 1 → ⊥) → false ≡ typeForm b
   unfolding typeForm
   type-kind h = rw (ne-eqb (getD b 0 0) 1 h)
 
   module _ (k : getD b 0 0 ≡ 1) where
-    pub type-flags : 32 ≤ getD b 1 0 → false ≡ typeForm b
-    unfolding typeForm
-    type-flags h = rw (eq-eqb (getD b 0 0) 1 k, le-ltb (getD b 1 0) 32 h)
+    module _ (i : ℕ) (ei : i ≡ leValue (take 4 (part 4 8 b))) (g : Bool) (eg : g ≡ flagsForm (getD b 1 0) i) where
+      flags-as : flagsForm (getD b 1 0) (leValue (part 4 8 b)) ≡ g
+      flags-as = rw (← take-take 4 4 (drop 4 b) (omega arith)) (ap (flagsForm (getD b 1 0)) (sym ei) ∙ sym eg)
 
-    module _ (f : getD b 1 0 < 32) where
-      pub type-dimensions : 8 < getD b 2 0 → false ≡ typeForm b
+      pub type-flags : not g ≡ true → false ≡ typeForm b
       unfolding typeForm
-      type-dimensions h = rw (eq-eqb (getD b 0 0) 1 k, lt-ltb (getD b 1 0) 32 f, lt-leb (getD b 2 0) 8 h)
+      type-flags h = rw (eq-eqb (getD b 0 0) 1 k, flags-as, not-true g h)
 
-      module _ (d : getD b 2 0 ≤ 8) where
-        pub type-spare : (getD b 3 0 ≡ 0 → ⊥) → false ≡ typeForm b
+      module _ (f : not g ≡ false) where
+        pub type-dimensions : 8 < getD b 2 0 → false ≡ typeForm b
         unfolding typeForm
-        type-spare h = rw (eq-eqb (getD b 0 0) 1 k, lt-ltb (getD b 1 0) 32 f, le-leb (getD b 2 0) 8 d, ne-eqb (getD b 3 0) 0 h)
+        type-dimensions h = rw (eq-eqb (getD b 0 0) 1 k, flags-as, not-false g f, lt-leb (getD b 2 0) 8 h)
 
-        module _ (z : getD b 3 0 ≡ 0) (n : ℕ) (e : n ≡ getD b 2 0) (t : Bool) (q : t ≡ unusedZero (n * 4) (part 20 52 b)) where
-          rest : typeForm b ≡ t && namesForm b
+        module _ (d : getD b 2 0 ≤ 8) where
+          pub type-spare : (getD b 3 0 ≡ 0 → ⊥) → false ≡ typeForm b
           unfolding typeForm
-          rest = rw (eq-eqb (getD b 0 0) 1 k, lt-ltb (getD b 1 0) 32 f, le-leb (getD b 2 0) 8 d, eq-eqb (getD b 3 0) 0 z, q, e)
+          type-spare h = rw (eq-eqb (getD b 0 0) 1 k, flags-as, not-false g f, le-leb (getD b 2 0) 8 d, ne-eqb (getD b 3 0) 0 h)
 
-          pub type-counts : not t ≡ true → false ≡ typeForm b
-          type-counts h = sym (rest ∙ rw (not-true t h))
+          module _ (z : getD b 3 0 ≡ 0) (n : ℕ) (e : n ≡ getD b 2 0) (t : Bool) (q : t ≡ unusedZero (n * 4) (part 20 52 b)) where
+            rest : typeForm b ≡ t && namesForm b
+            unfolding typeForm
+            rest = rw (eq-eqb (getD b 0 0) 1 k, flags-as, not-false g f, le-leb (getD b 2 0) 8 d, eq-eqb (getD b 3 0) 0 z, q, e)
 
-          pub type-names : not t ≡ false → (r : Bool) → r ≡ namesForm b → r ≡ typeForm b
-          type-names h r s = s ∙ sym (rest ∙ rw (not-false t h))
+            pub type-counts : not t ≡ true → false ≡ typeForm b
+            type-counts h = sym (rest ∙ rw (not-true t h))
+
+            pub type-names : not t ≡ false → (r : Bool) → r ≡ namesForm b → r ≡ typeForm b
+            type-names h r s = s ∙ sym (rest ∙ rw (not-false t h))
 
   pub field-kind : (getD b 0 0 ≡ 2 → ⊥) → false ≡ fieldForm b
   unfolding fieldForm

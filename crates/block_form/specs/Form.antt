@@ -47,11 +47,15 @@ namesForm block =
     nameForm (getD block 52 0) (part 54 254 block)
     && (nameForm (getD block 53 0) (part 254 454 block) && every isZero (part 454 508 block))
 
--- a type block: five flags, at most eight dimensions, the counts that they use, two names
+-- byte 1 of a type block, by its type id: bits 0 to 4, whatever the id is
+unfoldable pub flagsForm : ℕ → ℕ → Bool
+flagsForm flags id = ltb flags 32
+
+-- a type block: flags that its type id allows, at most eight dimensions, the counts that they use, two names
 unfoldable pub typeForm : List ℕ → Bool
 typeForm block =
     eqb (getD block 0 0) 1
-    && (ltb (getD block 1 0) 32
+    && (flagsForm (getD block 1 0) (leValue (part 4 8 block))
     && (leb (getD block 2 0) 8
     && (eqb (getD block 3 0) 0 && (unusedZero (getD block 2 0 * 4) (part 20 52 block) && namesForm block))))
 

@@ -3,7 +3,7 @@
 ghost use mathlib.Core.Path.{_≡_};
 ghost use Prim.Native.Nat.{_≤_, _<_};
 ghost use lib.ListN.{length};
-ghost use Rattle.block_form.specs.Form.{sumOf, sumRight, every, isZero, isPrintable, unusedZero, nameForm, namesForm, typeForm, fieldForm, entryForm};
+ghost use Rattle.block_form.specs.Form.{sumOf, sumRight, every, isZero, isPrintable, unusedZero, nameForm, namesForm, flagsForm, typeForm, fieldForm, entryForm};
 use ascii::higher;
 use number::le::le_u32;
 
@@ -108,6 +108,13 @@ fn names_form(block: &[u8]) -> bool
     all_zero(&block[454..508])
 }
 
+// The flags of a type block: five bits, whatever its type id is.
+fn flags_form(flags: u8, id: u32) -> bool
+    ensures { λ r. ⌜ r ≡ flagsForm flags id ⌝ }
+{
+    flags < 32
+}
+
 pub fn type_form(block: &[u8]) -> bool
     requires { ⌜ length (now block) ≡ 512 ⌝ }
     ensures { λ r. ⌜ r ≡ typeForm (now (block .entry)) ⌝ }
@@ -115,7 +122,7 @@ pub fn type_form(block: &[u8]) -> bool
     if block[0] != 1 {
         return false;
     }
-    if block[1] >= 32 {
+    if !flags_form(block[1], le_u32(&block[4..8])) {
         return false;
     }
     if block[2] > 8 {

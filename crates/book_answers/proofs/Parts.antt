@@ -20,5 +20,5 @@ part-from (suc s) k (x ∷ b) zero e = absurd (omega arith)
 part-from (suc s) k (x ∷ b) (suc p) e = part-from s k b p (omega arith)
 
 pub part-given : (book : List ℕ) (start k p : ℕ) {part before after : List ℕ} {r : ℕ} → part ≡ take k (drop start book) → p ≡ placeOf book start
-    → Gives 0 (p ∷ length part ∷ []) before r after → PartGiven book (take k (drop start book)) start before r after
+    → Gives (0 ∷ p ∷ length part ∷ []) before r after → PartGiven book (take k (drop start book)) start before r after
 part-given book start k p n q g = record { gives = rw (← n, ← q) g; is = part-from start k book (placeOf book start) refl }

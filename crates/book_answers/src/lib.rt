@@ -1,8 +1,10 @@
 // What is said of a book, as a number and values: the places of a block's names, and the new length after appending.
 ghost use mathlib.Core.Path.{_≡_};
 ghost use Prim.Native.Nat.{_+_, _*_, _≤_};
+ghost use Rattle.type_cache.specs.Append.{appendedNumbers};
+ghost use Rattle.lent_values.specs.Values.{Gives};
 ghost use Rattle.typebook.specs.Book.{nameOf, typeNameOf};
-ghost use Rattle.book_answers.specs.Answers.{AppendedAs, placeOf, PartGiven};
+ghost use Rattle.book_answers.specs.Answers.{placeOf, PartGiven};
 use lent_values::done_1;
 use lent_values::done_2;
 use type_cache::Appended;
@@ -37,7 +39,7 @@ pub fn give_type_name(book: &[u8], block: u32, values: &mut [u64]) -> u8
 
 // The new length, or the refusal.
 pub fn give_appended(answer: Appended, values: &mut [u64]) -> u8
-    ensures { λ r. ⌜ AppendedAs answer (now (values .entry)) r (now (values .exit)) ⌝ }
+    ensures { λ r. ⌜ Gives (appendedNumbers answer) (now (values .entry)) r (now (values .exit)) ⌝ }
 {
     match answer {
         Appended::Done(n) => done_1(values, n as u64),

@@ -8,13 +8,15 @@ use borrow.Author.Tests.{eq-eqb, ne-eqb, le-leb, lt-leb, lt-ltb, le-ltb, leb-tru
 use lib.ListN.{length, take}
 use lib.Seq.{length-take-le}
 use lib.Dec.{eqb, leb, ltb}
+use Rattle.number.specs.Answer.{refusalOf}
 use Rattle.typebook.specs.Book.{blocks, isType}
 use Rattle.doubles.specs.Doubles.{distinct}
-use Rattle.book_check.specs.Check.{sizeRight, sums, placed, checkBlocks, checkBook, bookRefusal, rootOf, checkRoot}
+use Rattle.book_check.specs.Check.{sizeRight, sums, placed, checkBlocks, checkBook, bookNumbers, rootOf, checkRoot}
 use Rattle.book_check.specs.declared.BookCheck.{BookCheck}
 use Rattle.book_check.specs.declared.BookCheck.the-variants.{Valid, Size, Sum, Form, Doubled}
 use Rattle.book_check.specs.declared.RootCheck.{RootCheck}
 use Rattle.book_check.specs.declared.RootCheck.the-variants.{Root, Refused}
+use Rattle.book_check.proofs.Numbers.{zero-valid}
 use Rattle.block_form.proofs.Bytes.{and-left, and-right}
 
 -- ---- refusal 1
@@ -164,14 +166,7 @@ module _ (book : List ℕ) (root : ℕ) where
     unfolding rootOf
     root-other h = let k : root < blocks book = omega arith in rw (lt-ltb root (blocks book) k, ← q, h)
 
-pub zero-valid : (c : BookCheck) → bookRefusal c ≡ 0 → c ≡ Valid
-zero-valid Valid e = refl
-zero-valid Size e = absurd (omega arith)
-zero-valid Sum e = absurd (omega arith)
-zero-valid Form e = absurd (omega arith)
-zero-valid Doubled e = absurd (omega arith)
-
-module _ (buffer : List ℕ) (len root : ℕ) (c : BookCheck) (e : c ≡ checkBook buffer len) (k : ℕ) (q : k ≡ bookRefusal c) where
+module _ (buffer : List ℕ) (len root : ℕ) (c : BookCheck) (e : c ≡ checkBook buffer len) (k : ℕ) (q : k ≡ refusalOf (bookNumbers c)) where
   pub root-refused : (k ≡ 0 → ⊥) → Refused k ≡ checkRoot buffer len root
   unfolding checkRoot
   root-refused h = rw (← e, ← q, ne-eqb k 0 h)

@@ -9,21 +9,23 @@ use borrow.Author.Tests.{eqb-true, leb-true, ltb-true, ltb-false, not-true}
 use lib.ListN.{length, getD, take, drop, length-take, List·getD-eq-default}
 use lib.Seq.{length-take-le, take-length, take-take, getD-take, getD-drop}
 use lib.Dec.{eqb, leb, ltb}
+use Rattle.number.specs.Answer.{refusalOf}
 use Rattle.typebook.specs.Book.{blocks, blockOf, byteAt, kindOf, isType, dimensionsOf, fieldsOf, entriesOf, nameOf, isNamed}
 use Rattle.type_provider.specs.Find.{find, TypeBlock, UniqueNames}
 use Rattle.type_provider.specs.declared.Found.the-variants.{At}
 use Rattle.typebook.proofs.Blocks.{byte-of-block, part-of-block}
 use Rattle.type_provider.proofs.Finds.{named-own, find-is, searched-all}
-use Rattle.block_form.specs.Form.{every, isZero, isPrintable, part, unusedZero, nameForm, namesForm, typeForm, fieldForm, entryForm}
+use Rattle.block_form.specs.Form.{every, isZero, isPrintable, part, unusedZero, nameForm, namesForm, flagsForm, typeForm, fieldForm, entryForm}
 use Rattle.doubles.specs.Doubles.{allFrom, isOther, isFirst}
-use Rattle.book_check.specs.Check.{sizeRight, placeOf, onward, placedFrom, checkBook, ValidBook, rootOf, checkRoot, bookRefusal}
+use Rattle.book_check.specs.Check.{sizeRight, placeOf, onward, placedFrom, checkBook, ValidBook, rootOf, checkRoot, bookNumbers}
 use Rattle.book_check.specs.declared.Place.the-variants.{Next, Wrong}
 use Rattle.book_check.specs.declared.BookCheck.the-variants.{Valid}
 use Rattle.book_check.specs.declared.RootCheck.the-variants.{Root, Refused}
 use Rattle.block_form.proofs.Bytes.{and-left, and-right}
-use Rattle.block_form.proofs.Forms.{unused-room}
+use Rattle.block_form.proofs.Forms.{unused-room, flags-below}
 use Rattle.doubles.proofs.All.{each-of}
-use Rattle.book_check.proofs.Checks.{Sized, Passed, passes, passed-size, passes-again, size-again, size-in, book-length, zero-valid}
+use Rattle.book_check.proofs.Checks.{Sized, Passed, passes, passed-size, passes-again, size-again, size-in, book-length}
+use Rattle.book_check.proofs.Numbers.{zero-valid}
 
 -- ---- one block
 -- a name of at most 200 bytes, each printable
@@ -99,12 +101,12 @@ module _ (book : List ℕ) (n : ℕ) where
   unfolding typeForm
   type-is h =
       let h₁ = and-right (eqb (getD b 0 0) 1) _ h in
-      let h₂ = and-right (ltb (getD b 1 0) 32) _ h₁ in
+      let h₂ = and-right (flagsForm (getD b 1 0) _) _ h₁ in
       let h₃ = and-right (leb (getD b 2 0) 8) _ h₂ in
       let h₄ = and-right (eqb (getD b 3 0) 0) _ h₃ in
       record {
         kind = sym (byte 0 (omega arith)) ∙ eqb-true _ _ (and-left _ _ h);
-        flags = omega (arith, byte 1 (omega arith), ltb-true (getD b 1 0) 32 (and-left _ _ h₁));
+        flags = omega (arith, byte 1 (omega arith), flags-below (getD b 1 0) _ (and-left _ _ h₁));
         dimensions = omega (arith, byte 2 (omega arith), leb-true (getD b 2 0) 8 (and-left _ _ h₂));
         names = names-of (and-right (unusedZero (getD b 2 0 * 4) (part 20 52 b)) _ h₄);
       }
@@ -229,9 +231,8 @@ pub record Definition (book : List ℕ) (n : ℕ) : Type 0 where
   pub fields : (j : ℕ) → j < fieldsOf book n → IsField book (n + 1 + j)
   pub entries : (j : ℕ) → j < entriesOf book n → IsEntry book (n + 1 + fieldsOf book n + j)
 
--- 1 to 65,536 whole blocks
+-- at most 65,536 whole blocks
 pub record Measured (book : List ℕ) : Type 0 where
-  pub some : 0 < blocks book
   pub few : blocks book ≤ 65536
   pub whole : length book ≡ 512 * blocks book
 
@@ -253,7 +254,11 @@ module _ (book : List ℕ) (v : ValidBook book) where
   pub valid-size : Measured book
   valid-size =
       let z : Sized (length book) (length book) = valid-passes .size in
-      record { some = omega (arith, z .some, z .whole); few = z .few; whole = omega (arith, z .whole) }
+      record { few = z .few; whole = omega (arith, z .whole) }
+
+  -- a valid book has a block: what presumes a book that is not empty cites this law
+  pub valid-some : 0 < blocks book
+  valid-some = let z : Sized (length book) (length book) = valid-passes .size in omega (arith, z .some, z .whole)
 
   pub valid-below : (n k : ℕ) → kindOf book n ≡ suc k → n < blocks book
   valid-below n k h = past book n k (valid-size .whole) h
@@ -346,12 +351,13 @@ valid-in buffer len l v =
     let e : length (take len buffer) ≡ len = length-take-le len buffer l in
     passes-again buffer len (size-in (length buffer) len l (rw e at (p .size))) (p .sum) (p .place) (p .name)
 
--- an answer `Root r` of a call: the book is valid, and r is the number asked, of a type block
-pub record Rooted (book : List ℕ) (root r : ℕ) : Type 0 where
-  pub valid : ValidBook book
+-- an answer `Root r` of a call: the book lies in its buffer and is valid, and r is the number asked, of a type block
+pub record Rooted (buffer : List ℕ) (len root r : ℕ) : Type 0 where
+  pub fits : len ≤ length buffer
+  pub valid : ValidBook (take len buffer)
   pub is : r ≡ root
-  pub kind : isType book r ≡ true
-  pub below : r < blocks book
+  pub kind : isType (take len buffer) r ≡ true
+  pub below : r < blocks (take len buffer)
 
 root-kind : (book : List ℕ) (root r : ℕ) → rootOf book root ≡ Root r → (r ≡ root) × (isType book root ≡ true) × (root < blocks book)
 unfolding rootOf
@@ -361,14 +367,15 @@ root-kind book root r h = by (ltb root (blocks book) && isType book root) refl h
     by true e g = (cc, and-right (ltb root (blocks book)) _ e, ltb-true _ _ (and-left _ _ e))
     by false e g = let z : _≡_ {A = ℕ} 0 1 = cc in absurd (omega arith)
 
-pub root-valid : (buffer : List ℕ) (len root r : ℕ) → checkRoot buffer len root ≡ Root r → Rooted (take len buffer) root r
+pub root-valid : (buffer : List ℕ) (len root r : ℕ) → checkRoot buffer len root ≡ Root r → Rooted buffer len root r
 unfolding checkRoot
-root-valid buffer len root r h = by (eqb (bookRefusal (checkBook buffer len)) 0) refl h
+root-valid buffer len root r h = by (eqb (refusalOf (bookNumbers (checkBook buffer len))) 0) refl h
   where
-    by : (t : Bool) → eqb (bookRefusal (checkBook buffer len)) 0 ≡ t → cond t (rootOf (take len buffer) root) (Refused (bookRefusal (checkBook buffer len))) ≡ Root r → Rooted (take len buffer) root r
+    by : (t : Bool) → eqb (refusalOf (bookNumbers (checkBook buffer len))) 0 ≡ t → cond t (rootOf (take len buffer) root) (Refused (refusalOf (bookNumbers (checkBook buffer len)))) ≡ Root r → Rooted buffer len root r
     by true e g =
         let k = root-kind (take len buffer) root r g in
         record {
+          fits = passes buffer len (zero-valid _ (eqb-true _ _ e)) .size .fits;
           valid = valid-book buffer len (zero-valid _ (eqb-true _ _ e));
           is = k .0;
           kind = rw (k .0) (k .1);

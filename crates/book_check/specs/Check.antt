@@ -1,10 +1,11 @@
 -- Refusals 1 to 5 of document 01, over a book that fills the first `len` bytes of a buffer. Assumes nothing.
 use mathlib.Core.Path.{_≡_}
 use mathlib.Core.Bool.{Bool, false, cond, _&&_}
-use mathlib.Core.List.{List}
+use mathlib.Core.List.{List, [], _∷_}
 use Prim.Native.Nat.{ℕ, zero, suc, _+_, _/_, _%_}
 use lib.ListN.{length, take}
 use lib.Dec.{eqb, leb, ltb}
+use Rattle.number.specs.Answer.{refusalOf}
 use Rattle.typebook.specs.Book.{blocks, blockOf, isType, fieldsOf, entriesOf}
 use Rattle.block_form.specs.Form.{sumRight, typeForm, fieldForm, entryForm}
 use Rattle.doubles.specs.Doubles.{allFrom, distinct}
@@ -15,9 +16,13 @@ use Rattle.book_check.specs.declared.BookCheck.the-variants.{Valid, Size
 use Rattle.book_check.specs.declared.RootCheck.{RootCheck}
 use Rattle.book_check.specs.declared.RootCheck.the-variants.{Root, Refused}
 
--- 1: a book lies in its buffer, is not empty, and is 1 to 65,536 whole blocks
+-- 1: a book is not empty; a book of no bytes is turned away by this alone
+abbrev pub notEmpty : ℕ → Bool
+notEmpty len = ltb 0 len
+
+-- 1: a book lies in its buffer, is not empty, and is at most 65,536 whole blocks
 unfoldable pub sizeRight : ℕ → ℕ → Bool
-sizeRight room len = leb len room && (ltb 0 len && (eqb (len % 512) 0 && leb (len / 512) 65536))
+sizeRight room len = leb len room && (notEmpty len && (eqb (len % 512) 0 && leb (len / 512) 65536))
 
 -- block n holds its sum
 unfoldable pub sumAt : List ℕ → ℕ → Bool
@@ -55,30 +60,35 @@ checkBlocks book = cond (sums book) (cond (placed book) (cond (distinct book) Va
 unfoldable pub checkBook : List ℕ → ℕ → BookCheck
 checkBook buffer len = cond (sizeRight (length buffer) len) (checkBlocks (take len buffer)) Size
 
--- document 01's number of each answer, 0 for a book that is not refused
-abbrev pub bookRefusal : BookCheck → ℕ
-bookRefusal Valid = 0
-bookRefusal Size = 1
-bookRefusal Sum = 2
-bookRefusal Form = 3
-bookRefusal Doubled = 4
+-- document 01's number of a book's check, 0 for a book that is not refused
+unfoldable pub bookNumbers : BookCheck → List ℕ
+bookNumbers Valid = 0 ∷ []
+bookNumbers Size = 1 ∷ []
+bookNumbers Sum = 2 ∷ []
+bookNumbers Form = 3 ∷ []
+bookNumbers Doubled = 4 ∷ []
 
 -- document 01's term: a valid book passes 1 to 4
 abbrev pub ValidBook : List ℕ → Type 0
 ValidBook book = checkBook book (length book) ≡ Valid
 
--- document 01's number of a root's check, 0 for a root that is not refused
-abbrev pub rootRefusal : RootCheck → ℕ
-rootRefusal (Root n) = 0
-rootRefusal (Refused n) = n
+-- document 01's number and value of a root's check: 0 and the root's block, or the refusal
+unfoldable pub rootNumbers : RootCheck → List ℕ
+rootNumbers (Root n) = 0 ∷ n ∷ []
+rootNumbers (Refused n) = n ∷ []
 
 -- 5: the root is the number of a type block
 unfoldable pub rootOf : List ℕ → ℕ → RootCheck
 rootOf book root = cond (ltb root (blocks book) && isType book root) (Root root) (Refused 5)
 
--- 1 to 4 before 5; an answer `Refused n` has document 01's number n
+-- 1 to 4 before 5
 unfoldable pub checkRoot : List ℕ → ℕ → ℕ → RootCheck
 checkRoot buffer len root =
-    cond (eqb (bookRefusal (checkBook buffer len)) 0)
+    cond (eqb (refusalOf (bookNumbers (checkBook buffer len))) 0)
     (rootOf (take len buffer) root)
-    (Refused (bookRefusal (checkBook buffer len)))
+    (Refused (refusalOf (bookNumbers (checkBook buffer len))))
+
+-- what a call with a root answers: its refusal for 1 to 5, else what is said of the root block
+unfoldable pub atRoot : {A : Type 0} → (ℕ → A) → (ℕ → A) → RootCheck → A
+atRoot refuse go (Root t) = go t
+atRoot refuse go (Refused n) = refuse n

@@ -3,8 +3,9 @@
 ghost use mathlib.Core.Path.{_≡_};
 ghost use Prim.Native.Nat.{_≤_, _<_};
 ghost use lib.ListN.{length};
+ghost use Rattle.number.specs.Answer.{refusalOf};
 ghost use Rattle.typebook.specs.Book.{blocks as blocksOf, blockOf};
-ghost use Rattle.book_check.specs.Check.{sizeRight, sums, placeOf, placed as placedIn, checkBook, bookRefusal, rootOf, checkRoot};
+ghost use Rattle.book_check.specs.Check.{sizeRight, sums, placeOf, placed as placedIn, checkBook, bookNumbers, rootNumbers, rootOf, checkRoot};
 use block_form::entry_form;
 use block_form::field_form;
 use block_form::sum_right;
@@ -134,7 +135,7 @@ fn size_right(room: usize, len: usize) -> bool
 
 // Refusals 1 to 4 of the book that fills the first `len` bytes of a buffer.
 pub fn check_book(buffer: &[u8], len: usize) -> BookCheck
-    ensures { λ r. ⌜ r ≡ checkBook (now (buffer .entry)) len ⌝ }
+    ensures { λ r. ⌜ bookNumbers r ≡ bookNumbers (checkBook (now (buffer .entry)) len) ⌝ }
 {
     if !size_right(buffer.len(), len) {
         return BookCheck::Size;
@@ -153,8 +154,8 @@ pub fn check_book(buffer: &[u8], len: usize) -> BookCheck
 }
 
 // Document 01's number of a refusal, 0 for none.
-fn refusal_of(check: BookCheck) -> u8
-    ensures { λ r. ⌜ r ≡ bookRefusal check ⌝ }
+pub fn refusal_of(check: BookCheck) -> u8
+    ensures { λ r. ⌜ r ≡ refusalOf (bookNumbers check) ⌝ }
 {
     match check {
         BookCheck::Valid => 0,
@@ -181,7 +182,7 @@ fn root_of(book: &[u8], root: u64) -> RootCheck
 
 // Refusals 1 to 5 of a book and a root, which may be any number.
 pub fn check_root(buffer: &[u8], len: usize, root: u64) -> RootCheck
-    ensures { λ r. ⌜ r ≡ checkRoot (now (buffer .entry)) len root ⌝ }
+    ensures { λ r. ⌜ rootNumbers r ≡ rootNumbers (checkRoot (now (buffer .entry)) len root) ⌝ }
 {
     let refusal = refusal_of(check_book(buffer, len));
     if refusal != 0 {

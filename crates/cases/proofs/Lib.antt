@@ -1,2 +1,3 @@
--- The theorem.
+-- The theorem, and below it the rows over long books.
+pub mod Chains
 pub mod Table

@@ -1,2 +1,2 @@
--- Laws that the functions' proofs cite, and the crates above.
-pub mod Numbers
+-- Laws that the functions' proofs cite.
+mod Numbers

@@ -1,51 +1,11 @@
--- Laws of a category and its number. This module alone unfolds `categoryAt`. Assumes nothing.
-use mathlib.Core.Path.{_≡_, refl, sym, ap, _∙_}
-use Prim.Native.Nat.{ℕ, _<_}
-use lib.Dec.{lit<}
+-- Laws of the category of a number. Assumes nothing.
+use mathlib.Core.Path.{_≡_, sym, ap, _∙_}
+use Prim.Native.Nat.{ℕ}
 use borrow.Author.Tests.{ne-eqb}
 use Rattle.type_category.specs.declared.type_category.AdsTypeCategory.{AdsTypeCategory}
-use Rattle.type_category.specs.declared.type_category.AdsTypeCategory.the-variants.{None, Primitive, Alias, Enum, Array, Struct, FunctionBlock, Program, Function, SubRange, String, Bitset, Pointer, Union, Reference, Interface}
-use Rattle.category_number.specs.Number.{categoryNumber, categoryAt}
-
-pub number-small : (c : AdsTypeCategory) → categoryNumber c < 16
-number-small None = lit< tt
-number-small Primitive = lit< tt
-number-small Alias = lit< tt
-number-small Enum = lit< tt
-number-small Array = lit< tt
-number-small Struct = lit< tt
-number-small FunctionBlock = lit< tt
-number-small Program = lit< tt
-number-small Function = lit< tt
-number-small SubRange = lit< tt
-number-small String = lit< tt
-number-small Bitset = lit< tt
-number-small Pointer = lit< tt
-number-small Union = lit< tt
-number-small Reference = lit< tt
-number-small Interface = lit< tt
-
--- a category's number gives that category
-pub number-back : (c : AdsTypeCategory) → categoryAt (categoryNumber c) ≡ c
-unfolding categoryAt
-number-back None = refl
-number-back Primitive = refl
-number-back Alias = refl
-number-back Enum = refl
-number-back Array = refl
-number-back Struct = refl
-number-back FunctionBlock = refl
-number-back Program = refl
-number-back Function = refl
-number-back SubRange = refl
-number-back String = refl
-number-back Bitset = refl
-number-back Pointer = refl
-number-back Union = refl
-number-back Reference = refl
-number-back Interface = refl
-
--- ---- category_at
+use Rattle.type_category.specs.declared.type_category.AdsTypeCategory.the-variants.{Interface}
+use Rattle.type_category.specs.Number.{categoryNumber, categoryAt}
+use Rattle.type_category.proofs.Numbers.{number-back}
 
 pub numbered : (c : AdsTypeCategory) (n : ℕ) → n ≡ categoryNumber c → c ≡ categoryAt n
 numbered c n e = sym (number-back c) ∙ ap categoryAt (sym e)

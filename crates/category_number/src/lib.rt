@@ -1,6 +1,6 @@
 // The number of a category: its place in the Rust's declaration, from 0 on.
 ghost use mathlib.Core.Path.{_≡_};
-ghost use Rattle.category_number.specs.Number.{categoryNumber, categoryAt};
+ghost use Rattle.type_category.specs.Number.{categoryNumber, categoryAt};
 use type_category::type_category::AdsTypeCategory;
 
 // The number of a category.

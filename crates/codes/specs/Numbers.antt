@@ -1,5 +1,4 @@
 -- An answer as one number. Assumes nothing.
-use mathlib.Core.Bool.{Bool, true, false}
 use Prim.Native.Nat.{ℕ}
 use Rattle.utf_8.specs.declared.Put.{Put}
 use Rattle.utf_8.specs.declared.Put.the-variants.{Next, Full}
@@ -15,8 +14,3 @@ placeNumber Full = 0xffff_ffff_ffff_ffff
 abbrev pub foundNumber : Found → ℕ
 foundNumber (At n) = n
 foundNumber Nothing = 0xffff_ffff
-
--- 1 for true, 0 for false
-abbrev pub truthNumber : Bool → ℕ
-truthNumber true = 1
-truthNumber false = 0

@@ -1,8 +1,7 @@
 // An answer as one number, for callers that know no enum.
 ghost use mathlib.Core.Path.{_≡_};
-ghost use Rattle.book_check.specs.Check.{bookRefusal};
-ghost use Rattle.codes.specs.Numbers.{placeNumber, foundNumber, truthNumber};
-use book_check::BookCheck;
+ghost use Rattle.number.specs.Answer.{truthNumber};
+ghost use Rattle.codes.specs.Numbers.{placeNumber, foundNumber};
 use type_provider::Found;
 use utf_8::Put;
 
@@ -33,16 +32,4 @@ pub fn truth(b: bool) -> u8
         return 1;
     }
     0
-}
-
-pub fn refusal(check: BookCheck) -> u8
-    ensures { λ r. ⌜ r ≡ bookRefusal check ⌝ }
-{
-    match check {
-        BookCheck::Valid => 0,
-        BookCheck::Size => 1,
-        BookCheck::Sum => 2,
-        BookCheck::Form => 3,
-        BookCheck::Doubled => 4,
-    }
 }

@@ -6,14 +6,20 @@ use Prim.Native.Nat.{ℕ, _+_, _-_, _≤_, _<_}
 use native.Mathlib.Omega.{arith}
 use lib.ListN.{length, take, drop}
 use lib.Dec.{eqb}
-use Rattle.typebook.specs.Book.{isType, sizeOf, fieldsOf, entriesOf, countOf}
+use borrow.Author.Tests.{le-leb, lt-leb}
+use Rattle.field_types.specs.Fields.{resolveField}
+use Rattle.typebook.specs.Book.{isType, sizeOf, fieldsOf, entriesOf, countOf, typeNameOf}
+use Rattle.type_provider.specs.Find.{foundNumbers, find}
+use Rattle.type_provider.specs.declared.Found.{Found}
+use Rattle.type_provider.specs.declared.Found.the-variants.{At, Nothing}
 use Rattle.book_check.specs.Check.{ValidBook}
 use Rattle.book_check.proofs.Valid.{valid-size, valid-type}
 use mir.Syntax.{w32}
 use mir.Val.{Fits}
 use Rattle.type_category.specs.Category.{categoryOf}
 use Rattle.type_category.specs.declared.type_category.AdsTypeCategory.{AdsTypeCategory}
-use Rattle.resolvers.specs.Resolve.{LookedUp}
+use Rattle.resolvers.specs.Resolve.{resolveAlias, ResolvedIs}
+use Rattle.resolvers.proofs.Chains.{found-type}
 use Rattle.resolvers.specs.declared.Resolved.{Resolved}
 use Rattle.resolvers.specs.declared.Resolved.the-variants as resolved
 use Rattle.field_types.specs.declared.FieldsCheck.{FieldsCheck}
@@ -21,15 +27,24 @@ use Rattle.field_types.specs.declared.FieldsCheck.the-variants as check
 use Rattle.field_plan.specs.declared.PlannedField.{PlannedField}
 use Rattle.field_plan.specs.declared.Planned.{Planned}
 use Rattle.field_plan.specs.declared.Planned.the-variants as planned
+use Rattle.type_provider.proofs.Numbers.{found-is}
+use Rattle.resolvers.proofs.Numbers.{resolved-is}
+use Rattle.field_types.proofs.Numbers.{check-is}
 use Rattle.field_plan.specs.Plan.{PlannedIs, Entries, Ready, PlanIs}
 use Rattle.field_plan.proofs.Plans.{ready-none}
 use Rattle.steps.specs.declared.Step.{Step}
 use Rattle.steps.specs.declared.Step.the-variants.{Stop}
 use Rattle.shape.specs.declared.Shape.{Shape}
 use Rattle.shape.specs.declared.Shape.the-variants as shape
+use Rattle.tape.specs.Record.{newRecord}
 use Rattle.steps.specs.Trace.{rec, one, From, Halts}
-use Rattle.de.specs.Plans.{Given, GivenElement, ElementChecked}
-use Rattle.de.specs.Walk.{Ctx, ctx, whole, Child, shapeAt, shapeCheck, leafOf, checked, memberOf, membersFrom, membersOf, mapOf, elementItem, elementCheck, elementsFrom, elementsOf, dimensionOf, arrayBy, arrayOf, shapeWalk, walk}
+use Rattle.array_elements.specs.Element.{whole, elementItem, shapeAt, shapeCheck, elementCheck, ElementChecked}
+use Rattle.array_elements.proofs.Items.{item-last, item-further}
+use Rattle.de.specs.Plans.{Given, GivenElement, partOf, PartIs}
+use Rattle.de.specs.declared.reading.Part.{Part}
+use Rattle.de.specs.declared.reading.Part.the-variants as part
+use Rattle.de.specs.declared.reading.Typed.{Typed}
+use Rattle.de.specs.Walk.{Ctx, ctx, typedOf, Child, leafOf, checked, memberOf, membersFrom, membersOf, mapOf, elementsFrom, elementsOf, dimensionOf, elementBy, arrayOf, shapeWalk, walk}
 use Rattle.leaves.specs.Leaf.{leafAt}
 use Rattle.leaf_steps.specs.Leaves.{traceOf}
 use Rattle.shape.specs.Value.{shapeOf}
@@ -41,7 +56,7 @@ use Rattle.de.proofs.Walks as walks
 -- ---- value
 
 -- the shape of a category that is the type's own
-pub shape-is : (c : Ctx) (t : ℕ) (k : Shape) (y : AdsTypeCategory) → y ≡ categoryOf (c .book) (c .width) t → k ≡ shapeOf y → k ≡ shapeAt c t
+pub shape-is : (c : Ctx) (t : ℕ) (k : Shape) (y : AdsTypeCategory) → y ≡ categoryOf (c .book) (c .width) t → k ≡ shapeOf y → k ≡ shapeAt (c .book) (c .width) t
 unfolding shapeAt
 shape-is c t k y ey ek = ek ∙ ap shapeOf ey
 
@@ -53,42 +68,89 @@ map-ready book width t plan k y ey ek z g = g .given (sym (shape-is (ctx book wi
 pub given-none : (c : Ctx) (t : ℕ) (l : List ℕ) → Given c t (take (0 - 0) (drop 0 l))
 given-none c t l = record { given = λ h. ready-none (c .book) (c .width) t }
 
-module _ (c : Ctx) (left t : ℕ) (mem : List ℕ) {tape txt : List ℕ} {s r : Step} where
-  pub value-deep : left ≡ 0 → Halts s 14 0 r → From (walk c left (whole t) mem) tape txt s r tape txt
-  value-deep e h = from-as (walks.walk-deep c left mem (whole t) e) (halted h)
+module _ (c : Ctx) (left : ℕ) (x : Typed) (mem : List ℕ) {tape txt : List ℕ} {s r : Step} where
+  pub value-deep : left ≡ 0 → Halts s 14 0 r → From (walk c left (whole x) mem) tape txt s r tape txt
+  value-deep e h = from-as (walks.walk-deep c left mem (whole x) e) (halted h)
 
-  module _ (n : left ≡ 0 → ⊥) (k : Shape) (y : AdsTypeCategory) (ey : y ≡ categoryOf (c .book) (c .width) t) (ek : k ≡ shapeOf y) where
-    pub value-map : {tape′ txt′ : List ℕ} → k ≡ shape.Map → From (mapOf (walk c (left - 1)) c t mem) tape txt s r tape′ txt′ → From (walk c left (whole t) mem) tape txt s r tape′ txt′
+  module _ (n : left ≡ 0 → ⊥) (k : Shape) (ey : x .category ≡ categoryOf (c .book) (c .width) (x .resolved)) (ek : k ≡ shapeOf (x .category)) where
+    pub value-map : {tape′ txt′ : List ℕ} → k ≡ shape.Map → From (mapOf (walk c (left - 1)) c x mem) tape txt s r tape′ txt′ → From (walk c left (whole x) mem) tape txt s r tape′ txt′
     unfolding shapeWalk
-    value-map q h = from-as (walks.walk-shape c left mem t shape.Map n (sym q ∙ shape-is c t k y ey ek)) h
+    value-map q h = from-as (walks.walk-shape c left mem x shape.Map n (sym q ∙ shape-is c (x .resolved) k (x .category) ey ek)) h
 
-    pub value-array : {tape′ txt′ : List ℕ} → k ≡ shape.Array → From (arrayOf (walk c (left - 1)) c t mem) tape txt s r tape′ txt′ → From (walk c left (whole t) mem) tape txt s r tape′ txt′
+    pub value-array : {tape′ txt′ : List ℕ} → k ≡ shape.Array → From (arrayOf (walk c (left - 1)) c x mem) tape txt s r tape′ txt′ → From (walk c left (whole x) mem) tape txt s r tape′ txt′
     unfolding shapeWalk
-    value-array q h = from-as (walks.walk-shape c left mem t shape.Array n (sym q ∙ shape-is c t k y ey ek)) h
+    value-array q h = from-as (walks.walk-shape c left mem x shape.Array n (sym q ∙ shape-is c (x .resolved) k (x .category) ey ek)) h
 
-    pub value-leaf : {tape′ txt′ : List ℕ} → k ≡ shape.Leaf → From (traceOf (leafAt (c .book) (c .width) t mem) mem) tape txt s r tape′ txt′ → From (walk c left (whole t) mem) tape txt s r tape′ txt′
+    pub value-leaf : {tape′ txt′ : List ℕ} → k ≡ shape.Leaf → From (traceOf (leafAt (c .book) (c .width) (x .resolved) mem) mem) tape txt s r tape′ txt′ → From (walk c left (whole x) mem) tape txt s r tape′ txt′
     unfolding shapeWalk leafOf
-    value-leaf q h = from-as (walks.walk-shape c left mem t shape.Leaf n (sym q ∙ shape-is c t k y ey ek)) h
+    value-leaf q h = from-as (walks.walk-shape c left mem x shape.Leaf n (sym q ∙ shape-is c (x .resolved) k (x .category) ey ek)) h
 
 -- ---- member
 
-module _ (child : Child) (c : Ctx) (mem : List ℕ) (f : ℕ) {tape tape₁ txt txt₁ : List ℕ} {s k r : Step} (key : From (one (rec 4 0 f 0)) tape txt s k tape₁ txt₁)
-    (a : Planned) (q : PlannedIs (c .book) (c .width) f a) where
-  pub member-lacks : (b : ℕ) → a ≡ planned.Lacks b → Halts k 7 b r → From (memberOf child c mem f) tape txt s r tape₁ txt₁
-  member-lacks b e h = from-as (walks.member-lacks child c mem f b (q .lacks b e)) (chain key (halted h))
+module _ (child : Child) (c : Ctx) (mem : List ℕ) (f : ℕ) {tape tape₁ txt txt₁ : List ℕ} {s k r : Step} (key : From (one (rec (newRecord 4 0 f 0))) tape txt s k tape₁ txt₁)
+    (a : Part) (q : PartIs c f (length mem) a) where
+  pub member-stop : (n b : ℕ) → a ≡ part.Stop n b → Halts k n b r → From (memberOf child c mem f) tape txt s r tape₁ txt₁
+  member-stop n b e h = from-as (walks.member-stop child c mem f a (q .is) n b e) (chain key (halted h))
 
-  pub member-endless : a ≡ planned.Endless → Halts k 8 0 r → From (memberOf child c mem f) tape txt s r tape₁ txt₁
-  member-endless e h = from-as (walks.member-endless child c mem f (q .endless e)) (chain key (halted h))
+  pub member-value : {tape₂ txt₂ : List ℕ} (x : Typed) (from to : ℕ) → a ≡ part.Value x from to → From (child (whole x) (take (to - from) (drop from mem))) tape₁ txt₁ k r tape₂ txt₂
+      → From (memberOf child c mem f) tape txt s r tape₂ txt₂
+  member-value x from to e v = from-as (walks.member-value child c mem f a (q .is) x from to e) (chain key v)
 
-  module _ (x : PlannedField) (e : a ≡ planned.Field x) where
-    pub member-over : length mem < x .offset + x .size → Halts k 10 0 r → From (memberOf child c mem f) tape txt s r tape₁ txt₁
-    member-over l h = from-as (walks.member-over child c mem f x (q .field x e) l) (chain key (halted h))
+module _ {book : List ℕ} {width f len : ℕ} {a : Part} {x : Typed} {from to : ℕ} (q : PartIs (ctx book width) f len a) (e : a ≡ part.Value x from to) where
+  pub part-typed : {t : ℕ} → t ≡ x .resolved → isType book t ≡ true
+  part-typed z = rw z (q .value x from to e .typed)
 
-    pub member-value : {tape₂ txt₂ : List ℕ} → x .offset + x .size ≤ length mem → From (child (whole (x .resolved)) (take (x .offset + x .size - x .offset) (drop (x .offset) mem))) tape₁ txt₁ k r tape₂ txt₂
-        → From (memberOf child c mem f) tape txt s r tape₂ txt₂
-    member-value l v =
-        let z : x .offset + x .size - x .offset ≡ x .size = omega arith in
-        from-as (walks.member-in child c mem f x (q .field x e) l) (chain key (rw z at v))
+  pub part-category : x .category ≡ categoryOf book width (x .resolved)
+  part-category = q .value x from to e .category-is
+
+  pub part-inside : to ≤ len
+  part-inside = q .value x from to e .inside
+
+  pub part-order : from ≤ to
+  part-order = omega (arith, q .value x from to e .from-is, q .value x from to e .to-is)
+
+-- ---- a field's part, by what its plan says
+
+module _ (c : Ctx) (f len : ℕ) where
+  stopped : (n b : ℕ) → part.Stop n b ≡ partOf c len (resolveField (c .book) (c .width) f) → PartIs c f len (part.Stop n b)
+  stopped n b e = record { is = e; value = λ x from to h. absurd (let z : _≡_ {A = ℕ} 0 1 = cc in omega arith) }
+
+  module _ (a : Planned) (q : PlannedIs (c .book) (c .width) f a) where
+    pub part-lacks : (b : ℕ) → a ≡ planned.Lacks b → PartIs c f len (part.Stop 7 b)
+    unfolding partOf
+    part-lacks b e = stopped 7 b (rw (q .lacks b e))
+
+    pub part-endless : a ≡ planned.TooLong → PartIs c f len (part.Stop 8 0)
+    unfolding partOf
+    part-endless e = stopped 8 0 (rw (q .endless e))
+
+    module _ (x : PlannedField) (e : a ≡ planned.Field x) where
+      pub part-over : len < x .offset + x .size → PartIs c f len (part.Stop 10 0)
+      unfolding partOf
+      part-over l = let h = q .field x e in stopped 10 0 (rw (h .found, h .offset-is, h .size-is, lt-leb (x .offset + x .size) len l))
+
+      pub part-value : x .offset + x .size ≤ len → PartIs c f len (part.Value (record { named = x .named; resolved = x .resolved; category = x .category }) (x .offset) (x .offset + x .size))
+      unfolding partOf
+      part-value l =
+          let h = q .field x e in
+          let made : _≡_ {A = Typed} (record { named = x .named; resolved = x .resolved; category = x .category }) (typedOf c (h .whole .named) (h .whole .resolved)) = rw (h .named-is, h .resolved-is, ← h .category-is) in
+          record {
+            is = rw (h .found, h .offset-is, h .size-is, h .named-is, h .resolved-is, ← h .category-is, le-leb (x .offset + x .size) len l);
+            value = λ y from to g.
+                let ex : _≡_ {A = Typed} (record { named = x .named; resolved = x .resolved; category = x .category }) y = cc in
+                let ef : x .offset ≡ from = cc in
+                let et : x .offset + x .size ≡ to = cc in
+                record {
+                  field = h .whole;
+                  found = h .found;
+                  type-is = sym ex ∙ made;
+                  from-is = sym ef ∙ sym (h .offset-is);
+                  to-is = sym et ∙ rw (h .offset-is, h .size-is);
+                  inside = rw (← et) l;
+                  typed = rw (← ex) (h .typed);
+                  category-is = rw (← ex) (h .category-is);
+                };
+          }
 
 -- ---- members
 
@@ -102,65 +164,71 @@ module _ (child : Child) (c : Ctx) (t n : ℕ) (mem : List ℕ) where
       → Rest (membersFrom child c mem (t + 1) n) tape₁ txt₁ first (membersFrom child c mem (t + 1 + (i + 1)) (n - (i + 1))) tape₃ txt₃ next
   members-again i q l v = rest-next q (walks.members-more child c mem t i n l) v
 
-  module _ (e : n ≡ fieldsOf (c .book) t) {tape tape₁ tape₂ txt txt₁ txt₂ : List ℕ} {s first here : Step} (h : From (one (rec 3 0 n 0)) tape txt s first tape₁ txt₁) (i : ℕ)
-      (q : Rest (membersFrom child c mem (t + 1) n) tape₁ txt₁ first (membersFrom child c mem (t + 1 + i) (n - i)) tape₂ txt₂ here) where
-    pub members-end : {tape₃ txt₃ : List ℕ} {r : Step} → n ≤ i → From (one (rec 5 0 0 0)) tape₂ txt₂ here r tape₃ txt₃ → From (membersOf child c t mem) tape txt s r tape₃ txt₃
-    members-end l x = from-as (walks.members-of child c mem t n e) (chain h (q .finish _ _ _ (from-as (walks.members-none child c mem t i n l) x)))
+module _ (child : Child) (c : Ctx) (x : Typed) (n : ℕ) (mem : List ℕ) where
+  module _ (e : n ≡ fieldsOf (c .book) (x .resolved)) {tape tape₁ tape₂ txt txt₁ txt₂ : List ℕ} {s first here : Step} (h : From (one (rec (newRecord 3 0 n 0))) tape txt s first tape₁ txt₁) (i : ℕ)
+      (q : Rest (membersFrom child c mem (x .resolved + 1) n) tape₁ txt₁ first (membersFrom child c mem (x .resolved + 1 + i) (n - i)) tape₂ txt₂ here) where
+    pub members-end : {tape₃ txt₃ : List ℕ} {r : Step} → n ≤ i → From (one (rec (newRecord 5 0 0 0))) tape₂ txt₂ here r tape₃ txt₃ → From (membersOf child c x mem) tape txt s r tape₃ txt₃
+    members-end l y = from-as (walks.members-of child c mem x n e) (chain h (q .finish _ _ _ (from-as (walks.members-none child c mem (x .resolved) i n l) y)))
 
     -- a refusal leaves the loop at once
-    pub members-stop : (k b : ℕ) → here ≡ Stop k b → From (membersOf child c t mem) tape txt s here tape₂ txt₂
-    members-stop k b z = from-as (walks.members-of child c mem t n e) (chain h (q .finish here tape₂ txt₂ (from-held k b z)))
+    pub members-stop : (k b : ℕ) → here ≡ Stop k b → From (membersOf child c x mem) tape txt s here tape₂ txt₂
+    members-stop k b z = from-as (walks.members-of child c mem x n e) (chain h (q .finish here tape₂ txt₂ (from-held k b z)))
 
 -- ---- map
 
-module _ (child : Child) (c : Ctx) (t size : ℕ) (sz : size ≡ sizeOf (c .book) t) (mem : List ℕ) {tape txt : List ℕ} {s r : Step} where
-  pub map-odd : (length mem ≡ size → ⊥) → Halts s 10 0 r → From (mapOf child c t mem) tape txt s r tape txt
-  map-odd o h = from-as (walks.map-odd child c mem t size sz o) (halted h)
+module _ (child : Child) (c : Ctx) (x : Typed) (size : ℕ) (sz : size ≡ sizeOf (c .book) (x .resolved)) (mem : List ℕ) {tape txt : List ℕ} {s r : Step} where
+  pub map-odd : (length mem ≡ size → ⊥) → Halts s 10 0 r → From (mapOf child c x mem) tape txt s r tape txt
+  map-odd o h = from-as (walks.map-odd child c mem x size sz o) (halted h)
 
-  pub map-given : {tape′ txt′ : List ℕ} (plan : List ℕ) → length mem ≡ size → Ready (c .book) (c .width) t plan → 0 < length plan → From (membersOf child c t mem) tape txt s r tape′ txt′ → From (mapOf child c t mem) tape txt s r tape′ txt′
+  pub map-given : {tape′ txt′ : List ℕ} (plan : List ℕ) → length mem ≡ size → Ready (c .book) (c .width) (x .resolved) plan → 0 < length plan → From (membersOf child c x mem) tape txt s r tape′ txt′ → From (mapOf child c x mem) tape txt s r tape′ txt′
   unfolding checked
-  map-given plan ev g l h = from-as (walks.map-even child c mem t size sz ev check.Fine (sym (g .fine (λ z. absurd (omega arith))))) h
+  map-given plan ev g l h = from-as (walks.map-even child c mem x size sz ev check.Fine (sym (g .fine (λ z. absurd (omega arith))))) h
 
-  module _ (ev : length mem ≡ size) (k : FieldsCheck) (before after : List ℕ) (p : PlanIs (c .book) (c .width) t before k after) where
-    pub map-fine : {tape′ txt′ : List ℕ} → k ≡ check.Fine → From (membersOf child c t mem) tape txt s r tape′ txt′ → From (mapOf child c t mem) tape txt s r tape′ txt′
+  module _ (ev : length mem ≡ size) (k : FieldsCheck) (before after : List ℕ) (p : PlanIs (c .book) (c .width) (x .resolved) before k after) where
+    pub map-fine : {tape′ txt′ : List ℕ} → k ≡ check.Fine → From (membersOf child c x mem) tape txt s r tape′ txt′ → From (mapOf child c x mem) tape txt s r tape′ txt′
     unfolding checked
-    map-fine e h = from-as (walks.map-even child c mem t size sz ev check.Fine (sym e ∙ p .is)) h
+    map-fine e h = from-as (walks.map-even child c mem x size sz ev check.Fine (sym e ∙ check-is _ _ (p .is))) h
 
-    pub map-lacks : (b : ℕ) → k ≡ check.Lacks b → Halts s 7 b r → From (mapOf child c t mem) tape txt s r tape txt
+    pub map-lacks : (b : ℕ) → k ≡ check.Lacks b → Halts s 7 b r → From (mapOf child c x mem) tape txt s r tape txt
     unfolding checked
-    map-lacks b e h = from-as (walks.map-even child c mem t size sz ev (check.Lacks b) (sym e ∙ p .is)) (halted h)
+    map-lacks b e h = from-as (walks.map-even child c mem x size sz ev (check.Lacks b) (sym e ∙ check-is _ _ (p .is))) (halted h)
 
-    pub map-endless : k ≡ check.Endless → Halts s 8 0 r → From (mapOf child c t mem) tape txt s r tape txt
+    pub map-endless : k ≡ check.TooLong → Halts s 8 0 r → From (mapOf child c x mem) tape txt s r tape txt
     unfolding checked
-    map-endless e h = from-as (walks.map-even child c mem t size sz ev check.Endless (sym e ∙ p .is)) (halted h)
+    map-endless e h = from-as (walks.map-even child c mem x size sz ev check.TooLong (sym e ∙ check-is _ _ (p .is))) (halted h)
 
 -- ---- array
 
-module _ (child : Child) (c : Ctx) (t size : ℕ) (sz : size ≡ sizeOf (c .book) t) (mem : List ℕ) {tape txt : List ℕ} {s r : Step} where
-  pub array-odd : (length mem ≡ size → ⊥) → Halts s 10 0 r → From (arrayOf child c t mem) tape txt s r tape txt
-  array-odd o h = from-as (walks.array-odd child c mem t size sz o) (halted h)
+module _ (child : Child) (c : Ctx) (x : Typed) (size : ℕ) (sz : size ≡ sizeOf (c .book) (x .resolved)) (mem : List ℕ) {tape txt : List ℕ} {s r : Step} where
+  pub array-odd : (length mem ≡ size → ⊥) → Halts s 10 0 r → From (arrayOf child c x mem) tape txt s r tape txt
+  array-odd o h = from-as (walks.array-odd child c mem x size sz o) (halted h)
 
-  module _ (ev : length mem ≡ size) (k : Resolved) (q : LookedUp (c .book) (c .width) t k) where
-    pub array-lacks : (b : ℕ) → k ≡ resolved.Lacks b → Halts s 7 b r → From (arrayOf child c t mem) tape txt s r tape txt
-    unfolding arrayBy
-    array-lacks b e h = from-as (walks.array-even child c mem t size sz ev (resolved.Lacks b) (sym e ∙ q .is)) (halted h)
+  module _ (ev : length mem ≡ size) (f : Found) (ef : foundNumbers f ≡ foundNumbers (find (c .book) (typeNameOf (c .book) (x .resolved)))) where
+    pub array-nothing : f ≡ Nothing → Halts s 7 (x .resolved) r → From (arrayOf child c x mem) tape txt s r tape txt
+    array-nothing e h = from-as (walks.array-nothing child c mem x size sz ev f (found-is _ _ ef) e) (halted h)
 
-    pub array-endless : k ≡ resolved.Endless → Halts s 8 0 r → From (arrayOf child c t mem) tape txt s r tape txt
-    unfolding arrayBy
-    array-endless e h = from-as (walks.array-even child c mem t size sz ev resolved.Endless (sym e ∙ q .is)) (halted h)
+    module _ (n : ℕ) (en : f ≡ At n) (k : Resolved) (q : ResolvedIs (c .book) (resolveAlias (c .book) (c .width) n) k) where
+      pub array-lacks : (b : ℕ) → k ≡ resolved.Lacks b → Halts s 7 b r → From (arrayOf child c x mem) tape txt s r tape txt
+      unfolding elementBy
+      array-lacks b e h = from-as (walks.array-at child c mem x size sz ev f (found-is _ _ ef) n en k (resolved-is _ _ (q .is)) ∙ rw e) (halted h)
 
-    module _ (e : ℕ) (z : k ≡ resolved.Base e) (b : Bool) (p : b ≡ eqb (bytesOf (c .book) t e) (length mem)) where
-      pub array-other : b ≡ false → Halts s 10 0 r → From (arrayOf child c t mem) tape txt s r tape txt
-      unfolding arrayBy
-      array-other h x = from-as (walks.array-even child c mem t size sz ev (resolved.Base e) (sym z ∙ q .is) ∙ rw (← p, h)) (halted x)
+      pub array-endless : k ≡ resolved.TooLong → Halts s 8 0 r → From (arrayOf child c x mem) tape txt s r tape txt
+      unfolding elementBy
+      array-endless e h = from-as (walks.array-at child c mem x size sz ev f (found-is _ _ ef) n en k (resolved-is _ _ (q .is)) ∙ rw e) (halted h)
 
-      pub array-base : {tape′ txt′ : List ℕ} → b ≡ true → From (dimensionOf child c 0 t e mem) tape txt s r tape′ txt′ → From (arrayOf child c t mem) tape txt s r tape′ txt′
-      unfolding arrayBy
-      array-base h x = from-as (walks.array-even child c mem t size sz ev (resolved.Base e) (sym z ∙ q .is) ∙ rw (← p, h)) x
+      module _ (e : ℕ) (z : k ≡ resolved.Base e) (b : Bool) (p : b ≡ eqb (bytesOf (c .book) (x .resolved) e) (length mem)) where
+        pub array-other : b ≡ false → Halts s 10 0 r → From (arrayOf child c x mem) tape txt s r tape txt
+        unfolding elementBy
+        array-other h y = from-as (walks.array-at child c mem x size sz ev f (found-is _ _ ef) n en k (resolved-is _ _ (q .is)) ∙ rw (z, ← p, h)) (halted y)
+
+        pub array-base : (w : AdsTypeCategory) → w ≡ categoryOf (c .book) (c .width) e → {tape′ txt′ : List ℕ} → b ≡ true
+            → From (dimensionOf child c 0 (x .resolved) (record { named = n; resolved = e; category = w }) mem) tape txt s r tape′ txt′ → From (arrayOf child c x mem) tape txt s r tape′ txt′
+        unfolding elementBy
+        array-base w ew h y = from-as (walks.array-at child c mem x size sz ev f (found-is _ _ ef) n en k (resolved-is _ _ (q .is)) ∙ rw (z, ← p, h, ← ew)) y
 
 -- ---- dimension
 
-module _ (child : Child) (c : Ctx) (d t e : ℕ) (mem : List ℕ) {tape txt : List ℕ} {s r : Step} (k : FieldsCheck) (after : List ℕ) (p : ElementChecked c d t e k after) where
+module _ (child : Child) (c : Ctx) (d t : ℕ) (e : Typed) (mem : List ℕ) {tape txt : List ℕ} {s r : Step} (k : FieldsCheck) (before after : List ℕ) (p : ElementChecked (c .book) (c .width) d t (e .resolved) before k after) where
   pub dimension-fine : {tape′ txt′ : List ℕ} → k ≡ check.Fine → From (elementsOf child c d t e mem) tape txt s r tape′ txt′ → From (dimensionOf child c d t e mem) tape txt s r tape′ txt′
   unfolding checked
   dimension-fine z h = from-as (walks.dimension-by child c mem d t e check.Fine (sym z ∙ p .is)) h
@@ -169,47 +237,48 @@ module _ (child : Child) (c : Ctx) (d t e : ℕ) (mem : List ℕ) {tape txt : Li
   unfolding checked
   dimension-lacks b z h = from-as (walks.dimension-by child c mem d t e (check.Lacks b) (sym z ∙ p .is)) (halted h)
 
-  pub dimension-endless : k ≡ check.Endless → Halts s 8 0 r → From (dimensionOf child c d t e mem) tape txt s r tape txt
+  pub dimension-endless : k ≡ check.TooLong → Halts s 8 0 r → From (dimensionOf child c d t e mem) tape txt s r tape txt
   unfolding checked
-  dimension-endless z h = from-as (walks.dimension-by child c mem d t e check.Endless (sym z ∙ p .is)) (halted h)
+  dimension-endless z h = from-as (walks.dimension-by child c mem d t e check.TooLong (sym z ∙ p .is)) (halted h)
 
 -- ---- elements
 
-module _ (child : Child) (c : Ctx) (d t e n : ℕ) (mem : List ℕ) where
-  pub elements-start : {tape txt : List ℕ} {s : Step} → Rest (elementsFrom child (elementItem c d t e) (strideOf (c .book) d t e) mem 0 n) tape txt s (elementsFrom child (elementItem c d t e) (strideOf (c .book) d t e) mem 0 (n - 0)) tape txt s
-  elements-start = rest-all (walks.elements-all child (elementItem c d t e) mem (strideOf (c .book) d t e) n)
+module _ (child : Child) (book : List ℕ) (d t : ℕ) (e : Typed) (n : ℕ) (mem : List ℕ) where
+  pub elements-start : {tape txt : List ℕ} {s : Step} → Rest (elementsFrom child (elementItem book d t e) (strideOf book d t (e .resolved)) mem 0 n) tape txt s (elementsFrom child (elementItem book d t e) (strideOf book d t (e .resolved)) mem 0 (n - 0)) tape txt s
+  elements-start = rest-all (walks.elements-all child (elementItem book d t e) mem (strideOf book d t (e .resolved)) n)
 
   pub elements-again : {tape₁ tape₂ tape₃ txt₁ txt₂ txt₃ : List ℕ} {first here next : Step} (stride from i : ℕ)
-      → Rest (elementsFrom child (elementItem c d t e) (strideOf (c .book) d t e) mem 0 n) tape₁ txt₁ first (elementsFrom child (elementItem c d t e) (strideOf (c .book) d t e) mem from (n - i)) tape₂ txt₂ here
-      → i < n → Along (c .book) d t e n stride from i (length mem) → From (child (elementItem c d t e) (take (from + stride - from) (drop from mem))) tape₂ txt₂ here next tape₃ txt₃
-      → Rest (elementsFrom child (elementItem c d t e) (strideOf (c .book) d t e) mem 0 n) tape₁ txt₁ first (elementsFrom child (elementItem c d t e) (strideOf (c .book) d t e) mem (from + stride) (n - (i + 1))) tape₃ txt₃ next
+      → Rest (elementsFrom child (elementItem book d t e) (strideOf book d t (e .resolved)) mem 0 n) tape₁ txt₁ first (elementsFrom child (elementItem book d t e) (strideOf book d t (e .resolved)) mem from (n - i)) tape₂ txt₂ here
+      → i < n → Along book d t (e .resolved) n stride from i (length mem) → From (child (elementItem book d t e) (take (from + stride - from) (drop from mem))) tape₂ txt₂ here next tape₃ txt₃
+      → Rest (elementsFrom child (elementItem book d t e) (strideOf book d t (e .resolved)) mem 0 n) tape₁ txt₁ first (elementsFrom child (elementItem book d t e) (strideOf book d t (e .resolved)) mem (from + stride) (n - (i + 1))) tape₃ txt₃ next
   elements-again stride from i q l a v =
       let z : from + stride - from ≡ stride = omega arith in
-      let y : stride ≡ strideOf (c .book) d t e = a .step (omega arith) in
-      rw y (rest-next q (walks.elements-more child (elementItem c d t e) mem (strideOf (c .book) d t e) from i n l) (rw (z, y) at v))
+      let y : stride ≡ strideOf book d t (e .resolved) = a .step (omega arith) in
+      rw y (rest-next q (walks.elements-more child (elementItem book d t e) mem (strideOf book d t (e .resolved)) from i n l) (rw (z, y) at v))
 
-  module _ (z : n ≡ countOf (c .book) t d) {tape tape₁ tape₂ txt txt₁ txt₂ : List ℕ} {s first here : Step} (h : From (one (rec 1 0 n 0)) tape txt s first tape₁ txt₁) (from i : ℕ)
-      (q : Rest (elementsFrom child (elementItem c d t e) (strideOf (c .book) d t e) mem 0 n) tape₁ txt₁ first (elementsFrom child (elementItem c d t e) (strideOf (c .book) d t e) mem from (n - i)) tape₂ txt₂ here) where
-    pub elements-end : {tape₃ txt₃ : List ℕ} {r : Step} → n ≤ i → From (one (rec 2 0 0 0)) tape₂ txt₂ here r tape₃ txt₃ → From (elementsOf child c d t e mem) tape txt s r tape₃ txt₃
+module _ (child : Child) (c : Ctx) (d t : ℕ) (e : Typed) (n : ℕ) (mem : List ℕ) where
+  module _ (z : n ≡ countOf (c .book) t d) {tape tape₁ tape₂ txt txt₁ txt₂ : List ℕ} {s first here : Step} (h : From (one (rec (newRecord 1 0 n 0))) tape txt s first tape₁ txt₁) (from i : ℕ)
+      (q : Rest (elementsFrom child (elementItem (c .book) d t e) (strideOf (c .book) d t (e .resolved)) mem 0 n) tape₁ txt₁ first (elementsFrom child (elementItem (c .book) d t e) (strideOf (c .book) d t (e .resolved)) mem from (n - i)) tape₂ txt₂ here) where
+    pub elements-end : {tape₃ txt₃ : List ℕ} {r : Step} → n ≤ i → From (one (rec (newRecord 2 0 0 0))) tape₂ txt₂ here r tape₃ txt₃ → From (elementsOf child c d t e mem) tape txt s r tape₃ txt₃
     elements-end l x =
         from-as (walks.elements-of child c mem d t e n z)
-        (chain h (q .finish _ _ _ (from-as (walks.elements-none child (elementItem c d t e) mem (strideOf (c .book) d t e) from i n l) x)))
+        (chain h (q .finish _ _ _ (from-as (walks.elements-none child (elementItem (c .book) d t e) mem (strideOf (c .book) d t (e .resolved)) from i n l) x)))
 
     pub elements-stop : (k b : ℕ) → here ≡ Stop k b → From (elementsOf child c d t e mem) tape txt s here tape₂ txt₂
     elements-stop k b y = from-as (walks.elements-of child c mem d t e n z) (chain h (q .finish here tape₂ txt₂ (from-held k b y)))
 
 -- ---- element
 
-module _ (c : Ctx) (left d t e : ℕ) (mem : List ℕ) {tape txt : List ℕ} {s r : Step} (b : Bool) (q : b ≡ isLast (c .book) d t) where
-  pub element-last : {tape′ txt′ : List ℕ} → b ≡ true → From (walk c left (whole e) mem) tape txt s r tape′ txt′ → From (walk c left (elementItem c d t e) mem) tape txt s r tape′ txt′
-  element-last h x = rw (walks.item-last c d t e b q h) x
+module _ (c : Ctx) (left d t : ℕ) (e : Typed) (mem : List ℕ) {tape txt : List ℕ} {s r : Step} (b : Bool) (q : b ≡ isLast (c .book) d t) where
+  pub element-last : {tape′ txt′ : List ℕ} → b ≡ true → From (walk c left (whole e) mem) tape txt s r tape′ txt′ → From (walk c left (elementItem (c .book) d t e) mem) tape txt s r tape′ txt′
+  element-last h x = rw (item-last (c .book) d t e b q h) x
 
-  pub element-deep : b ≡ false → left ≡ 0 → Halts s 14 0 r → From (walk c left (elementItem c d t e) mem) tape txt s r tape txt
-  element-deep h z x = from-as (walks.walk-deep c left mem (elementItem c d t e) z) (halted x)
+  pub element-deep : b ≡ false → left ≡ 0 → Halts s 14 0 r → From (walk c left (elementItem (c .book) d t e) mem) tape txt s r tape txt
+  element-deep h z x = from-as (walks.walk-deep c left mem (elementItem (c .book) d t e) z) (halted x)
 
   pub element-further : {tape′ txt′ : List ℕ} → b ≡ false → (left ≡ 0 → ⊥) → From (dimensionOf (walk c (left - 1)) c (d + 1) t e mem) tape txt s r tape′ txt′
-      → From (walk c left (elementItem c d t e) mem) tape txt s r tape′ txt′
-  element-further h n x = rw (walks.item-further c d t e b q h) (from-as (walks.walk-further c left mem (d + 1) t e n) x)
+      → From (walk c left (elementItem (c .book) d t e) mem) tape txt s r tape′ txt′
+  element-further h n x = rw (item-further (c .book) d t e b q h) (from-as (walks.walk-further c left mem (d + 1) t e n) x)
 
 -- ---- what calls ask
 
@@ -223,26 +292,22 @@ field-number book t n i v y e l = record { fits = omega (arith, leaf-inside book
 pub field-first : (book : List ℕ) (t n i : ℕ) → ValidBook book → isType book t ≡ true → n ≡ fieldsOf book t → i < n → Fits w32 (t + 1)
 field-first book t n i v y e l = record { fits = omega (arith, leaf-inside book t v y) }
 
--- a type that was looked up is a type block
-pub typed-base : {book : List ℕ} {width b : ℕ} {r : Resolved} {e : ℕ} → LookedUp book width b r → r ≡ resolved.Base e → isType book e ≡ true
+-- a type that was found is a type block, and so is what it resolves to
+pub typed-found : (book : List ℕ) (b : ℕ) (f : Found) (n : ℕ) → foundNumbers f ≡ foundNumbers (find book (typeNameOf book b)) → f ≡ At n → isType book n ≡ true
+typed-found book b f n e h = found-type book (typeNameOf book b) n (sym (found-is _ _ e) ∙ h)
+
+pub typed-base : {book : List ℕ} {a r : Resolved} {e : ℕ} → ResolvedIs book a r → r ≡ resolved.Base e → isType book e ≡ true
 typed-base {e = e} h q = h .typed e q
-
--- a field's type is a type block, of the category that comes with it
-pub typed-field : {book : List ℕ} {width f : ℕ} {r : Planned} {x : PlannedField} → PlannedIs book width f r → r ≡ planned.Field x → isType book (x .resolved) ≡ true
-typed-field {x = x} h q = h .field x q .typed
-
-pub category-field : {book : List ℕ} {width f : ℕ} {r : Planned} {x : PlannedField} → PlannedIs book width f r → r ≡ planned.Field x → x .category ≡ categoryOf book width (x .resolved)
-category-field {x = x} h q = h .field x q .category-is
 
 -- a plan that was filled has its entries
 pub own-entries : (book : List ℕ) (width t : ℕ) (k : FieldsCheck) (before after : List ℕ) → PlanIs book width t before k after → k ≡ check.Fine → Entries book width t after
 own-entries book width t k before after p z = p .entries z
 
 -- the same for the elements of an array, none of whose fields is refused
-pub own-elements : (c : Ctx) (d t e : ℕ) (k : FieldsCheck) (after : List ℕ) → ElementChecked c d t e k after → k ≡ check.Fine → GivenElement c d t e after
+pub own-elements : (c : Ctx) (d t e : ℕ) (k : FieldsCheck) (before after : List ℕ) → ElementChecked (c .book) (c .width) d t e before k after → k ≡ check.Fine → GivenElement c d t e after
 unfolding elementCheck shapeCheck
-own-elements c d t e k after p z =
-    let h : elementCheck c d t e ≡ check.Fine = sym (p .is) ∙ z in
+own-elements c d t e k before after p z =
+    let h : elementCheck (c .book) (c .width) d t e ≡ check.Fine = sym (p .is) ∙ z in
     record { given = λ l. record { given = λ m. record { entries = p .entries z l m; fine = λ _. (rw (l, m) at h) } } }
 
 -- in the last dimension what is given is given for the element

@@ -1,45 +1,48 @@
 -- The equations of the walk: what it is where the code's tests have led. They are the only place that opens its definitions. Assumes nothing.
-use mathlib.Core.Path.{_≡_, sym, ap, _∙_}
-use mathlib.Core.Bool.{Bool, true, false}
+use mathlib.Core.Path.{_≡_, refl, sym, ap, _∙_}
+use mathlib.Core.Bool.{Bool, true, false, cond}
 use mathlib.Core.List.{List}
 use Prim.Native.Nat.{ℕ, suc, _+_, _-_, _≤_, _<_}
 use native.Mathlib.Omega.{arith}
-use lib.ListN.{length}
-use borrow.Author.Tests.{le-leb, lt-leb, eq-eqb, ne-eqb}
-use Rattle.typebook.specs.Book.{sizeOf, fieldsOf, countOf}
-use Rattle.resolvers.specs.Resolve.{lookUp}
+use lib.ListN.{length, take, drop}
+use lib.Dec.{leb}
+use borrow.Author.Tests.{eq-eqb, ne-eqb}
+use Rattle.typebook.specs.Book.{sizeOf, fieldsOf, countOf, typeNameOf}
+use Rattle.type_provider.specs.Find.{find}
+use Rattle.type_provider.specs.declared.Found.{Found}
+use Rattle.type_provider.specs.declared.Found.the-variants.{At, Nothing}
+use Rattle.resolvers.specs.Resolve.{resolveAlias}
 use Rattle.field_types.specs.Fields.{resolveField, fieldsCheck}
 use Rattle.resolvers.specs.declared.Resolved.{Resolved}
-use Rattle.resolvers.specs.declared.Resolved.the-variants as resolved
 use Rattle.field_types.specs.declared.FieldAnswer.the-variants as answer
 use Rattle.field_types.specs.declared.FieldsCheck.{FieldsCheck}
-use Rattle.field_types.specs.declared.FieldsCheck.the-variants as check
-use Rattle.type_category.specs.Category.{categoryOf}
-use Rattle.type_category.specs.declared.type_category.AdsTypeCategory.{AdsTypeCategory}
-use Rattle.field_plan.specs.declared.PlannedField.{PlannedField}
-use Rattle.field_plan.specs.Plan.{FieldIs, PlanIs}
-use Rattle.de.specs.Plans.{ElementChecked}
+use Rattle.field_types.specs.declared.ResolvedField.{ResolvedField}
+use Rattle.field_types.specs.declared.FieldAnswer.{FieldAnswer}
 use Rattle.shape.specs.declared.Shape.{Shape}
-use Rattle.shape.specs.declared.Shape.the-variants as shape
-use Rattle.steps.specs.Trace.{rec, one, refuse, _then_}
-use Rattle.de.specs.Walk.{Ctx, Item, whole, further, Child, cut, shapeAt, checked, fieldValue, memberOf, membersFrom, membersOf, mapOf, elementItem, shapeCheck, elementCheck, elementsFrom, elementsOf, dimensionOf, arrayBy, arrayOf, shapeWalk, itemWalk, walk}
-use Rattle.shape.specs.Value.{shapeOf}
-use Rattle.shape.specs.Array.{strideOf, isLast}
+use Rattle.shape.specs.Array.{strideOf}
+use Rattle.tape.specs.Record.{newRecord}
+use Rattle.steps.specs.Trace.{Trace, rec, one, refuse, _then_}
+use Rattle.array_elements.specs.Element.{Item, whole, further, cut, elementItem, shapeAt, elementCheck}
+use Rattle.de.specs.declared.reading.Typed.{Typed}
+use Rattle.de.specs.declared.reading.Part.{Part}
+use Rattle.de.specs.declared.reading.Part.the-variants as part
+use Rattle.de.specs.Plans.{partOf}
+use Rattle.de.specs.Walk.{Ctx, typedOf, Child, checked, fieldValue, memberOf, membersFrom, membersOf, mapOf, elementsFrom, elementsOf, dimensionOf, elementBy, arrayBy, arrayOf, shapeWalk, itemWalk, walk}
 
 -- ---- a value
 
 module _ (c : Ctx) (left : ℕ) (mem : List ℕ) where
-  pub walk-deep : (i : Item) → left ≡ 0 → walk c left i mem ≡ refuse 14 0
+  pub walk-deep : (i : Item Typed) → left ≡ 0 → walk c left i mem ≡ refuse 14 0
   unfolding walk
   walk-deep i e = rw e
 
-  pub walk-shape : (t : ℕ) (k : Shape) → (left ≡ 0 → ⊥) → k ≡ shapeAt c t → walk c left (whole t) mem ≡ shapeWalk (walk c (left - 1)) c t mem k
+  pub walk-shape : (x : Typed) (k : Shape) → (left ≡ 0 → ⊥) → k ≡ shapeAt (c .book) (c .width) (x .resolved) → walk c left (whole x) mem ≡ shapeWalk (walk c (left - 1)) c x mem k
   unfolding walk itemWalk
-  walk-shape t k n q =
+  walk-shape x k n q =
       let e : left ≡ suc (left - 1) = omega arith in
-      ap (λ (l : ℕ). walk c l (whole t) mem) e ∙ rw q
+      ap (λ (l : ℕ). walk c l (whole x) mem) e ∙ rw q
 
-  pub walk-further : (d t e : ℕ) → (left ≡ 0 → ⊥) → walk c left (further d t e) mem ≡ dimensionOf (walk c (left - 1)) c d t e mem
+  pub walk-further : (d t : ℕ) (e : Typed) → (left ≡ 0 → ⊥) → walk c left (further d t e) mem ≡ dimensionOf (walk c (left - 1)) c d t e mem
   unfolding walk itemWalk
   walk-further d t e n =
       let q : left ≡ suc (left - 1) = omega arith in
@@ -47,24 +50,36 @@ module _ (c : Ctx) (left : ℕ) (mem : List ℕ) where
 
 -- ---- a field, and the fields
 
+-- a field's value, by what it is in the bytes
 module _ (child : Child) (c : Ctx) (mem : List ℕ) where
+  partWalk : Part → Trace
+  partWalk (part.Value x from to) = child (whole x) (take (to - from) (drop from mem))
+  partWalk (part.Stop n b) = refuse n b
+
   module _ (f : ℕ) where
-    pub member-lacks : (b : ℕ) → resolveField (c .book) (c .width) f ≡ answer.Lacks b → memberOf child c mem f ≡ one (rec 4 0 f 0) then refuse 7 b
-    unfolding memberOf fieldValue
-    member-lacks b e = rw e
+    inside : (b : Bool) (x : ResolvedField) → cond b (child (whole (typedOf c (x .named) (x .resolved))) (cut (x .offset) (x .size) mem)) (refuse 10 0) ≡ partWalk (cond b (part.Value (typedOf c (x .named) (x .resolved)) (x .offset) (x .offset + x .size)) (part.Stop 10 0))
+    unfolding partWalk
+    inside true x = let z : x .offset + x .size - x .offset ≡ x .size = omega arith in rw z
+    inside false x = refl
 
-    pub member-endless : resolveField (c .book) (c .width) f ≡ answer.Endless → memberOf child c mem f ≡ one (rec 4 0 f 0) then refuse 8 0
-    unfolding memberOf fieldValue
-    member-endless e = rw e
+    value-part : (a : FieldAnswer) → fieldValue child c mem a ≡ partWalk (partOf c (length mem) a)
+    unfolding fieldValue partOf partWalk
+    value-part (answer.Field x) = inside (leb (x .offset + x .size) (length mem)) x
+    value-part (answer.Lacks b) = refl
+    value-part answer.TooLong = refl
 
-    module _ (x : PlannedField) (h : FieldIs (c .book) (c .width) f x) where
-      pub member-over : length mem < x .offset + x .size → memberOf child c mem f ≡ one (rec 4 0 f 0) then refuse 10 0
-      unfolding memberOf fieldValue
-      member-over l = rw (h .found, h .offset-is, h .size-is, lt-leb (x .offset + x .size) (length mem) l)
+    module _ (r : Part) (q : r ≡ partOf c (length mem) (resolveField (c .book) (c .width) f)) where
+      member-by : memberOf child c mem f ≡ one (rec (newRecord 4 0 f 0)) then partWalk r
+      unfolding memberOf
+      member-by = ap (λ (u : Trace). one (rec (newRecord 4 0 f 0)) then u) (value-part (resolveField (c .book) (c .width) f) ∙ ap partWalk (sym q))
 
-      pub member-in : x .offset + x .size ≤ length mem → memberOf child c mem f ≡ one (rec 4 0 f 0) then child (whole (x .resolved)) (cut (x .offset) (x .size) mem)
-      unfolding memberOf fieldValue
-      member-in l = rw (h .found, h .offset-is, h .size-is, h .resolved-is, le-leb (x .offset + x .size) (length mem) l)
+      pub member-stop : (n b : ℕ) → r ≡ part.Stop n b → memberOf child c mem f ≡ one (rec (newRecord 4 0 f 0)) then refuse n b
+      unfolding partWalk
+      member-stop n b e = member-by ∙ rw e
+
+      pub member-value : (x : Typed) (from to : ℕ) → r ≡ part.Value x from to → memberOf child c mem f ≡ one (rec (newRecord 4 0 f 0)) then child (whole x) (take (to - from) (drop from mem))
+      unfolding partWalk
+      member-value x from to e = member-by ∙ rw e
 
   pub members-all : (t n : ℕ) → membersFrom child c mem (t + 1) n ≡ membersFrom child c mem (t + 1 + 0) (n - 0)
   members-all t n =
@@ -80,45 +95,54 @@ module _ (child : Child) (c : Ctx) (mem : List ℕ) where
       let k : t + 1 + i + 1 ≡ t + 1 + (i + 1) = omega arith in
       rw (e, k)
 
-  pub members-none : (t i n : ℕ) → n ≤ i → membersFrom child c mem (t + 1 + i) (n - i) ≡ one (rec 5 0 0 0)
+  pub members-none : (t i n : ℕ) → n ≤ i → membersFrom child c mem (t + 1 + i) (n - i) ≡ one (rec (newRecord 5 0 0 0))
   unfolding membersFrom
   members-none t i n h = let e : n - i ≡ 0 = omega arith in rw e
 
-  pub members-of : (t n : ℕ) → n ≡ fieldsOf (c .book) t → membersOf child c t mem ≡ one (rec 3 0 n 0) then membersFrom child c mem (t + 1) n
+  pub members-of : (x : Typed) (n : ℕ) → n ≡ fieldsOf (c .book) (x .resolved) → membersOf child c x mem ≡ one (rec (newRecord 3 0 n 0)) then membersFrom child c mem (x .resolved + 1) n
   unfolding membersOf
-  members-of t n e = rw e
+  members-of x n e = rw e
 
-  module _ (t size : ℕ) (s : size ≡ sizeOf (c .book) t) where
-    pub map-odd : (length mem ≡ size → ⊥) → mapOf child c t mem ≡ refuse 10 0
+  module _ (x : Typed) (size : ℕ) (s : size ≡ sizeOf (c .book) (x .resolved)) where
+    pub map-odd : (length mem ≡ size → ⊥) → mapOf child c x mem ≡ refuse 10 0
     unfolding mapOf
     map-odd h = rw (← s, ne-eqb (length mem) size h)
 
-    module _ (h : length mem ≡ size) (k : FieldsCheck) (q : k ≡ fieldsCheck (c .book) (c .width) t) where
-      pub map-even : mapOf child c t mem ≡ checked k (membersOf child c t mem)
+    module _ (h : length mem ≡ size) (k : FieldsCheck) (q : k ≡ fieldsCheck (c .book) (c .width) (x .resolved)) where
+      pub map-even : mapOf child c x mem ≡ checked k (membersOf child c x mem)
       unfolding mapOf
       map-even = rw (← s, eq-eqb (length mem) size h, q)
 
   -- ---- an array
 
-  module _ (t size : ℕ) (s : size ≡ sizeOf (c .book) t) where
-    pub array-odd : (length mem ≡ size → ⊥) → arrayOf child c t mem ≡ refuse 10 0
+  module _ (x : Typed) (size : ℕ) (s : size ≡ sizeOf (c .book) (x .resolved)) where
+    pub array-odd : (length mem ≡ size → ⊥) → arrayOf child c x mem ≡ refuse 10 0
     unfolding arrayOf
     array-odd h = rw (← s, ne-eqb (length mem) size h)
 
-    pub array-even : length mem ≡ size → (r : Resolved) → r ≡ lookUp (c .book) (c .width) t → arrayOf child c t mem ≡ arrayBy child c t mem r
-    unfolding arrayOf
-    array-even h r q = rw (← s, eq-eqb (length mem) size h, q)
+    module _ (h : length mem ≡ size) (f : Found) (ef : f ≡ find (c .book) (typeNameOf (c .book) (x .resolved))) where
+      array-even : arrayOf child c x mem ≡ arrayBy child c (x .resolved) mem f
+      unfolding arrayOf
+      array-even = rw (← s, eq-eqb (length mem) size h, ef)
 
-  pub elements-of : (d t e n : ℕ) → n ≡ countOf (c .book) t d
-      → elementsOf child c d t e mem ≡ one (rec 1 0 n 0) then elementsFrom child (elementItem c d t e) (strideOf (c .book) d t e) mem 0 n
+      pub array-nothing : f ≡ Nothing → arrayOf child c x mem ≡ refuse 7 (x .resolved)
+      unfolding arrayBy
+      array-nothing e = array-even ∙ rw e
+
+      pub array-at : (n : ℕ) → f ≡ At n → (r : Resolved) → r ≡ resolveAlias (c .book) (c .width) n → arrayOf child c x mem ≡ elementBy child c (x .resolved) n mem r
+      unfolding arrayBy
+      array-at n e r q = array-even ∙ rw (e, q)
+
+  pub elements-of : (d t : ℕ) (e : Typed) (n : ℕ) → n ≡ countOf (c .book) t d
+      → elementsOf child c d t e mem ≡ one (rec (newRecord 1 0 n 0)) then elementsFrom child (elementItem (c .book) d t e) (strideOf (c .book) d t (e .resolved)) mem 0 n
   unfolding elementsOf
   elements-of d t e n q = rw q
 
-  pub dimension-by : (d t e : ℕ) (k : FieldsCheck) → k ≡ elementCheck c d t e → dimensionOf child c d t e mem ≡ checked k (elementsOf child c d t e mem)
+  pub dimension-by : (d t : ℕ) (e : Typed) (k : FieldsCheck) → k ≡ elementCheck (c .book) (c .width) d t (e .resolved) → dimensionOf child c d t e mem ≡ checked k (elementsOf child c d t e mem)
   unfolding dimensionOf
   dimension-by d t e k q = rw q
 
-module _ (child : Child) (item : Item) (mem : List ℕ) (stride : ℕ) where
+module _ (child : Child) (item : Item Typed) (mem : List ℕ) (stride : ℕ) where
   pub elements-all : (n : ℕ) → elementsFrom child item stride mem 0 n ≡ elementsFrom child item stride mem 0 (n - 0)
   elements-all n = let q : n - 0 ≡ n = omega arith in rw q
 
@@ -127,36 +151,6 @@ module _ (child : Child) (item : Item) (mem : List ℕ) (stride : ℕ) where
   unfolding elementsFrom
   elements-more from i n h = let q : n - i ≡ suc (n - (i + 1)) = omega arith in rw q
 
-  pub elements-none : (from i n : ℕ) → n ≤ i → elementsFrom child item stride mem from (n - i) ≡ one (rec 2 0 0 0)
+  pub elements-none : (from i n : ℕ) → n ≤ i → elementsFrom child item stride mem from (n - i) ≡ one (rec (newRecord 2 0 0 0))
   unfolding elementsFrom
   elements-none from i n h = let q : n - i ≡ 0 = omega arith in rw q
-
-module _ (c : Ctx) (d t e : ℕ) (b : Bool) (q : b ≡ isLast (c .book) d t) where
-  pub item-last : b ≡ true → elementItem c d t e ≡ whole e
-  unfolding elementItem
-  item-last h = rw (← q, h)
-
-  pub item-further : b ≡ false → elementItem c d t e ≡ further (d + 1) t e
-  unfolding elementItem
-  item-further h = rw (← q, h)
-
-  pub check-not-last : (plan : List ℕ) → b ≡ false → ElementChecked c d t e check.Fine plan
-  unfolding elementCheck
-  check-not-last plan h = record { is = rw (← q, h); entries = λ f l m. absurd (let z : _≡_ {A = ℕ} 0 1 = cc in omega arith) }
-
-  module _ (h : b ≡ true) (k : Shape) (y : AdsTypeCategory) (ey : y ≡ categoryOf (c .book) (c .width) e) (ek : k ≡ shapeOf y) (plan : List ℕ) where
-    s : k ≡ shapeAt c e
-    unfolding shapeAt
-    s = ek ∙ ap shapeOf ey
-
-    pub check-map : k ≡ shape.Map → (r : FieldsCheck) (before : List ℕ) → PlanIs (c .book) (c .width) e before r plan → ElementChecked c d t e r plan
-    unfolding elementCheck shapeCheck
-    check-map z r before x = record { is = rw (← q, h, ← s, z) (x .is); entries = λ f l m. x .entries f }
-
-    pub check-array : k ≡ shape.Array → ElementChecked c d t e check.Fine plan
-    unfolding elementCheck shapeCheck
-    check-array z = record { is = rw (← q, h, ← s, z); entries = λ f l m. absurd (let o : k ≡ shape.Map = s ∙ m in let w : _≡_ {A = ℕ} 0 1 = cc in omega arith) }
-
-    pub check-leaf : k ≡ shape.Leaf → ElementChecked c d t e check.Fine plan
-    unfolding elementCheck shapeCheck
-    check-leaf z = record { is = rw (← q, h, ← s, z); entries = λ f l m. absurd (let o : k ≡ shape.Map = s ∙ m in let w : _≡_ {A = ℕ} 0 1 = cc in omega arith) }

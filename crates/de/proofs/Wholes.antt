@@ -18,8 +18,12 @@ use Rattle.steps.specs.declared.Step.{Step}
 use Rattle.steps.specs.declared.Step.the-variants.{Next, Stop}
 use Rattle.steps.specs.declared.ReadAnswer.{ReadAnswer}
 use Rattle.steps.specs.Trace.{From}
-use Rattle.de.specs.Walk.{Ctx, ctx, whole, walk}
+use Rattle.type_category.specs.Category.{categoryOf}
+use Rattle.type_category.specs.declared.type_category.AdsTypeCategory.{AdsTypeCategory}
+use Rattle.array_elements.specs.Element.{whole}
+use Rattle.de.specs.Walk.{Ctx, ctx, walk}
 use Rattle.de.specs.Read.{rootBy, rootTrace, checkedTrace, readTrace}
+use Rattle.resolvers.proofs.Numbers.{resolved-is}
 use Rattle.steps.specs.Answer.{ReadIs, Finished}
 use Rattle.steps.proofs.Answers.{read-by, read-refused, read-as}
 
@@ -28,16 +32,18 @@ use Rattle.steps.proofs.Answers.{read-by, read-refused, read-as}
 module _ (c : Ctx) (n : ℕ) (mem : List ℕ) (k : Resolved) (q : ResolvedIs (c .book) (resolveAlias (c .book) (c .width) n) k) {tape txt tape₂ txt₂ : List ℕ} {r : ReadAnswer} where
   pub root-lacks : (b : ℕ) → k ≡ resolved.Lacks b → Finished (Stop 7 b) tape txt r tape₂ txt₂ → ReadIs (rootTrace c n mem) tape txt r tape₂ txt₂
   unfolding rootTrace rootBy
-  root-lacks b e f = read-as (rw (← (q .is), e)) (read-refused 7 b f)
+  root-lacks b e f = read-as (rw (← (resolved-is _ _ (q .is)), e)) (read-refused 7 b f)
 
-  pub root-endless : k ≡ resolved.Endless → Finished (Stop 8 0) tape txt r tape₂ txt₂ → ReadIs (rootTrace c n mem) tape txt r tape₂ txt₂
+  pub root-endless : k ≡ resolved.TooLong → Finished (Stop 8 0) tape txt r tape₂ txt₂ → ReadIs (rootTrace c n mem) tape txt r tape₂ txt₂
   unfolding rootTrace rootBy
-  root-endless e f = read-as (rw (← (q .is), e)) (read-refused 8 0 f)
+  root-endless e f = read-as (rw (← (resolved-is _ _ (q .is)), e)) (read-refused 8 0 f)
 
-  pub root-base : (t : ℕ) → k ≡ resolved.Base t → (s : Step) {tape₁ txt₁ : List ℕ} → From (walk c 64 (whole t) mem) tape txt (Next 0 0) s tape₁ txt₁
+  pub root-base : (t : ℕ) → k ≡ resolved.Base t → (y : AdsTypeCategory) → y ≡ categoryOf (c .book) (c .width) t → (s : Step) {tape₁ txt₁ : List ℕ}
+      → From (walk c 64 (whole (record { named = n; resolved = t; category = y })) mem) tape txt (Next 0 0) s tape₁ txt₁
       → length tape₁ ≡ length tape → length txt₁ ≡ length txt → Finished s tape₁ txt₁ r tape₂ txt₂ → ReadIs (rootTrace c n mem) tape txt r tape₂ txt₂
   unfolding rootTrace rootBy
-  root-base t e s {tape₁} {txt₁} h a b f = read-as (rw (← (q .is), e)) (read-by (walk c 64 (whole t) mem) tape txt tape₁ txt₁ s (h .on 0 0 refl) a b f)
+  root-base t e y ey s {tape₁} {txt₁} h a b f =
+      read-as (rw (← (resolved-is _ _ (q .is)), e, ← ey)) (read-by (walk c 64 (whole (record { named = n; resolved = t; category = y })) mem) tape txt tape₁ txt₁ s (h .on 0 0 refl) a b f)
 
 -- ---- any bytes
 

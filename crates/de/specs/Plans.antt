@@ -1,24 +1,51 @@
--- What the functions of the reader know of a plan of fields. No contract of a public function cites this. Assumes nothing.
+-- What the functions of the reader know of a plan of fields, and of a field's part of the bytes. No contract of a public function cites this. Assumes nothing.
 use mathlib.Core.Path.{_≡_}
-use mathlib.Core.Bool.{true}
+use mathlib.Core.Bool.{true, cond}
 use mathlib.Core.List.{List}
-use Prim.Native.Nat.{ℕ}
-use Rattle.field_plan.specs.Plan.{Entries, Ready}
-use Rattle.field_types.specs.declared.FieldsCheck.{FieldsCheck}
-use Rattle.field_types.specs.declared.FieldsCheck.the-variants as check
+use Prim.Native.Nat.{ℕ, _+_, _≤_}
+use lib.Dec.{leb}
+use Rattle.typebook.specs.Book.{isType}
+use Rattle.type_category.specs.Category.{categoryOf}
+use Rattle.field_types.specs.Fields.{resolveField}
+use Rattle.field_types.specs.declared.ResolvedField.{ResolvedField}
+use Rattle.field_types.specs.declared.FieldAnswer.{FieldAnswer}
+use Rattle.field_types.specs.declared.FieldAnswer.the-variants as answer
+use Rattle.field_plan.specs.Plan.{Ready}
 use Rattle.shape.specs.declared.Shape.the-variants as shape
-use Rattle.de.specs.Walk.{Ctx, shapeAt, elementCheck}
 use Rattle.shape.specs.Array.{isLast}
+use Rattle.array_elements.specs.Element.{shapeAt}
+use Rattle.de.specs.declared.reading.Typed.{Typed}
+use Rattle.de.specs.declared.reading.Part.{Part}
+use Rattle.de.specs.declared.reading.Part.the-variants as part
+use Rattle.de.specs.Walk.{Ctx, typedOf}
 
 -- the plan of a type that has fields is empty, or none of them is refused
 pub record Given (c : Ctx) (t : ℕ) (plan : List ℕ) : Type 0 where
-  pub given : shapeAt c t ≡ shape.Map → Ready (c .book) (c .width) t plan
+  pub given : shapeAt (c .book) (c .width) t ≡ shape.Map → Ready (c .book) (c .width) t plan
 
 -- the same of the elements of type e, in the last dimension
 pub record GivenElement (c : Ctx) (d t e : ℕ) (plan : List ℕ) : Type 0 where
   pub given : isLast (c .book) d t ≡ true → Given c e plan
 
--- the answer is that of the element's fields; without a refusal the plan has their entries, in the last dimension of elements with fields
-pub record ElementChecked (c : Ctx) (d t e : ℕ) (r : FieldsCheck) (after : List ℕ) : Type 0 where
-  pub is : r ≡ elementCheck c d t e
-  pub entries : r ≡ check.Fine → isLast (c .book) d t ≡ true → shapeAt c e ≡ shape.Map → Entries (c .book) (c .width) e after
+-- what a field is in `len` bytes, by what resolving it came to: its type and its bytes, 10 if it passes their end, 7 with its block, or 8
+unfoldable pub partOf : Ctx → ℕ → FieldAnswer → Part
+partOf c len (answer.Field f) =
+    cond (leb (f .offset + f .size) len) (part.Value (typedOf c (f .named) (f .resolved)) (f .offset) (f .offset + f .size)) (part.Stop 10 0)
+partOf c len (answer.Lacks b) = part.Stop 7 b
+partOf c len answer.TooLong = part.Stop 8 0
+
+-- a type and the bytes of a field block f that resolves to it
+pub record ValueIs (c : Ctx) (f len : ℕ) (x : Typed) (from to : ℕ) : Type 0 where
+  pub field : ResolvedField
+  pub found : resolveField (c .book) (c .width) f ≡ answer.Field field
+  pub type-is : x ≡ typedOf c (field .named) (field .resolved)
+  pub from-is : from ≡ field .offset
+  pub to-is : to ≡ field .offset + field .size
+  pub inside : to ≤ len
+  pub typed : isType (c .book) (x .resolved) ≡ true
+  pub category-is : x .category ≡ categoryOf (c .book) (c .width) (x .resolved)
+
+-- that answer; and what it tells where it is a value
+pub record PartIs (c : Ctx) (f len : ℕ) (r : Part) : Type 0 where
+  pub is : r ≡ partOf c len (resolveField (c .book) (c .width) f)
+  pub value : (x : Typed) (from to : ℕ) → r ≡ part.Value x from to → ValueIs c f len x from to

@@ -9,17 +9,18 @@ use Rattle.resolvers.specs.Resolve.{resolveAlias}
 use Rattle.resolvers.specs.declared.Resolved.{Resolved}
 use Rattle.resolvers.specs.declared.Resolved.the-variants as resolved
 use Rattle.steps.specs.Trace.{Trace, refuse}
-use Rattle.de.specs.Walk.{Ctx, ctx, whole, walk}
+use Rattle.array_elements.specs.Element.{whole}
+use Rattle.de.specs.Walk.{Ctx, ctx, typedOf, walk}
 
--- by what the root's aliases come to: its value, with 64 levels; or 7 with its block, or 8
-unfoldable pub rootBy : Ctx → List ℕ → Resolved → Trace
-rootBy c mem (resolved.Base t) = walk c 64 (whole t) mem
-rootBy c mem (resolved.Lacks b) = refuse 7 b
-rootBy c mem resolved.Endless = refuse 8 0
+-- by what the aliases of root block n come to: its value, with 64 levels; or 7 with its block, or 8
+unfoldable pub rootBy : Ctx → ℕ → List ℕ → Resolved → Trace
+rootBy c n mem (resolved.Base t) = walk c 64 (whole (typedOf c n t)) mem
+rootBy c n mem (resolved.Lacks b) = refuse 7 b
+rootBy c n mem resolved.TooLong = refuse 8 0
 
 -- what is read of root block n: its aliases are resolved first
 unfoldable pub rootTrace : Ctx → ℕ → List ℕ → Trace
-rootTrace c n mem = rootBy c mem (resolveAlias (c .book) (c .width) n)
+rootTrace c n mem = rootBy c n mem (resolveAlias (c .book) (c .width) n)
 
 -- 1 to 5 come before the walk
 unfoldable pub checkedTrace : List ℕ → ℕ → List ℕ → RootCheck → Trace

@@ -5,135 +5,107 @@ ghost use lib.ListN.{length};
 ghost use Rattle.book_check.specs.Check.{ValidBook};
 ghost use Rattle.typebook.specs.Book.{isType};
 ghost use Rattle.type_category.specs.Category.{categoryOf};
-ghost use Rattle.de.specs.Plans.{GivenElement, ElementChecked};
+ghost use Rattle.de.specs.Plans.{GivenElement};
 ghost use Rattle.steps.specs.Trace.{From};
 ghost use Rattle.shape.specs.Array.{Fills, FillsNext};
-ghost use Rattle.de.specs.Walk.{ctx, walk, arrayOf, dimensionOf, elementsOf, elementItem};
+ghost use Rattle.array_elements.specs.Element.{elementItem};
+ghost use Rattle.de.specs.Walk.{ctx, walk, arrayOf, dimensionOf, elementsOf};
 use crate::deserializer::value;
+use crate::reading::Place;
+use crate::reading::Reading;
+use crate::reading::Typed;
 use field_types::FieldsCheck;
 use resolvers::Resolved;
-use shape::Shape;
 use shape::array::is_last;
 use shape::array::product_is;
 use shape::array::stride_of;
-use shape::shape_of;
 use steps::Step;
-use steps::put;
+use steps::put_frame;
 use steps::stop;
 use tape::record::ARRAY;
 use tape::record::ARRAY_END;
 use type_category::type_category::AdsTypeCategory;
+use type_provider::Found;
 
-// Array t: its size is held against the bytes, its element's type looked up, and the product of size and counts tested, before its first
-// dimension.
+// An array (`deserialize_seq`): its size is held against the bytes, then its element's name is looked up. A name that is not in the book
+// is 7 with the array's block.
 pub(crate) fn array(
     s: Step,
     book: &[u8],
     index: &[u32],
-    width: u8,
-    t: u32,
+    v: Reading,
     bytes: &[u8],
-    left: usize,
     tape: &mut [u8],
     text: &mut [u8],
 ) -> Step
-    requires { ⌜ ValidBook (now book) × (isType (now book) t ≡ true) ⌝ }
-    ensures { λ r. ⌜ From (arrayOf (walk (ctx (now (book .entry)) width) left) (ctx (now (book .entry)) width) t (now (bytes .entry))) (now (tape .entry)) (now (text .entry)) s r (now (tape .exit)) (now (text .exit)) ⌝ }
+    requires { ⌜ ValidBook (now book) × (isType (now book) (v .typed .resolved) ≡ true) ⌝ }
+    ensures { λ r. ⌜ From (arrayOf (walk (ctx (now (book .entry)) (v .width)) (v .left)) (ctx (now (book .entry)) (v .width)) (v .typed) (now (bytes .entry))) (now (tape .entry)) (now (text .entry)) s r (now (tape .exit)) (now (text .exit)) ⌝ }
 {
+    let t = v.typed.resolved;
     if bytes.len() != typebook::block::size(book, t) as usize {
         return stop(s, 10, 0);
     }
-    let element = resolvers::look_up_in(book, index, width, t);
-    match element {
+    let found = resolvers::named_in(book, index, t);
+    let Found::At(named) = found else {
+        return stop(s, 7, t);
+    };
+    let resolved = resolvers::resolve_alias_in(book, index, v.width, named);
+    match resolved {
         Resolved::Base(e) => {
+            // The product of size and counts is tested after the look-up, and before the first dimension.
             if product_is(book, t, e, bytes) {
-                let category = AdsTypeCategory::determine(book, width, e);
-                return dimension(
-                    s,
-                    book,
-                    index,
-                    width,
-                    0,
-                    t,
-                    e,
+                let category = AdsTypeCategory::determine(book, v.width, e);
+                let element = Typed {
+                    named,
+                    resolved: e,
                     category,
-                    bytes,
-                    left,
-                    tape,
-                    text,
-                );
+                };
+                let p = Place {
+                    d: 0,
+                    t,
+                    element,
+                    width: v.width,
+                    left: v.left,
+                };
+                return dimension(s, book, index, p, bytes, tape, text);
             }
             stop(s, 10, 0)
         }
         Resolved::Lacks(b) => stop(s, 7, b),
-        Resolved::Endless => stop(s, 8, 0),
+        Resolved::TooLong => stop(s, 8, 0),
     }
 }
 
-// The fields of an element that has any are resolved in the last dimension, before the array record, and kept in a plan.
-pub(crate) fn element_check(
-    book: &[u8],
-    index: &[u32],
-    width: u8,
-    d: u8,
-    t: u32,
-    e: u32,
-    category: AdsTypeCategory,
-    plan: &mut [u32],
-) -> FieldsCheck
-    requires { ⌜ ValidBook (now book) × (isType (now book) e ≡ true) × (category ≡ categoryOf (now book) width e) ⌝ }
-    ensures { λ r. ⌜ ElementChecked (ctx (now (book .entry)) width) d t e r (now (plan .exit)) ⌝ }
-{
-    if is_last(book, d, t) {
-        let form = shape_of(category);
-        match form {
-            Shape::Map => field_plan::plan_fields_in(book, index, width, e, plan),
-            Shape::Array => FieldsCheck::Fine,
-            Shape::Leaf => FieldsCheck::Fine,
-        }
-    } else {
-        FieldsCheck::Fine
-    }
-}
-
-// Dimension d of array t, whose elements are of type e.
+// One dimension of an array (`with_element_type`): in the last one its element's fields are resolved first, and kept in a plan.
 pub(crate) fn dimension(
     s: Step,
     book: &[u8],
     index: &[u32],
-    width: u8,
-    d: u8,
-    t: u32,
-    e: u32,
-    category: AdsTypeCategory,
+    p: Place,
     bytes: &[u8],
-    left: usize,
     tape: &mut [u8],
     text: &mut [u8],
 ) -> Step
-    requires { ⌜ ValidBook (now book) × (isType (now book) e ≡ true) × (category ≡ categoryOf (now book) width e) × Fills (now book) d t e (length (now bytes)) ⌝ }
-    ensures { λ r. ⌜ From (dimensionOf (walk (ctx (now (book .entry)) width) left) (ctx (now (book .entry)) width) d t e (now (bytes .entry))) (now (tape .entry)) (now (text .entry)) s r (now (tape .exit)) (now (text .exit)) ⌝ }
+    requires { ⌜ ValidBook (now book) × (isType (now book) (p .element .resolved) ≡ true) × (p .element .category ≡ categoryOf (now book) (p .width) (p .element .resolved)) × Fills (now book) (p .d) (p .t) (p .element .resolved) (length (now bytes)) ⌝ }
+    ensures { λ r. ⌜ From (dimensionOf (walk (ctx (now (book .entry)) (p .width)) (p .left)) (ctx (now (book .entry)) (p .width)) (p .d) (p .t) (p .element) (now (bytes .entry))) (now (tape .entry)) (now (text .entry)) s r (now (tape .exit)) (now (text .exit)) ⌝ }
 {
-    let mut plan = [0u32; 256];
-    let fields = element_check(book, index, width, d, t, e, category, &mut plan);
+    let element = p.element;
+    let category = element.category;
+    let mut plan = [0u64; 256];
+    let fields = array_elements::element_check(
+        book,
+        index,
+        p.width,
+        p.d,
+        p.t,
+        element.resolved,
+        category,
+        &mut plan,
+    );
     match fields {
-        FieldsCheck::Fine => elements(
-            s,
-            book,
-            index,
-            width,
-            d,
-            t,
-            e,
-            category,
-            &plan,
-            bytes,
-            left,
-            tape,
-            text,
-        ),
+        FieldsCheck::Fine => elements(s, book, index, p, &plan, bytes, tape, text),
         FieldsCheck::Lacks(b) => stop(s, 7, b),
-        FieldsCheck::Endless => stop(s, 8, 0),
+        FieldsCheck::TooLong => stop(s, 8, 0),
     }
 }
 
@@ -142,22 +114,17 @@ pub(crate) fn elements(
     s: Step,
     book: &[u8],
     index: &[u32],
-    width: u8,
-    d: u8,
-    t: u32,
-    e: u32,
-    category: AdsTypeCategory,
-    plan: &[u32],
+    p: Place,
+    plan: &[u64],
     bytes: &[u8],
-    left: usize,
     tape: &mut [u8],
     text: &mut [u8],
 ) -> Step
-    requires { ⌜ ValidBook (now book) × (isType (now book) e ≡ true) × (category ≡ categoryOf (now book) width e) × GivenElement (ctx (now book) width) d t e (now plan) × Fills (now book) d t e (length (now bytes)) ⌝ }
-    ensures { λ r. ⌜ From (elementsOf (walk (ctx (now (book .entry)) width) left) (ctx (now (book .entry)) width) d t e (now (bytes .entry))) (now (tape .entry)) (now (text .entry)) s r (now (tape .exit)) (now (text .exit)) ⌝ }
+    requires { ⌜ ValidBook (now book) × (isType (now book) (p .element .resolved) ≡ true) × (p .element .category ≡ categoryOf (now book) (p .width) (p .element .resolved)) × GivenElement (ctx (now book) (p .width)) (p .d) (p .t) (p .element .resolved) (now plan) × Fills (now book) (p .d) (p .t) (p .element .resolved) (length (now bytes)) ⌝ }
+    ensures { λ r. ⌜ From (elementsOf (walk (ctx (now (book .entry)) (p .width)) (p .left)) (ctx (now (book .entry)) (p .width)) (p .d) (p .t) (p .element) (now (bytes .entry))) (now (tape .entry)) (now (text .entry)) s r (now (tape .exit)) (now (text .exit)) ⌝ }
 {
-    let n = typebook::block::count(book, t, d) as usize;
-    let mut here = put(s, tape, text, ARRAY, 0, n as u64, 0);
+    let n = typebook::block::count(book, p.t, p.d) as usize;
+    let mut here = put_frame(s, tape, text, ARRAY, n as u64);
     let stride = stride_of(n, bytes.len());
     let mut from: usize = 0;
     let mut i: usize = 0;
@@ -166,76 +133,45 @@ pub(crate) fn elements(
             return here;
         };
         let to = from + stride;
-        here = element(
-            here,
-            book,
-            index,
-            width,
-            d,
-            t,
-            e,
-            category,
-            plan,
-            &bytes[from..to],
-            left,
-            tape,
-            text,
-        );
+        here = element(here, book, index, p, plan, &bytes[from..to], tape, text);
         from = to;
         i += 1;
     }
-    put(here, tape, text, ARRAY_END, 0, 0, 0)
+    put_frame(here, tape, text, ARRAY_END, 0)
 }
 
-// What one index of dimension d holds: an element, or the next dimension one level deeper.
+// What one index of a dimension holds (`next_element_seed`): an element, or the next dimension one level deeper.
 pub(crate) fn element(
     s: Step,
     book: &[u8],
     index: &[u32],
-    width: u8,
-    d: u8,
-    t: u32,
-    e: u32,
-    category: AdsTypeCategory,
-    plan: &[u32],
+    p: Place,
+    plan: &[u64],
     bytes: &[u8],
-    left: usize,
     tape: &mut [u8],
     text: &mut [u8],
 ) -> Step
-    requires { ⌜ ValidBook (now book) × (isType (now book) e ≡ true) × (category ≡ categoryOf (now book) width e) × GivenElement (ctx (now book) width) d t e (now plan) × FillsNext (now book) d t e (length (now bytes)) ⌝ }
-    ensures { λ r. ⌜ From (walk (ctx (now (book .entry)) width) left (elementItem (ctx (now (book .entry)) width) d t e) (now (bytes .entry))) (now (tape .entry)) (now (text .entry)) s r (now (tape .exit)) (now (text .exit)) ⌝ }
+    requires { ⌜ ValidBook (now book) × (isType (now book) (p .element .resolved) ≡ true) × (p .element .category ≡ categoryOf (now book) (p .width) (p .element .resolved)) × GivenElement (ctx (now book) (p .width)) (p .d) (p .t) (p .element .resolved) (now plan) × FillsNext (now book) (p .d) (p .t) (p .element .resolved) (length (now bytes)) ⌝ }
+    ensures { λ r. ⌜ From (walk (ctx (now (book .entry)) (p .width)) (p .left) (elementItem (now (book .entry)) (p .d) (p .t) (p .element)) (now (bytes .entry))) (now (tape .entry)) (now (text .entry)) s r (now (tape .exit)) (now (text .exit)) ⌝ }
 {
-    if is_last(book, d, t) {
-        return value(
-            s,
-            book,
-            index,
-            width,
-            e,
-            category,
-            plan,
-            bytes,
-            left,
-            tape,
-            text,
-        );
+    let typed = p.element;
+    if is_last(book, p.d, p.t) {
+        let v = Reading {
+            typed,
+            width: p.width,
+            left: p.left,
+        };
+        return value(s, book, index, v, plan, bytes, tape, text);
     }
-    if left == 0 {
+    if p.left == 0 {
         return stop(s, 14, 0);
     }
-    dimension(
-        s,
-        book,
-        index,
-        width,
-        d + 1,
-        t,
-        e,
-        category,
-        bytes,
-        left - 1,
-        tape,
-        text,
-    )
+    let next = Place {
+        d: p.d + 1,
+        t: p.t,
+        element: typed,
+        width: p.width,
+        left: p.left - 1,
+    };
+    dimension(s, book, index, next, bytes, tape, text)
 }

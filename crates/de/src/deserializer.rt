@@ -7,10 +7,13 @@ ghost use Rattle.type_category.specs.Category.{categoryOf};
 ghost use Rattle.de.specs.Plans.{Given};
 ghost use Rattle.steps.specs.Answer.{ReadIs};
 ghost use Rattle.steps.specs.Trace.{From};
-ghost use Rattle.de.specs.Walk.{ctx, walk, whole};
+ghost use Rattle.array_elements.specs.Element.{whole};
+ghost use Rattle.de.specs.Walk.{ctx, walk};
 ghost use Rattle.de.specs.Read.{rootTrace, readTrace};
 use crate::array_access::array;
 use crate::map_access::map;
+use crate::reading::Reading;
+use crate::reading::Typed;
 use book_check::RootCheck;
 use leaf_steps::leaf;
 use resolvers::Resolved;
@@ -21,31 +24,44 @@ use steps::Step;
 use steps::finish;
 use type_category::type_category::AdsTypeCategory;
 
-// The value of resolved type t in `bytes`, with `left` levels left. The plan is that of t's fields, or empty.
+// A value of a type in `bytes` (`deserialize_any`). The plan is that of the type's fields, or empty.
 pub(crate) fn value(
     s: Step,
     book: &[u8],
     index: &[u32],
-    width: u8,
-    t: u32,
-    category: AdsTypeCategory,
-    plan: &[u32],
+    v: Reading,
+    plan: &[u64],
     bytes: &[u8],
-    left: usize,
     tape: &mut [u8],
     text: &mut [u8],
 ) -> Step
-    requires { ⌜ ValidBook (now book) × (isType (now book) t ≡ true) × (category ≡ categoryOf (now book) width t) × Given (ctx (now book) width) t (now plan) ⌝ }
-    ensures { λ r. ⌜ From (walk (ctx (now (book .entry)) width) left (whole t) (now (bytes .entry))) (now (tape .entry)) (now (text .entry)) s r (now (tape .exit)) (now (text .exit)) ⌝ }
+    requires { ⌜ ValidBook (now book) × (isType (now book) (v .typed .resolved) ≡ true) × (v .typed .category ≡ categoryOf (now book) (v .width) (v .typed .resolved)) × Given (ctx (now book) (v .width)) (v .typed .resolved) (now plan) ⌝ }
+    ensures { λ r. ⌜ From (walk (ctx (now (book .entry)) (v .width)) (v .left) (whole (v .typed)) (now (bytes .entry))) (now (tape .entry)) (now (text .entry)) s r (now (tape .exit)) (now (text .exit)) ⌝ }
 {
-    if left == 0 {
+    if v.left == 0 {
         return steps::stop(s, 14, 0);
     }
+    let typed = v.typed;
+    let category = typed.category;
     let form = shape_of(category);
+    let inside = Reading {
+        typed,
+        width: v.width,
+        left: v.left - 1,
+    };
     match form {
-        Shape::Map => map(s, book, index, width, t, plan, bytes, left - 1, tape, text),
-        Shape::Array => array(s, book, index, width, t, bytes, left - 1, tape, text),
-        Shape::Leaf => leaf(s, book, width, t, category, bytes, tape, text),
+        Shape::Map => map(s, book, index, inside, plan, bytes, tape, text),
+        Shape::Array => array(s, book, index, inside, bytes, tape, text),
+        Shape::Leaf => leaf(
+            s,
+            book,
+            v.width,
+            typed.resolved,
+            category,
+            bytes,
+            tape,
+            text,
+        ),
     }
 }
 
@@ -66,23 +82,31 @@ pub fn read_in(
     match resolved {
         Resolved::Base(t) => {
             let category = AdsTypeCategory::determine(book, width, t);
+            let typed = Typed {
+                named: root,
+                resolved: t,
+                category,
+            };
+            let v = Reading {
+                typed,
+                width,
+                left: 64,
+            };
+            let none = [0u64; 1];
             let s = value(
                 Step::Next(0, 0),
                 book,
                 index,
-                width,
-                t,
-                category,
-                &index[0..0],
+                v,
+                &none[0..0],
                 memory,
-                64,
                 tape,
                 text,
             );
             finish(s, tape, text)
         }
         Resolved::Lacks(b) => finish(Step::Stop(7, b), tape, text),
-        Resolved::Endless => finish(Step::Stop(8, 0), tape, text),
+        Resolved::TooLong => finish(Step::Stop(8, 0), tape, text),
     }
 }
 

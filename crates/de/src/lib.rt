@@ -2,3 +2,4 @@
 mod array_access;
 pub mod deserializer;
 mod map_access;
+mod reading;

@@ -2,49 +2,54 @@
 ghost use mathlib.Core.Path.{_≡_};
 ghost use mathlib.Core.Bool.{true};
 ghost use Prim.Native.Nat.{_+_, _<_};
+ghost use lib.ListN.{length};
 ghost use Rattle.book_check.specs.Check.{ValidBook};
 ghost use Rattle.typebook.specs.Book.{isType};
 ghost use Rattle.field_plan.specs.Plan.{PlanEntry, Entries, Ready};
 ghost use Rattle.steps.specs.Trace.{From};
+ghost use Rattle.de.specs.Plans.{PartIs};
 ghost use Rattle.de.specs.Walk.{ctx, walk, mapOf, membersOf, memberOf};
 use crate::deserializer::value;
+use crate::reading::Member;
+use crate::reading::Part;
+use crate::reading::Reading;
+use crate::reading::Typed;
 use field_plan::Planned;
 use field_types::FieldsCheck;
 use steps::Step;
-use steps::put;
+use steps::put_frame;
 use steps::stop;
 use tape::record::KEY;
 use tape::record::MAP;
 use tape::record::MAP_END;
 
-// The fields of type block t, after all of them were resolved once: by whoever gave a plan, or here.
+// The fields of a type (`deserialize_map`), after all of them were resolved once: by whoever gave a plan, or here.
 pub(crate) fn map(
     s: Step,
     book: &[u8],
     index: &[u32],
-    width: u8,
-    t: u32,
-    plan: &[u32],
+    v: Reading,
+    plan: &[u64],
     bytes: &[u8],
-    left: usize,
     tape: &mut [u8],
     text: &mut [u8],
 ) -> Step
-    requires { ⌜ ValidBook (now book) × (isType (now book) t ≡ true) × Ready (now book) width t (now plan) ⌝ }
-    ensures { λ r. ⌜ From (mapOf (walk (ctx (now (book .entry)) width) left) (ctx (now (book .entry)) width) t (now (bytes .entry))) (now (tape .entry)) (now (text .entry)) s r (now (tape .exit)) (now (text .exit)) ⌝ }
+    requires { ⌜ ValidBook (now book) × (isType (now book) (v .typed .resolved) ≡ true) × Ready (now book) (v .width) (v .typed .resolved) (now plan) ⌝ }
+    ensures { λ r. ⌜ From (mapOf (walk (ctx (now (book .entry)) (v .width)) (v .left)) (ctx (now (book .entry)) (v .width)) (v .typed) (now (bytes .entry))) (now (tape .entry)) (now (text .entry)) s r (now (tape .exit)) (now (text .exit)) ⌝ }
 {
+    let t = v.typed.resolved;
     if bytes.len() != typebook::block::size(book, t) as usize {
         return stop(s, 10, 0);
     }
     if 0 < plan.len() {
-        return members(s, book, index, width, t, plan, bytes, left, tape, text);
+        return members(s, book, index, v, plan, bytes, tape, text);
     }
-    let mut own = [0u32; 256];
-    let fields = field_plan::plan_fields_in(book, index, width, t, &mut own);
+    let mut own = [0u64; 256];
+    let fields = field_plan::plan_fields_in(book, index, v.width, t, &mut own);
     match fields {
-        FieldsCheck::Fine => members(s, book, index, width, t, &own, bytes, left, tape, text),
+        FieldsCheck::Fine => members(s, book, index, v, &own, bytes, tape, text),
         FieldsCheck::Lacks(b) => stop(s, 7, b),
-        FieldsCheck::Endless => stop(s, 8, 0),
+        FieldsCheck::TooLong => stop(s, 8, 0),
     }
 }
 
@@ -53,83 +58,87 @@ pub(crate) fn members(
     s: Step,
     book: &[u8],
     index: &[u32],
-    width: u8,
-    t: u32,
-    plan: &[u32],
+    v: Reading,
+    plan: &[u64],
     bytes: &[u8],
-    left: usize,
     tape: &mut [u8],
     text: &mut [u8],
 ) -> Step
-    requires { ⌜ ValidBook (now book) × (isType (now book) t ≡ true) × Entries (now book) width t (now plan) ⌝ }
-    ensures { λ r. ⌜ From (membersOf (walk (ctx (now (book .entry)) width) left) (ctx (now (book .entry)) width) t (now (bytes .entry))) (now (tape .entry)) (now (text .entry)) s r (now (tape .exit)) (now (text .exit)) ⌝ }
+    requires { ⌜ ValidBook (now book) × (isType (now book) (v .typed .resolved) ≡ true) × Entries (now book) (v .width) (v .typed .resolved) (now plan) ⌝ }
+    ensures { λ r. ⌜ From (membersOf (walk (ctx (now (book .entry)) (v .width)) (v .left)) (ctx (now (book .entry)) (v .width)) (v .typed) (now (bytes .entry))) (now (tape .entry)) (now (text .entry)) s r (now (tape .exit)) (now (text .exit)) ⌝ }
 {
+    let t = v.typed.resolved;
     let n = typebook::block::fields(book, t);
-    let mut here = put(s, tape, text, MAP, 0, n as u64, 0);
+    let mut here = put_frame(s, tape, text, MAP, n as u64);
     let mut i: u32 = 0;
     while i < n {
         let Step::Next(_, _) = here else {
             return here;
         };
-        let entry = field_plan::entry_at(plan, i);
-        here = member(
-            here,
-            book,
-            index,
-            width,
-            t + 1 + i,
-            entry,
-            bytes,
-            left,
-            tape,
-            text,
-        );
+        let m = Member {
+            f: t + 1 + i,
+            entry: field_plan::entry_at(plan, i),
+            width: v.width,
+            left: v.left,
+        };
+        here = member(here, book, index, m, bytes, tape, text);
         i += 1;
     }
-    put(here, tape, text, MAP_END, 0, 0, 0)
+    put_frame(here, tape, text, MAP_END, 0)
 }
 
-// Field block f, by its entry of a plan: its key, then its value.
-pub(crate) fn member(
-    s: Step,
-    book: &[u8],
-    index: &[u32],
-    width: u8,
-    f: u32,
-    entry: u32,
-    bytes: &[u8],
-    left: usize,
-    tape: &mut [u8],
-    text: &mut [u8],
-) -> Step
-    requires { ⌜ ValidBook (now book) × PlanEntry (now book) width f entry ⌝ }
-    ensures { λ r. ⌜ From (memberOf (walk (ctx (now (book .entry)) width) left) (ctx (now (book .entry)) width) (now (bytes .entry)) f) (now (tape .entry)) (now (text .entry)) s r (now (tape .exit)) (now (text .exit)) ⌝ }
+// What a field is in the bytes of its struct, by its entry of a plan: 10 where it passes their end.
+fn part_of(book: &[u8], index: &[u32], m: Member, bytes: &[u8]) -> Part
+    requires { ⌜ ValidBook (now book) × PlanEntry (now book) (m .width) (m .f) (m .entry) ⌝ }
+    ensures { λ r. ⌜ PartIs (ctx (now (book .entry)) (m .width)) (m .f) (length (now (bytes .entry))) r ⌝ }
 {
-    let key = put(s, tape, text, KEY, 0, f as u64, 0);
-    let found = field_plan::planned_field(book, index, width, f, entry);
+    let found = field_plan::planned_field(book, index, m.width, m.f, m.entry);
     match found {
         Planned::Field(x) => {
             let from = x.offset as usize;
             let to = from + x.size as usize;
             if to > bytes.len() {
-                return stop(key, 10, 0);
+                return Part::Stop(10, 0);
             }
             let category = x.category;
-            value(
-                key,
-                book,
-                index,
-                width,
-                x.resolved,
+            let typed = Typed {
+                named: x.named,
+                resolved: x.resolved,
                 category,
-                &index[0..0],
-                &bytes[from..to],
-                left,
-                tape,
-                text,
-            )
+            };
+            Part::Value(typed, from, to)
         }
-        Planned::Lacks(b) => stop(key, 7, b),
-        Planned::Endless => stop(key, 8, 0),
+        Planned::Lacks(b) => Part::Stop(7, b),
+        Planned::TooLong => Part::Stop(8, 0),
+    }
+}
+
+// A field: its key (`next_key_seed`), then its value (`next_value_seed`).
+pub(crate) fn member(
+    s: Step,
+    book: &[u8],
+    index: &[u32],
+    m: Member,
+    bytes: &[u8],
+    tape: &mut [u8],
+    text: &mut [u8],
+) -> Step
+    requires { ⌜ ValidBook (now book) × PlanEntry (now book) (m .width) (m .f) (m .entry) ⌝ }
+    ensures { λ r. ⌜ From (memberOf (walk (ctx (now (book .entry)) (m .width)) (m .left)) (ctx (now (book .entry)) (m .width)) (now (bytes .entry)) (m .f)) (now (tape .entry)) (now (text .entry)) s r (now (tape .exit)) (now (text .exit)) ⌝ }
+{
+    let key = put_frame(s, tape, text, KEY, m.f as u64);
+    let part = part_of(book, index, m, bytes);
+    match part {
+        Part::Value(typed, from, to) => {
+            let v = Reading {
+                typed,
+                width: m.width,
+                left: m.left,
+            };
+            let none = [0u64; 1];
+            let rest = &none[0..0];
+            value(key, book, index, v, rest, &bytes[from..to], tape, text)
+        }
+        Part::Stop(n, b) => stop(key, n, b),
     }
 }

@@ -1,62 +1,13 @@
 // Two types of one name in a type book (refusal 4): the hashes of the names met are marked, so that most names are compared with none.
 ghost use mathlib.Core.Path.{_≡_};
-ghost use Prim.Native.Nat.{_≤_, _<_};
+ghost use Prim.Native.Nat.{_≤_};
 ghost use lib.ListN.{length};
 ghost use Rattle.typebook.specs.Book.{blocks as blocksOf};
 ghost use Rattle.doubles.specs.Doubles.{allFrom, isOther, distinct as distinctIn};
-ghost use Rattle.doubles.specs.Marks.{hashOf, bitOf, BitSet, isMarked, Marked, MarkedTo, FirstIs};
-
-// A hash of a name, of 32 bits.
-fn hash(name: &[u8]) -> u32
-    ensures { λ r. ⌜ r ≡ hashOf (now (name .entry)) ⌝ }
-{
-    let mut h: u64 = 2166136261;
-    let mut i = 0;
-    while i < name.len() {
-        h = (h + name[i] as u64) * 16777619 % 4294967296;
-        i += 1;
-    }
-    h as u32
-}
-
-fn bit(marks: &[u32], slot: u32) -> bool
-    requires { ⌜ (slot < 1048576) × (length (now marks) ≡ 32768) ⌝ }
-    ensures { λ r. ⌜ r ≡ bitOf (now (marks .entry)) slot ⌝ }
-{
-    let i = (slot / 32) as usize;
-    (marks[i] >> (slot % 32)) % 2 == 1
-}
-
-fn set_bit(marks: &mut [u32], slot: u32)
-    requires { ⌜ (slot < 1048576) × (length (now marks) ≡ 32768) ⌝ }
-    ensures { λ _. ⌜ BitSet (now (marks .entry)) slot (now (marks .exit)) ⌝ }
-{
-    let i = (slot / 32) as usize;
-    marks[i] = marks[i] | (1 << (slot % 32));
-}
-
-// A hash has three slots, of its upper, its middle and its lower 20 bits: names that differ rarely find all three taken.
-fn is_marked(marks: &[u32], hash: u32) -> bool
-    requires { ⌜ length (now marks) ≡ 32768 ⌝ }
-    ensures { λ r. ⌜ r ≡ isMarked (now (marks .entry)) hash ⌝ }
-{
-    if !bit(marks, hash / 4096) {
-        return false;
-    }
-    if !bit(marks, hash / 64 % 1048576) {
-        return false;
-    }
-    bit(marks, hash % 1048576)
-}
-
-fn mark(marks: &mut [u32], hash: u32)
-    requires { ⌜ length (now marks) ≡ 32768 ⌝ }
-    ensures { λ _. ⌜ Marked (now (marks .entry)) hash (now (marks .exit)) ⌝ }
-{
-    set_bit(marks, hash / 4096);
-    set_bit(marks, hash / 64 % 1048576);
-    set_bit(marks, hash % 1048576);
-}
+ghost use Rattle.doubles.specs.Met.{MarkedTo, FirstIs};
+use marks::hash;
+use marks::is_marked;
+use marks::mark;
 
 // No block before n is a type block of that name.
 fn is_new(book: &[u8], name: &[u8], n: u32) -> bool

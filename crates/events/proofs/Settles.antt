@@ -9,9 +9,10 @@ use Rattle.type_category.specs.declared.type_category.AdsTypeCategory.{AdsTypeC
 use Rattle.type_category.specs.Category.{categoryOf}
 use Rattle.type_category.proofs.Categories.{alias-type}
 use Rattle.resolvers.specs.declared.Resolved.{Resolved}
-use Rattle.resolvers.specs.declared.Resolved.the-variants.{Base, Lacks, Endless}
+use Rattle.resolvers.specs.declared.Resolved.the-variants.{Base, Lacks, TooLong}
 use Rattle.resolvers.specs.Resolve.{goesOn, isFollowed, resolveAlias, ResolvedIs}
 use Rattle.resolvers.proofs.Chains.{follow-base, alias-breaks, follow-breaks}
+use Rattle.resolvers.proofs.Numbers.{resolved-is}
 use Rattle.visits.specs.Parts.{partsOf}
 use Rattle.visits.specs.Scratch.{isPart, BlockMarked, MarkedAndPushed}
 use Rattle.visits.proofs.Places.{part-dimensions}
@@ -54,7 +55,7 @@ module _ (book : List ℕ) (width : ℕ) (sc : List ℕ) (depth t : ℕ) (y : is
     (ra : ResolvedIs book (resolveAlias book width t) a) where
   pub settle-base : (u : ℕ) → a ≡ Base u → (c : AdsTypeCategory) → c ≡ categoryOf book width u → {r : ℕ} {sc₂ : List ℕ} → MarkedAndPushed book c sc depth t u r sc₂
       → Settles book width sc depth t (New u r c) sc₂
-  settle-base u e c ec = expanded book width sc depth t u c ec (sym (ra .is) ∙ e) (ra .typed u e)
+  settle-base u e c ec = expanded book width sc depth t u c ec (sym (resolved-is _ _ (ra .is)) ∙ e) (ra .typed u e)
 
   module _ {sc₁ : List ℕ} (m : BlockMarked sc t sc₁) where
     dead : Dead sc depth t depth sc₁
@@ -63,13 +64,13 @@ module _ (book : List ℕ) (width : ℕ) (sc : List ℕ) (depth t : ℕ) (y : is
     pub settle-lacks : (c : ℕ) → a ≡ Lacks c → Settles book width sc depth t (Lacking c depth) sc₁
     unfolding settledEvent settledOn
     settle-lacks c e =
-        let q = sym (ra .is) ∙ e in
+        let q = sym (resolved-is _ _ (ra .is)) ∙ e in
         record { so = record { to = q; alias = alias-not-part book width t c y q; dead = dead }; event = rw q; numbers = rw q (m .numbers) }
 
-    pub settle-long : a ≡ Endless → Settles book width sc depth t (Long depth) sc₁
+    pub settle-long : a ≡ TooLong → Settles book width sc depth t (Long depth) sc₁
     unfolding settledEvent settledOn
     settle-long e =
-        let q = sym (ra .is) ∙ e in
+        let q = sym (resolved-is _ _ (ra .is)) ∙ e in
         record { so = record { to = q; dead = dead }; event = rw q; numbers = rw q (m .numbers) }
 
 pub base-type : (book : List ℕ) (answer : Resolved) (u : ℕ) {a : Resolved} → ResolvedIs book answer a → a ≡ Base u → isType book u ≡ true

@@ -10,7 +10,7 @@ use Rattle.typebook.specs.Book.{isType}
 use Rattle.type_category.specs.declared.type_category.AdsTypeCategory.{AdsTypeCategory}
 use Rattle.type_category.specs.Category.{categoryOf}
 use Rattle.resolvers.specs.declared.Resolved.{Resolved}
-use Rattle.resolvers.specs.declared.Resolved.the-variants.{Base, Lacks, Endless}
+use Rattle.resolvers.specs.declared.Resolved.the-variants.{Base, Lacks, TooLong}
 use Rattle.resolvers.specs.Resolve.{resolveAlias}
 use Rattle.visits.specs.Parts.{partsKind, partsOf}
 use Rattle.visits.specs.Scratch.{stackOf, markedIn, isPart, markedOn, pushedTo, pushedOn}
@@ -23,13 +23,13 @@ use Rattle.events.specs.declared.Event.the-variants.{Old, Lacking, New, 
 unfoldable pub settledEvent : List ℕ → ℕ → ℕ → Resolved → Event
 settledEvent book width depth (Base u) = New u (pushedTo book depth u (partsKind (categoryOf book width u))) (categoryOf book width u)
 settledEvent book width depth (Lacks c) = Lacking c depth
-settledEvent book width depth Endless = Long depth
+settledEvent book width depth TooLong = Long depth
 
 -- the scratch then: type block t is marked, and the parts of the type that it comes to are laid on
 unfoldable pub settledOn : List ℕ → ℕ → List ℕ → ℕ → ℕ → Resolved → List ℕ
 settledOn book width sc depth t (Base u) = pushedOn book (markedOn sc t) depth u (partsKind (categoryOf book width u))
 settledOn book width sc depth t (Lacks c) = markedOn sc t
-settledOn book width sc depth t Endless = markedOn sc t
+settledOn book width sc depth t TooLong = markedOn sc t
 
 -- ---- what they stand for
 
@@ -57,7 +57,7 @@ pub record Broken (book : List ℕ) (width : ℕ) (sc : List ℕ) (depth t c r :
 
 -- it comes to nothing, since its chain is too long
 pub record Unending (book : List ℕ) (width : ℕ) (sc : List ℕ) (depth t r : ℕ) (sc′ : List ℕ) : Type 0 where
-  pub to : resolveAlias book width t ≡ Endless
+  pub to : resolveAlias book width t ≡ TooLong
   pub dead : Dead sc depth t r sc′
 
 -- type block t is marked, by the event that it gives

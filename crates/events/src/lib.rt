@@ -48,7 +48,7 @@ fn settle_alias(
             mark(scratch, t);
             Event::Lacking(c, depth)
         }
-        Resolved::Endless => {
+        Resolved::TooLong => {
             mark(scratch, t);
             Event::Long(depth)
         }

@@ -8,7 +8,7 @@ use lib.ListN.{length, getD, set, List·getD-eq-default}
 use lib.Seq.{set-out, getD-set-same, getD-set-other}
 use lib.Dec.{eqb, leb}
 use borrow.Author.Tests.{eqb-true, eqb-false, leb-true, leb-false}
-use mir.Syntax.{w32}
+use mir.Syntax.{w32, w64}
 use mir.Val.{Fits}
 use Rattle.typebook.specs.Book.{isType, offsetOf, sizeOf, fieldsOf, typeNameOf}
 use Rattle.type_provider.specs.Find.{find}
@@ -16,8 +16,8 @@ use Rattle.type_provider.specs.declared.Found.{Found}
 use Rattle.type_provider.specs.declared.Found.the-variants.{At, Nothing}
 use Rattle.type_category.specs.declared.type_category.AdsTypeCategory.{AdsTypeCategory}
 use Rattle.type_category.specs.Category.{categoryOf}
-use Rattle.category_number.specs.Number.{categoryNumber, categoryAt}
-use Rattle.category_number.proofs.Numbers.{number-small, number-back}
+use Rattle.type_category.specs.Number.{categoryNumber, categoryAt}
+use Rattle.type_category.proofs.Numbers.{number-small, number-back}
 use Rattle.book_check.specs.Check.{ValidBook}
 use Rattle.book_check.proofs.Valid.{valid-size, valid-type}
 use Rattle.resolvers.specs.Resolve.{goesOn, isFollowed, resolveAlias, ResolvedIs}
@@ -32,7 +32,10 @@ use Rattle.field_types.proofs.Fields.{field-at, field-nothing, fields-more, fie
 use Rattle.field_plan.specs.declared.PlannedField.{PlannedField}
 use Rattle.field_plan.specs.declared.Planned.{Planned}
 use Rattle.field_plan.specs.declared.Planned.the-variants as planned
-use Rattle.field_plan.specs.Plan.{entryOf, plannedOf, FieldIs, PlannedIs, Known, PlanEntry, Entries, Ready, noted, planFrom, planOf, PlanIs}
+use Rattle.resolvers.proofs.Numbers.{resolved-is as resolved-by, resolved-says}
+use Rattle.field_types.proofs.Numbers.{check-says}
+use Rattle.field_plan.proofs.Numbers.{planned-says}
+use Rattle.field_plan.specs.Plan.{entryBy, entryOf, plannedOf, FieldIs, PlannedIs, Known, PlanEntry, Entries, Ready, noted, planFrom, planOf, PlanIs}
 
 -- ---- one field
 
@@ -48,7 +51,7 @@ module _ (book : List ℕ) (width f : ℕ) (x : ResolvedField) where
       let a : _≡_ {A = ResolvedField} (record { offset = offsetOf book f; size = sizeOf book f; named = n; resolved = u; field = f }) x = cc in
       record { offset-is = sym (ap (λ (z : ResolvedField). z .offset) a); size-is = sym (ap (λ (z : ResolvedField). z .size) a) }
   parts-of n (resolved.Lacks c) e = absurd (let z : _≡_ {A = ℕ} 0 1 = cc in omega arith)
-  parts-of n resolved.Endless e = absurd (let z : _≡_ {A = ℕ} 0 1 = cc in omega arith)
+  parts-of n resolved.TooLong e = absurd (let z : _≡_ {A = ℕ} 0 1 = cc in omega arith)
 
   parts-found : (u : Found) → fieldFound book width f u ≡ answer.Field x → Parts book f x
   unfolding fieldFound
@@ -62,7 +65,7 @@ module _ (book : List ℕ) (width f : ℕ) (x : ResolvedField) where
 lacks-only : {book : List ℕ} {width f : ℕ} (b : ℕ) → resolveField book width f ≡ answer.Lacks b → PlannedIs book width f (planned.Lacks b)
 unfolding plannedOf
 lacks-only b h = record {
-  is = rw h;
+  is = planned-says _ _ (rw h);
   field = λ y g. absurd (let z : _≡_ {A = ℕ} 0 1 = cc in omega arith);
   lacks = λ d g. let z : b ≡ d = cc in h ∙ ap answer.Lacks z;
   endless = λ g. absurd (let z : _≡_ {A = ℕ} 0 1 = cc in omega arith);
@@ -71,7 +74,7 @@ lacks-only b h = record {
 field-only : {book : List ℕ} {width f : ℕ} (x : PlannedField) → FieldIs book width f x → PlannedIs book width f (planned.Field x)
 unfolding plannedOf
 field-only {book} {width} {f} x h = record {
-  is = rw (h .found, h .offset-is, h .size-is, h .resolved-is, ← h .category-is);
+  is = planned-says _ _ (rw (h .found, h .offset-is, h .size-is, h .named-is, h .resolved-is, ← h .category-is));
   field = λ y g. let a : _≡_ {A = PlannedField} x y = cc in subst (FieldIs book width f) a h;
   lacks = λ b g. absurd (let z : _≡_ {A = ℕ} 0 1 = cc in omega arith);
   endless = λ g. absurd (let z : _≡_ {A = ℕ} 0 1 = cc in omega arith);
@@ -80,10 +83,10 @@ field-only {book} {width} {f} x h = record {
 -- by what the named type resolves to
 module _ (book : List ℕ) (width f n : ℕ) (w : find book (typeNameOf book f) ≡ At n) (r : Resolved) (q : ResolvedIs book (resolveAlias book width n) r) where
   at : resolveField book width f ≡ fieldOf book f n r
-  at = field-at book width f n w ∙ ap (fieldOf book f n) (sym (q .is))
+  at = field-at book width f n w ∙ ap (fieldOf book f n) (sym (resolved-by _ _ (q .is)))
 
   pub alias-base : (u o s : ℕ) (c : AdsTypeCategory) → r ≡ resolved.Base u → c ≡ categoryOf book width u → o ≡ offsetOf book f → s ≡ sizeOf book f
-      → PlannedIs book width f (planned.Field (record { offset = o; size = s; resolved = u; category = c }))
+      → PlannedIs book width f (planned.Field (record { offset = o; size = s; named = n; resolved = u; category = c }))
   unfolding fieldOf
   alias-base u o s c e k eo es =
       field-only _
@@ -92,7 +95,9 @@ module _ (book : List ℕ) (width f n : ℕ) (w : find book (typeNameOf book f) 
         found = at ∙ ap (fieldOf book f n) e;
         offset-is = sym eo;
         size-is = sym es;
+        named-is = refl;
         resolved-is = refl;
+        named-typed = found-type book (typeNameOf book f) n w;
         typed = q .typed u e;
         category-is = k;
       })
@@ -101,12 +106,12 @@ module _ (book : List ℕ) (width f n : ℕ) (w : find book (typeNameOf book f) 
   unfolding fieldOf
   alias-lacks b e = lacks-only b (at ∙ ap (fieldOf book f n) e)
 
-  pub alias-endless : r ≡ resolved.Endless → PlannedIs book width f planned.Endless
+  pub alias-endless : r ≡ resolved.TooLong → PlannedIs book width f planned.TooLong
   unfolding fieldOf plannedOf
   alias-endless e =
-      let z : resolveField book width f ≡ answer.Endless = at ∙ ap (fieldOf book f n) e in
+      let z : resolveField book width f ≡ answer.TooLong = at ∙ ap (fieldOf book f n) e in
       record {
-        is = rw z;
+        is = planned-says _ _ (rw z);
         field = λ y g. absurd (let z : _≡_ {A = ℕ} 0 1 = cc in omega arith);
         lacks = λ d g. absurd (let z : _≡_ {A = ℕ} 0 1 = cc in omega arith);
         endless = λ g. z;
@@ -127,14 +132,14 @@ module _ (book : List ℕ) (width f : ℕ) (x : Found) (ex : x ≡ find book (ty
 
     -- a type that is no alias is what it resolves to
     pub plan-plain : (o s : ℕ) (c : AdsTypeCategory) (b : Bool) → c ≡ categoryOf book width n → b ≡ goesOn false c → b ≡ false → o ≡ offsetOf book f → s ≡ sizeOf book f
-        → PlannedIs book width f (planned.Field (record { offset = o; size = s; resolved = n; category = c }))
+        → PlannedIs book width f (planned.Field (record { offset = o; size = s; named = n; resolved = n; category = c }))
     unfolding isFollowed
     plan-plain o s c b k eb z eo es =
         let y : isFollowed false book width n ≡ false = rw (← k) (sym eb ∙ z) in
         let t : isType book n ≡ true = alias-typed book f n plan-found in
         alias-base book width f n plan-found (resolved.Base n)
         (record {
-          is = sym (follow-base (isFollowed false book width) book 31 n y);
+          is = resolved-says _ _ (sym (follow-base (isFollowed false book width) book 31 n y));
           typed = λ u e. let a : n ≡ u = cc in rw (← a) t;
         })
         n o s c refl k eo es
@@ -143,21 +148,51 @@ module _ (book : List ℕ) (width f : ℕ) (x : Found) (ex : x ≡ find book (ty
 pub typed-small : (book : List ℕ) (width f : ℕ) (a : Planned) (x : PlannedField) → ValidBook book → PlannedIs book width f a → a ≡ planned.Field x → x .resolved < 65536
 typed-small book width f a x v q e = omega (arith, valid-type book v (x .resolved) (q .field x e .typed) .room, valid-size book v .few)
 
+pub named-small : (book : List ℕ) (width f : ℕ) (a : Planned) (x : PlannedField) → ValidBook book → PlannedIs book width f a → a ≡ planned.Field x → x .named < 65536
+named-small book width f a x v q e = omega (arith, valid-type book v (x .named) (q .field x e .named-typed) .room, valid-size book v .few)
+
 -- ---- one entry
 
 -- what an entry tells
-module _ (book : List ℕ) (width f e : ℕ) (k : PlanEntry book width f e) (n : e ≡ 0 → ⊥) where
-  w : Known book width f e
+module _ (book : List ℕ) (width f e : ℕ) (v : ValidBook book) (k : PlanEntry book width f e) (n : e ≡ 0 → ⊥) where
+  abbrev w : Known book width f e
   w = k .known n
 
+  abbrev x : PlannedField
+  x = w .entry
+
+  named-fits : x .named < 65536
+  named-fits = omega (arith, valid-type book v (x .named) (w .is .named-typed) .room, valid-size book v .few)
+
+  resolved-fits : x .resolved < 65536
+  resolved-fits = omega (arith, valid-type book v (x .resolved) (w .is .typed) .room, valid-size book v .few)
+
+  packed : e - 1 ≡ (x .named * 65536 + x .resolved) * 16 + categoryNumber (x .category)
+  packed = omega (arith, w .packed)
+
+  above : (e - 1) / 16 ≡ x .named * 65536 + x .resolved
+  above = omega (arith, packed, number-small (x .category))
+
+  entry-named : (e - 1) / 1048576 ≡ x .named
+  entry-named = omega (arith, packed, number-small (x .category), resolved-fits)
+
+  entry-resolved : (e - 1) / 16 % 65536 ≡ x .resolved
+  entry-resolved = rw above (omega (arith, resolved-fits))
+
+  pub named-cast : Fits w32 ((e - 1) / 1048576)
+  named-cast = record { fits = rw entry-named (omega (arith, named-fits)) }
+
+  pub resolved-cast : Fits w32 ((e - 1) / 16 % 65536)
+  resolved-cast = record { fits = omega arith }
+
+  pub category-cast : Fits w32 ((e - 1) % 16)
+  category-cast = record { fits = omega arith }
+
   pub entry-kept : (o s : ℕ) (c : AdsTypeCategory) → o ≡ offsetOf book f → s ≡ sizeOf book f → c ≡ categoryAt ((e - 1) % 16)
-      → PlannedIs book width f (planned.Field (record { offset = o; size = s; resolved = (e - 1) / 16; category = c }))
+      → PlannedIs book width f (planned.Field (record { offset = o; size = s; named = (e - 1) / 1048576; resolved = (e - 1) / 16 % 65536; category = c }))
   entry-kept o s c eo es ec =
-      let x : PlannedField = w .entry in
-      let p : e ≡ 1 + x .resolved * 16 + categoryNumber (x .category) = w .packed in
-      let l : categoryNumber (x .category) < 16 = number-small (x .category) in
-      let r : (e - 1) / 16 ≡ x .resolved = omega arith in
-      let m : (e - 1) % 16 ≡ categoryNumber (x .category) = omega arith in
+      let r : (e - 1) / 16 % 65536 ≡ x .resolved = entry-resolved in
+      let m : (e - 1) % 16 ≡ categoryNumber (x .category) = omega (arith, packed, number-small (x .category)) in
       let d : c ≡ x .category = ec ∙ ap categoryAt m ∙ number-back (x .category) in
       let h : Parts book f (w .is .whole) = parts book width f (w .is .whole) (w .is .found) in
       field-only _
@@ -166,7 +201,9 @@ module _ (book : List ℕ) (width f e : ℕ) (k : PlanEntry book width f e) (n :
         found = w .is .found;
         offset-is = h .offset-is ∙ sym eo;
         size-is = h .size-is ∙ sym es;
+        named-is = w .is .named-is ∙ sym entry-named;
         resolved-is = w .is .resolved-is ∙ sym r;
+        named-typed = rw entry-named (w .is .named-typed);
         typed = rw r (w .is .typed);
         category-is = d ∙ w .is .category-is ∙ ap (categoryOf book width) (sym r);
       })
@@ -186,11 +223,11 @@ entry-past plan i h = sym (List·getD-eq-default plan 0 h)
 pub note-past : (plan : List ℕ) (i e : ℕ) → length plan ≤ i → plan ≡ set plan i e
 note-past plan i e h = sym (set-out plan i e h)
 
-pub note-here : (plan : List ℕ) (i r p : ℕ) (c : AdsTypeCategory) → p ≡ categoryNumber c → set plan i (1 + r * 16 + p) ≡ set plan i (1 + r * 16 + categoryNumber c)
-note-here plan i r p c e = rw e
+pub note-here : (plan : List ℕ) (i n r p : ℕ) (c : AdsTypeCategory) → p ≡ categoryNumber c → set plan i (1 + (n * 65536 + r) * 16 + p) ≡ set plan i (entryBy n r c)
+note-here plan i n r p c e = rw e
 
-pub note-fits : (r p : ℕ) (c : AdsTypeCategory) → r < 65536 → p ≡ categoryNumber c → Fits w32 (1 + r * 16 + p)
-note-fits r p c l e = record { fits = omega (arith, number-small c) }
+pub note-fits : (n r p : ℕ) (c : AdsTypeCategory) → n < 65536 → r < 65536 → p ≡ categoryNumber c → Fits w64 (1 + (n * 65536 + r) * 16 + p)
+note-fits n r p c k l e = record { fits = omega (arith, number-small c) }
 
 -- the plan that has no entry
 pub ready-none : (book : List ℕ) (width t : ℕ) → Ready book width t []
@@ -204,13 +241,13 @@ module _ (book : List ℕ) (width f i k : ℕ) (plan : List ℕ) where
   unfolding planFrom noted
   plan-lacks b e = rw e
 
-  plan-endless : resolveField book width f ≡ answer.Endless → planFrom book width f i (suc k) plan ≡ plan
+  plan-endless : resolveField book width f ≡ answer.TooLong → planFrom book width f i (suc k) plan ≡ plan
   unfolding planFrom noted
   plan-endless e = rw e
 
   plan-more : (x : PlannedField) → FieldIs book width f x → planFrom book width f i (suc k) plan ≡ planFrom book width (f + 1) (i + 1) k (set plan i (entryOf x))
   unfolding planFrom noted
-  plan-more x q = rw (q .found, q .resolved-is, ← q .category-is)
+  plan-more x q = rw (q .found, q .named-is, q .resolved-is, ← q .category-is)
 
 -- before the i-th of n fields: the first refusal of all is that of the fields left, the fields before have their entries, and what is
 -- filled from here on is the whole plan
@@ -250,7 +287,7 @@ module _ (book : List ℕ) (width t n : ℕ) where
     planning-end z h =
         let k : n - i ≡ 0 = omega arith in
         record {
-          is = sym (p .left ∙ ap (fieldsFrom book width (t + 1 + i)) k ∙ fields-none book width (t + 1 + i));
+          is = check-says _ _ (sym (p .left ∙ ap (fieldsFrom book width (t + 1 + i)) k ∙ fields-none book width (t + 1 + i)));
           plan = sym (p .rest ∙ ap (λ (m : ℕ). planFrom book width (t + 1 + i) i m now) k);
           entries = λ e. record { at = λ j l. p .upto j (omega arith) };
         }
@@ -267,14 +304,14 @@ module _ (book : List ℕ) (width t n : ℕ) where
 
       pub planning-lacks : (b : ℕ) → a ≡ planned.Lacks b → PlanIs book width t before (check.Lacks b) now
       planning-lacks b e = record {
-        is = sym (turn ∙ fields-lacks book width (t + 1 + i) (n - (i + 1)) b (q .lacks b e));
+        is = check-says _ _ (sym (turn ∙ fields-lacks book width (t + 1 + i) (n - (i + 1)) b (q .lacks b e)));
         plan = sym (fill ∙ plan-lacks book width (t + 1 + i) i (n - (i + 1)) now b (q .lacks b e));
         entries = λ f. absurd (let z : _≡_ {A = ℕ} 0 1 = cc in omega arith);
       }
 
-      pub planning-endless : a ≡ planned.Endless → PlanIs book width t before check.Endless now
+      pub planning-endless : a ≡ planned.TooLong → PlanIs book width t before check.TooLong now
       planning-endless e = record {
-        is = sym (turn ∙ fields-endless book width (t + 1 + i) (n - (i + 1)) (q .endless e));
+        is = check-says _ _ (sym (turn ∙ fields-endless book width (t + 1 + i) (n - (i + 1)) (q .endless e)));
         plan = sym (fill ∙ plan-endless book width (t + 1 + i) i (n - (i + 1)) now (q .endless e));
         entries = λ f. absurd (let z : _≡_ {A = ℕ} 0 1 = cc in omega arith);
       }

@@ -1,13 +1,14 @@
 -- A plan: for each field of a type what resolving it came to, kept as one number. Assumes nothing.
 use mathlib.Core.Path.{_≡_}
 use mathlib.Core.Bool.{true}
-use mathlib.Core.List.{List}
+use mathlib.Core.List.{List, [], _∷_}
 use Prim.Native.Nat.{ℕ, zero, suc, _+_, _*_, _<_}
 use lib.ListN.{length, getD, set}
 use Rattle.typebook.specs.Book.{isType, fieldsOf}
 use Rattle.type_category.specs.Category.{categoryOf}
-use Rattle.category_number.specs.Number.{categoryNumber}
-use Rattle.field_types.specs.Fields.{resolveField, fieldsCheck}
+use Rattle.type_category.specs.declared.type_category.AdsTypeCategory.{AdsTypeCategory}
+use Rattle.type_category.specs.Number.{categoryNumber}
+use Rattle.field_types.specs.Fields.{checkNumbers, resolveField, fieldsCheck}
 use Rattle.field_types.specs.declared.ResolvedField.{ResolvedField}
 use Rattle.field_types.specs.declared.FieldAnswer.{FieldAnswer}
 use Rattle.field_types.specs.declared.FieldAnswer.the-variants as answer
@@ -17,22 +18,27 @@ use Rattle.field_plan.specs.declared.PlannedField.{PlannedField}
 use Rattle.field_plan.specs.declared.Planned.{Planned}
 use Rattle.field_plan.specs.declared.Planned.the-variants as planned
 
--- a field's entry: 1, sixteen times the block of its resolved type, and the number of that type's category
-abbrev pub entryOf : PlannedField → ℕ
-entryOf x = 1 + x .resolved * 16 + categoryNumber (x .category)
+-- an entry: 1, the blocks of a type as named and as resolved, each in 16 bits, and the number of its category in 4
+abbrev pub entryBy : ℕ → ℕ → AdsTypeCategory → ℕ
+entryBy named block c = 1 + (named * 65536 + block) * 16 + categoryNumber c
 
--- document 01's number of a planned field, 0 where its type is found; 7 comes with the block that `Lacks` carries
-abbrev pub plannedRefusal : Planned → ℕ
-plannedRefusal (planned.Field x) = 0
-plannedRefusal (planned.Lacks b) = 7
-plannedRefusal planned.Endless = 8
+-- a field's entry
+abbrev pub entryOf : PlannedField → ℕ
+entryOf x = entryBy (x .named) (x .resolved) (x .category)
+
+-- document 01's number and values of a planned field: 0 and its offset, size, resolved block and that type's category, 7 and the block whose
+-- type name is not found, or 8
+unfoldable pub plannedNumbers : Planned → List ℕ
+plannedNumbers (planned.Field x) = 0 ∷ x .offset ∷ x .size ∷ x .named ∷ x .resolved ∷ categoryNumber (x .category) ∷ []
+plannedNumbers (planned.Lacks b) = 7 ∷ b ∷ []
+plannedNumbers planned.TooLong = 8 ∷ []
 
 -- what a field came to, with the category of its type
 unfoldable pub plannedOf : List ℕ → ℕ → FieldAnswer → Planned
 plannedOf book width (answer.Field x) =
-    planned.Field (record { offset = x .offset; size = x .size; resolved = x .resolved; category = categoryOf book width (x .resolved) })
+    planned.Field (record { offset = x .offset; size = x .size; named = x .named; resolved = x .resolved; category = categoryOf book width (x .resolved) })
 plannedOf book width (answer.Lacks b) = planned.Lacks b
-plannedOf book width answer.Endless = planned.Endless
+plannedOf book width answer.TooLong = planned.TooLong
 
 -- x is what field block f resolves to, with the category of its type
 pub record FieldIs (book : List ℕ) (width f : ℕ) (x : PlannedField) : Type 0 where
@@ -40,16 +46,18 @@ pub record FieldIs (book : List ℕ) (width f : ℕ) (x : PlannedField) : Type 0
   pub found : resolveField book width f ≡ answer.Field whole
   pub offset-is : whole .offset ≡ x .offset
   pub size-is : whole .size ≡ x .size
+  pub named-is : whole .named ≡ x .named
   pub resolved-is : whole .resolved ≡ x .resolved
+  pub named-typed : isType book (x .named) ≡ true
   pub typed : isType book (x .resolved) ≡ true
   pub category-is : x .category ≡ categoryOf book width (x .resolved)
 
 -- an answer is that of resolving field block f; what each of its cases tells
 pub record PlannedIs (book : List ℕ) (width f : ℕ) (r : Planned) : Type 0 where
-  pub is : r ≡ plannedOf book width (resolveField book width f)
+  pub is : plannedNumbers r ≡ plannedNumbers (plannedOf book width (resolveField book width f))
   pub field : (x : PlannedField) → r ≡ planned.Field x → FieldIs book width f x
   pub lacks : (b : ℕ) → r ≡ planned.Lacks b → resolveField book width f ≡ answer.Lacks b
-  pub endless : r ≡ planned.Endless → resolveField book width f ≡ answer.Endless
+  pub endless : r ≡ planned.TooLong → resolveField book width f ≡ answer.TooLong
 
 -- an entry that is not 0 is the entry of what the field resolves to
 pub record Known (book : List ℕ) (width f e : ℕ) : Type 0 where
@@ -72,9 +80,9 @@ pub record Ready (book : List ℕ) (width t : ℕ) (plan : List ℕ) : Type 0 wh
 
 -- a plan after field i was resolved: with its entry the plan is filled further, after a refusal it stays
 unfoldable pub noted : List ℕ → ℕ → (List ℕ → List ℕ) → ℕ → List ℕ → FieldAnswer → List ℕ
-noted book width further i plan (answer.Field x) = further (set plan i (1 + x .resolved * 16 + categoryNumber (categoryOf book width (x .resolved))))
+noted book width further i plan (answer.Field x) = further (set plan i (entryBy (x .named) (x .resolved) (categoryOf book width (x .resolved))))
 noted book width further i plan (answer.Lacks b) = plan
-noted book width further i plan answer.Endless = plan
+noted book width further i plan answer.TooLong = plan
 
 -- a plan with the entries of the k field blocks from block f on, the first at place i, up to the first field that is refused; what has no place is left out
 unfoldable pub planFrom : List ℕ → ℕ → ℕ → ℕ → ℕ → List ℕ → List ℕ
@@ -87,6 +95,6 @@ planOf book width t plan = planFrom book width (t + 1) 0 (fieldsOf book t) plan
 
 -- the answer is the first refusal of the fields, and the plan has the entries of those before it; without one it serves for all, whatever it held
 pub record PlanIs (book : List ℕ) (width t : ℕ) (before : List ℕ) (r : FieldsCheck) (after : List ℕ) : Type 0 where
-  pub is : r ≡ fieldsCheck book width t
+  pub is : checkNumbers r ≡ checkNumbers (fieldsCheck book width t)
   pub plan : after ≡ planOf book width t before
   pub entries : r ≡ check.Fine → Entries book width t after

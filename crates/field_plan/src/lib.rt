@@ -1,5 +1,5 @@
-// The fields of a type, resolved once: a plan keeps one number for each field, the block of its resolved type and that type's
-// category, so that a type that is read many times is looked up once.
+// The fields of a type, resolved once: a plan keeps one number for each field, the block of its type as named and as resolved, and that
+// type's category, so that a type that is read many times is looked up once.
 ghost use mathlib.Core.Path.{_≡_};
 ghost use mathlib.Core.Bool.{true};
 ghost use Prim.Native.Nat.{_<_};
@@ -16,10 +16,12 @@ use type_category::type_category::AdsTypeCategory;
 use type_provider::Found;
 use typebook::block;
 
-// A field whose type is resolved: offset and size as its block says, its type's block with aliases resolved, that type's category.
+// A field whose type is resolved: offset and size as its block says, its type's block as named and with aliases resolved, the
+// category of that.
 pub struct PlannedField {
     pub offset: u32,
     pub size: u32,
+    pub named: u32,
     pub resolved: u32,
     pub category: AdsTypeCategory,
 }
@@ -29,7 +31,7 @@ pub enum Planned {
     // The block whose type name is not in the book.
     Lacks(u32),
     // More look-ups than allowed.
-    Endless,
+    TooLong,
 }
 
 // Field block f, whose type name finds the alias at block `named`.
@@ -42,11 +44,12 @@ fn plan_alias(book: &[u8], index: &[u32], width: u8, f: u32, named: u32) -> Plan
         Resolved::Base(resolved) => Planned::Field(PlannedField {
             offset: block::offset(book, f),
             size: block::size(book, f),
+            named,
             resolved,
             category: AdsTypeCategory::determine(book, width, resolved),
         }),
         Resolved::Lacks(b) => Planned::Lacks(b),
-        Resolved::Endless => Planned::Endless,
+        Resolved::TooLong => Planned::TooLong,
     }
 }
 
@@ -66,13 +69,14 @@ fn plan_field(book: &[u8], index: &[u32], width: u8, f: u32) -> Planned
     Planned::Field(PlannedField {
         offset: block::offset(book, f),
         size: block::size(book, f),
+        named,
         resolved: named,
         category,
     })
 }
 
 // Field block f, by its entry of a plan; without an entry (0) it is resolved here.
-pub fn planned_field(book: &[u8], index: &[u32], width: u8, f: u32, entry: u32) -> Planned
+pub fn planned_field(book: &[u8], index: &[u32], width: u8, f: u32, entry: u64) -> Planned
     requires { ⌜ ValidBook (now book) × PlanEntry (now book) width f entry ⌝ }
     ensures { λ r. ⌜ PlannedIs (now (book .entry)) width f r ⌝ }
 {
@@ -82,13 +86,14 @@ pub fn planned_field(book: &[u8], index: &[u32], width: u8, f: u32, entry: u32) 
     Planned::Field(PlannedField {
         offset: block::offset(book, f),
         size: block::size(book, f),
-        resolved: (entry - 1) / 16,
-        category: category_at((entry - 1) % 16),
+        named: ((entry - 1) / 1048576) as u32,
+        resolved: ((entry - 1) / 16 % 65536) as u32,
+        category: category_at(((entry - 1) % 16) as u32),
     })
 }
 
 // A field's entry. Past the plan's end there is none.
-pub fn entry_at(plan: &[u32], i: u32) -> u32
+pub fn entry_at(plan: &[u64], i: u32) -> u64
     ensures { λ r. ⌜ r ≡ getD (now (plan .entry)) i 0 ⌝ }
 {
     if (i as usize) < plan.len() {
@@ -98,13 +103,14 @@ pub fn entry_at(plan: &[u32], i: u32) -> u32
 }
 
 // Stores the i-th field's entry, if the plan is long enough.
-fn note(plan: &mut [u32], i: u32, field: PlannedField)
-    requires { ⌜ field .resolved < 65536 ⌝ }
+fn note(plan: &mut [u64], i: u32, field: PlannedField)
+    requires { ⌜ (field .named < 65536) × (field .resolved < 65536) ⌝ }
     ensures { λ _. ⌜ now (plan .exit) ≡ set (now (plan .entry)) i (entryOf field) ⌝ }
 {
     let category = field.category;
     if (i as usize) < plan.len() {
-        plan[i as usize] = 1 + field.resolved * 16 + number(category);
+        let blocks = field.named as u64 * 65536 + field.resolved as u64;
+        plan[i as usize] = 1 + blocks * 16 + number(category) as u64;
     }
 }
 
@@ -114,7 +120,7 @@ pub fn plan_fields_in(
     index: &[u32],
     width: u8,
     t: u32,
-    plan: &mut [u32],
+    plan: &mut [u64],
 ) -> FieldsCheck
     requires { ⌜ ValidBook (now book) × (isType (now book) t ≡ true) ⌝ }
     ensures { λ r. ⌜ PlanIs (now (book .entry)) width t (now (plan .entry)) r (now (plan .exit)) ⌝ }
@@ -126,7 +132,7 @@ pub fn plan_fields_in(
         match found {
             Planned::Field(x) => note(plan, i, x),
             Planned::Lacks(b) => return FieldsCheck::Lacks(b),
-            Planned::Endless => return FieldsCheck::Endless,
+            Planned::TooLong => return FieldsCheck::TooLong,
         }
         i += 1;
     }

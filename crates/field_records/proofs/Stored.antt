@@ -8,11 +8,12 @@ use native.Mathlib.Omega.{arith}
 use lib.Dec.{eqb, ltb}
 use lib.ListN.{length, take, drop}
 use lib.Seq.{sets, sets-eq}
+use Rattle.number.specs.Answer.{refusalOf}
 use Rattle.typebook.specs.Book.{isType, blocks, fieldsOf}
 use Rattle.book_check.specs.declared.RootCheck.{RootCheck}
 use Rattle.book_check.specs.declared.RootCheck.the-variants as checked
-use Rattle.book_check.specs.Check.{bookRefusal, checkBook, rootOf, checkRoot}
-use Rattle.resolvers.specs.Calls.{atRoot}
+use Rattle.book_check.specs.Check.{bookNumbers, checkBook, rootOf, checkRoot}
+use Rattle.book_check.specs.Check.{atRoot}
 use Rattle.resolvers.proofs.Calls.{root-room, root-book, root-type}
 use Rattle.field_types.specs.declared.ResolvedField.{ResolvedField}
 use Rattle.field_records.specs.declared.ResolvedField.{ResolvedField as Rec}
@@ -35,7 +36,7 @@ module _ (a : FieldAnswer) where
   pub record-lacks : (c : ℕ) → a ≡ answer.Lacks c → none ≡ recordOf a
   record-lacks c h = rw h
 
-  pub record-endless : a ≡ answer.Endless → none ≡ recordOf a
+  pub record-endless : a ≡ answer.TooLong → none ≡ recordOf a
   record-endless h = rw h
 
 -- ---- the records of a root
@@ -63,7 +64,7 @@ module _ (buffer : List ℕ) (len width root : ℕ) where
   -- a root that passed 1 to 5 is the number that was given
   root-is : (t : ℕ) → checkRoot buffer len root ≡ checked.Root t → t ≡ root
   unfolding checkRoot rootOf
-  root-is t h = by (eqb (bookRefusal (checkBook buffer len)) 0) (ltb root (blocks (take len buffer)) && isType (take len buffer) root) (bookRefusal (checkBook buffer len)) h
+  root-is t h = by (eqb (refusalOf (bookNumbers (checkBook buffer len))) 0) (ltb root (blocks (take len buffer)) && isType (take len buffer) root) (refusalOf (bookNumbers (checkBook buffer len))) h
     where
       by : (x y : Bool) (n : ℕ) → cond x (cond y (checked.Root root) (checked.Refused 5)) (checked.Refused n) ≡ checked.Root t → t ≡ root
       by true true n g = cc

@@ -10,7 +10,7 @@ use Rattle.field_types.specs.declared.FieldAnswer.the-variants as answer
 use Rattle.field_types.specs.declared.FieldsAnswer.{FieldsAnswer}
 use Rattle.field_types.specs.declared.FieldsAnswer.the-variants as fields
 use Rattle.field_types.specs.Fields.{resolveField}
-use Rattle.field_types.specs.Calls.{rootFields}
+use Rattle.field_types.specs.Calls.{fieldsNumbers, rootFields}
 
 -- what `getD` gives past the end, and the record of a field that is refused, which is never stored
 abbrev pub none : ResolvedField
@@ -20,7 +20,7 @@ none = record { offset = 0; size = 0; «type_block» = 0; «field_block» = 0 }
 abbrev pub recordOf : FieldAnswer → ResolvedField
 recordOf (answer.Field x) = record { offset = x .offset; size = x .size; «type_block» = x .resolved; «field_block» = x .field }
 recordOf (answer.Lacks c) = none
-recordOf answer.Endless = none
+recordOf answer.TooLong = none
 
 -- the record of field i of the root
 abbrev pub recordAt : List ℕ → ℕ → ℕ → ℕ → ℕ → ResolvedField
@@ -58,5 +58,5 @@ storedAt buffer len width root (fields.Refused n) before = before
 
 -- what is answered, and what the lent slice of records holds then
 pub record Filled (buffer : List ℕ) (len width root : ℕ) (before : List ResolvedField) (r : FieldsAnswer) (after : List ResolvedField) : Type 0 where
-  pub is : r ≡ rootFields buffer len width root (length before)
+  pub is : fieldsNumbers r ≡ fieldsNumbers (rootFields buffer len width root (length before))
   pub records : after ≡ storedAt buffer len width root (rootFields buffer len width root (length before)) before

@@ -55,7 +55,7 @@ fn record_of(answer: FieldAnswer) -> ResolvedField
             type_block: 0,
             field_block: 0,
         },
-        FieldAnswer::Endless => ResolvedField {
+        FieldAnswer::TooLong => ResolvedField {
             offset: 0,
             size: 0,
             type_block: 0,

@@ -11,8 +11,7 @@ use lib.Seq.{sets, length-sets, sets-eq}
 use Rattle.typebook.specs.Book.{fieldsOf}
 use Rattle.book_check.specs.declared.RootCheck.{RootCheck}
 use Rattle.book_check.specs.declared.RootCheck.the-variants as checked
-use Rattle.book_check.specs.Check.{checkRoot}
-use Rattle.resolvers.specs.Calls.{atRoot}
+use Rattle.book_check.specs.Check.{checkRoot, atRoot}
 use Rattle.field_types.specs.declared.ResolvedField.{ResolvedField}
 use Rattle.field_types.specs.declared.FieldAnswer.{FieldAnswer}
 use Rattle.field_types.specs.declared.FieldAnswer.the-variants as answer
@@ -20,8 +19,9 @@ use Rattle.field_types.specs.declared.FieldsCheck.{FieldsCheck}
 use Rattle.field_types.specs.declared.FieldsCheck.the-variants as check
 use Rattle.field_types.specs.declared.FieldsAnswer.{FieldsAnswer}
 use Rattle.field_types.specs.declared.FieldsAnswer.the-variants as fields
-use Rattle.field_types.specs.Fields.{resolveField, fieldsFrom, fieldsCheck, FieldResolved}
+use Rattle.field_types.specs.Fields.{checkNumbers, resolveField, fieldsFrom, fieldsCheck, FieldResolved}
 use Rattle.field_types.specs.Calls.{fits, fieldsEnd, fieldsAnswer, recordOf, recordsFrom, fieldRecords, storedIn, Filled, rootFields, rootRecords}
+use Rattle.field_types.proofs.Numbers.{field-is, fields-says}
 use Rattle.field_types.proofs.Fields.{fields-more, fields-lacks, fields-endless}
 
 -- ---- how many records fit
@@ -36,8 +36,8 @@ module _ (book : List ℕ) (width t room n : ℕ) (en : n ≡ fieldsOf book t) (
     unfolding fieldsEnd
     answer-lacks c h = rw h at answer-is
 
-    pub answer-endless : k ≡ check.Endless → fields.Refused 8 ≡ fieldsAnswer book width t room
-    unfolding fieldsEnd
+    pub answer-endless : k ≡ check.TooLong → fields.Refused 8 ≡ fieldsAnswer book width t room
+    unfolding fieldsEnd checkNumbers
     answer-endless h = rw h at answer-is
 
     pub answer-short : k ≡ check.Fine → fit < n → fields.Refused 15 ≡ fieldsAnswer book width t room
@@ -69,7 +69,7 @@ module _ (book : List ℕ) (width t room m : ℕ) where
   unfolding fieldsEnd
   done-of check.Fine h e = done-by (leb (fieldsOf book t) room) refl h e
   done-of (check.Lacks c) h e = absurd (let z : _≡_ {A = ℕ} 0 1 = cc in omega arith)
-  done-of check.Endless h e = absurd (let z : _≡_ {A = ℕ} 0 1 = cc in omega arith)
+  done-of check.TooLong h e = absurd (let z : _≡_ {A = ℕ} 0 1 = cc in omega arith)
 
   pub done-fit : fieldsAnswer book width t room ≡ fields.Done m → Fit book width t room m
   unfolding fieldsAnswer
@@ -125,20 +125,20 @@ module _ (book : List ℕ) (width t n : ℕ) (en : n ≡ fieldsOf book t) (recor
         pub store-lacks : (c : ℕ) → a ≡ answer.Lacks c → now ≡ sets records 0 (fieldRecords book width t)
         store-lacks c h =
             let w : fieldsFrom book width (t + 1 + i) (suc (n - (i + 1))) ≡ check.Fine = rw left at (s .fine) in
-            let y = fields-lacks book width (t + 1 + i) (n - (i + 1)) c (sym (q .is) ∙ h) in
+            let y = fields-lacks book width (t + 1 + i) (n - (i + 1)) c (sym (field-is _ _ (q .is)) ∙ h) in
             absurd (let z : _≡_ {A = ℕ} 0 1 = cc in omega arith)
 
-        pub store-endless : a ≡ answer.Endless → now ≡ sets records 0 (fieldRecords book width t)
+        pub store-endless : a ≡ answer.TooLong → now ≡ sets records 0 (fieldRecords book width t)
         store-endless h =
             let w : fieldsFrom book width (t + 1 + i) (suc (n - (i + 1))) ≡ check.Fine = rw left at (s .fine) in
-            let y = fields-endless book width (t + 1 + i) (n - (i + 1)) (sym (q .is) ∙ h) in
+            let y = fields-endless book width (t + 1 + i) (n - (i + 1)) (sym (field-is _ _ (q .is)) ∙ h) in
             absurd (let z : _≡_ {A = ℕ} 0 1 = cc in omega arith)
 
         pub store-again : (x : ResolvedField) → a ≡ answer.Field x → (later : List ℕ) → later ≡ sets now (i * 4) (recordOf (answer.Field x))
             → Storing book width t n records (i + 1) later
         unfolding recordsFrom
         store-again x h later e =
-            let f : resolveField book width (t + 1 + i) ≡ answer.Field x = sym (q .is) ∙ h in
+            let f : resolveField book width (t + 1 + i) ≡ answer.Field x = sym (field-is _ _ (q .is)) ∙ h in
             let p : t + 1 + (i + 1) ≡ t + 1 + i + 1 = omega arith in
             let o : (i + 1) * 4 ≡ i * 4 + 4 = omega arith in
             let w : fieldsFrom book width (t + 1 + i) (suc (n - (i + 1))) ≡ check.Fine = rw left at (s .fine) in
@@ -162,16 +162,16 @@ records-length book width f (suc k) = by (resolveField book width f) (records-le
     by : (a : FieldAnswer) → length (recordsFrom book width (f + 1) k) ≤ k * 4 → length (recordOf a ++ recordsFrom book width (f + 1) k) ≤ suc k * 4
     by (answer.Field x) h = omega arith
     by (answer.Lacks c) h = omega arith
-    by answer.Endless h = omega arith
+    by answer.TooLong h = omega arith
 
 module _ (book : List ℕ) (width t : ℕ) (before : List ℕ) (r : FieldsAnswer) (e : r ≡ fieldsAnswer book width t (length before / 4)) where
   pub filled-lacks : (c : ℕ) → r ≡ fields.NotFound c → Filled (fieldsAnswer book width t (length before / 4)) (fieldRecords book width t) before (fields.NotFound c) before
   unfolding storedIn
-  filled-lacks c h = record { is = sym h ∙ e; records = rw (← e, h) }
+  filled-lacks c h = record { is = fields-says _ _ (sym h ∙ e); records = rw (← e, h) }
 
   pub filled-refused : (n : ℕ) → r ≡ fields.Refused n → Filled (fieldsAnswer book width t (length before / 4)) (fieldRecords book width t) before (fields.Refused n) before
   unfolding storedIn
-  filled-refused n h = record { is = sym h ∙ e; records = rw (← e, h) }
+  filled-refused n h = record { is = fields-says _ _ (sym h ∙ e); records = rw (← e, h) }
 
   module _ (m : ℕ) (h : r ≡ fields.Done m) where
     pub filled-fine : fieldsCheck book width t ≡ check.Fine
@@ -188,7 +188,7 @@ module _ (book : List ℕ) (width t : ℕ) (before : List ℕ) (r : FieldsAnswer
         let b : fieldsOf book t * 4 ≤ length before = filled-room in
         let l : 0 + length (recordsFrom book width (t + 1) (fieldsOf book t)) ≤ length before = omega arith in
         let z : 0 + length (recordsFrom book width (t + 1) (fieldsOf book t)) ≡ length (recordsFrom book width (t + 1) (fieldsOf book t)) = omega arith in
-        record { is = sym h ∙ e; records = rw (← e, h) (q ∙ sets-eq (recordsFrom book width (t + 1) (fieldsOf book t)) before 0 l ∙ rw z) }
+        record { is = fields-says _ _ (sym h ∙ e); records = rw (← e, h) (q ∙ sets-eq (recordsFrom book width (t + 1) (fieldsOf book t)) before 0 l ∙ rw z) }
 
 -- ---- the root
 
@@ -196,7 +196,7 @@ module _ (buffer : List ℕ) (len root : ℕ) (k : RootCheck) (e : k ≡ checkRo
   pub fields-refused : (n : ℕ) → k ≡ checked.Refused n
       → Filled (rootFields buffer len width root (length before / 4)) (rootRecords buffer len width root) before (fields.Refused n) before
   unfolding rootFields atRoot storedIn
-  fields-refused n h = record { is = rw (← e, h); records = rw (← e, h) }
+  fields-refused n h = record { is = fields-says _ _ (rw (← e, h)); records = rw (← e, h) }
 
   pub fields-root : (t : ℕ) → k ≡ checked.Root t → (r : FieldsAnswer) (after : List ℕ)
       → Filled (fieldsAnswer (take len buffer) width t (length before / 4)) (fieldRecords (take len buffer) width t) before r after

@@ -5,22 +5,22 @@ use mathlib.Core.List.{List, [], _∷_, _++_}
 use Prim.Native.Nat.{ℕ, zero, suc, _+_, _/_, min}
 use lib.ListN.{length, take, drop}
 use lib.Dec.{leb}
+use Rattle.number.specs.Answer.{refusalOf}
 use Rattle.typebook.specs.Book.{fieldsOf}
-use Rattle.book_check.specs.Check.{checkRoot}
-use Rattle.resolvers.specs.Calls.{atRoot}
+use Rattle.book_check.specs.Check.{checkRoot, atRoot}
 use Rattle.field_types.specs.declared.FieldAnswer.{FieldAnswer}
 use Rattle.field_types.specs.declared.FieldAnswer.the-variants as answer
 use Rattle.field_types.specs.declared.FieldsCheck.{FieldsCheck}
 use Rattle.field_types.specs.declared.FieldsCheck.the-variants as check
 use Rattle.field_types.specs.declared.FieldsAnswer.{FieldsAnswer}
 use Rattle.field_types.specs.declared.FieldsAnswer.the-variants as fields
-use Rattle.field_types.specs.Fields.{resolveField, fieldsFrom}
+use Rattle.field_types.specs.Fields.{checkNumbers, resolveField, fieldsFrom}
 
--- document 01's number of an answer, 0 where nothing is refused; 7 comes with the block that `NotFound` carries
-abbrev pub fieldsRefusal : FieldsAnswer → ℕ
-fieldsRefusal (fields.Done n) = 0
-fieldsRefusal (fields.NotFound b) = 7
-fieldsRefusal (fields.Refused n) = n
+-- document 01's number and value of an answer: 0 and the number of fields, 7 and the block whose type name is not found, or another refusal
+unfoldable pub fieldsNumbers : FieldsAnswer → List ℕ
+fieldsNumbers (fields.Done n) = 0 ∷ n ∷ []
+fieldsNumbers (fields.NotFound b) = 7 ∷ b ∷ []
+fieldsNumbers (fields.Refused n) = n ∷ []
 
 -- how many of n records fit, where there is room for that many
 abbrev pub fits : ℕ → ℕ → ℕ
@@ -30,7 +30,7 @@ fits n room = min n room
 unfoldable pub fieldsEnd : ℕ → ℕ → FieldsCheck → FieldsAnswer
 fieldsEnd n room check.Fine = cond (leb n room) (fields.Done n) (fields.Refused 15)
 fieldsEnd n room (check.Lacks c) = fields.NotFound c
-fieldsEnd n room check.Endless = fields.Refused 8
+fieldsEnd n room check.TooLong = fields.Refused (refusalOf (checkNumbers check.TooLong))
 
 -- the fields of type block t in order, with room for that many records, each record's 15 before its field's 7 or 8: the fields whose records fit are resolved, and at the
 -- first whose record does not fit it is 15
@@ -46,7 +46,7 @@ recordRoom numbers = numbers / 4
 abbrev pub recordOf : FieldAnswer → List ℕ
 recordOf (answer.Field x) = x .offset ∷ x .size ∷ x .resolved ∷ x .field ∷ []
 recordOf (answer.Lacks c) = []
-recordOf answer.Endless = []
+recordOf answer.TooLong = []
 
 -- the records of the k field blocks from block f on
 unfoldable pub recordsFrom : List ℕ → ℕ → ℕ → ℕ → List ℕ
@@ -65,7 +65,7 @@ storedIn (fields.Refused n) new before = before
 
 -- what is answered, and what the lent slice of records holds then
 pub record Filled (answer : FieldsAnswer) (new before : List ℕ) (r : FieldsAnswer) (after : List ℕ) : Type 0 where
-  pub is : r ≡ answer
+  pub is : fieldsNumbers r ≡ fieldsNumbers answer
   pub records : after ≡ storedIn answer new before
 
 -- the fields of the root block itself, which may be of any category

@@ -7,8 +7,8 @@ ghost use lib.ListN.{length};
 ghost use lib.Seq.{sets};
 ghost use Rattle.typebook.specs.Book.{isType, fieldsOf};
 ghost use Rattle.book_check.specs.Check.{ValidBook};
-ghost use Rattle.field_types.specs.Fields.{fieldsFrom, fieldsCheck, FieldResolved};
-ghost use Rattle.field_types.specs.Calls.{fits, recordRoom, recordOf, fieldRecords, fieldsAnswer, Filled, rootFields, rootRecords};
+ghost use Rattle.field_types.specs.Fields.{checkNumbers, fieldsFrom, fieldsCheck, FieldResolved};
+ghost use Rattle.field_types.specs.Calls.{fits, fieldsNumbers, recordRoom, recordOf, fieldRecords, fieldsAnswer, Filled, rootFields, rootRecords};
 use book_check::RootCheck;
 use resolvers::Resolved;
 use type_provider::Found;
@@ -30,13 +30,13 @@ pub struct ResolvedField {
 pub enum FieldAnswer {
     Field(ResolvedField),
     Lacks(u32),
-    Endless,
+    TooLong,
 }
 
 pub enum FieldsCheck {
     Fine,
     Lacks(u32),
-    Endless,
+    TooLong,
 }
 
 // What `resolve_fields` answers.
@@ -68,7 +68,7 @@ pub fn resolve_field_in(book: &[u8], index: &[u32], width: u8, f: u32) -> FieldA
             field: f,
         }),
         Resolved::Lacks(c) => FieldAnswer::Lacks(c),
-        Resolved::Endless => FieldAnswer::Endless,
+        Resolved::TooLong => FieldAnswer::TooLong,
     }
 }
 
@@ -83,7 +83,7 @@ fn check_first(book: &[u8], index: &[u32], width: u8, t: u32, n: u32) -> FieldsC
         match answer {
             FieldAnswer::Field(_) => {}
             FieldAnswer::Lacks(c) => return FieldsCheck::Lacks(c),
-            FieldAnswer::Endless => return FieldsCheck::Endless,
+            FieldAnswer::TooLong => return FieldsCheck::TooLong,
         }
         i += 1;
     }
@@ -93,7 +93,7 @@ fn check_first(book: &[u8], index: &[u32], width: u8, t: u32, n: u32) -> FieldsC
 // Resolves all fields of type block t in order, up to the first that is refused.
 pub fn check_fields_in(book: &[u8], index: &[u32], width: u8, t: u32) -> FieldsCheck
     requires { ⌜ ValidBook (now book) × (isType (now book) t ≡ true) ⌝ }
-    ensures { λ r. ⌜ r ≡ fieldsCheck (now (book .entry)) width t ⌝ }
+    ensures { λ r. ⌜ checkNumbers r ≡ checkNumbers (fieldsCheck (now (book .entry)) width t) ⌝ }
 {
     check_first(book, index, width, t, block::fields(book, t))
 }
@@ -122,7 +122,7 @@ fn fields_answer(book: &[u8], index: &[u32], width: u8, t: u32, room: usize) -> 
     match check {
         FieldsCheck::Fine => {}
         FieldsCheck::Lacks(c) => return FieldsAnswer::NotFound(c),
-        FieldsCheck::Endless => return FieldsAnswer::Refused(8),
+        FieldsCheck::TooLong => return FieldsAnswer::Refused(8),
     }
     if fit < n {
         return FieldsAnswer::Refused(15);
@@ -152,7 +152,7 @@ fn store_fields(book: &[u8], index: &[u32], width: u8, t: u32, records: &mut [u3
         match answer {
             FieldAnswer::Field(field) => store_field(records, i as usize * RECORD, field),
             FieldAnswer::Lacks(_) => return,
-            FieldAnswer::Endless => return,
+            FieldAnswer::TooLong => return,
         }
         i += 1;
     }
@@ -192,7 +192,7 @@ fn fill_fields(book: &[u8], width: u8, t: u32, records: &mut [u32]) -> FieldsAns
 
 // Every refusal of `resolve_fields`, with room for that many records and nothing written.
 pub fn check_fields(buffer: &[u8], len: usize, width: u8, root: u64, room: usize) -> FieldsAnswer
-    ensures { λ r. ⌜ r ≡ rootFields (now (buffer .entry)) len width root room ⌝ }
+    ensures { λ r. ⌜ fieldsNumbers r ≡ fieldsNumbers (rootFields (now (buffer .entry)) len width root room) ⌝ }
 {
     let check = book_check::check_root(buffer, len, root);
     match check {

@@ -21,6 +21,7 @@ use Rattle.float.specs.declared.RealRead.the-variants as read
 use Rattle.float.specs.declared.RealWrite.the-variants as write
 use Rattle.number.specs.Le.{Bytes, leValue, leBytes, leStored}
 use Rattle.float.specs.Float.{realWidth, singleOf, doubleOf, realOf, realBits, realSize, readReal, writeReal, realAfter, RealWritten}
+use Rattle.float.proofs.Numbers.{real-write-says}
 use Rattle.number.proofs.ByteOrder.{leValue-below, leBytes-leValue}
 
 -- ---- a pattern and its real
@@ -163,7 +164,7 @@ size-small (NanDouble n) = omega arith
 module _ (v : Real) (out : List ℕ) (w : ℕ) (ew : w ≡ realSize v) where
   pub real-written-size : (length out ≡ w → ⊥) → RealWritten v out write.Size out
   unfolding writeReal realAfter
-  real-written-size l = record { answer = rw (← ew, ne-eqb (length out) w l); buffer = rw (← ew, ne-eqb (length out) w l) }
+  real-written-size l = record { answer = real-write-says _ _ (rw (← ew, ne-eqb (length out) w l)); buffer = rw (← ew, ne-eqb (length out) w l) }
 
   pub real-written : length out ≡ w → (b : ℕ) → b ≡ realBits v → (new : List ℕ) → new ≡ leStored (min 8 (length out)) b out → RealWritten v out write.Done new
   unfolding writeReal realAfter
@@ -172,7 +173,7 @@ module _ (v : Real) (out : List ℕ) (w : ℕ) (ew : w ≡ realSize v) where
       let m : min 8 (length out) ≡ w = omega arith in
       let d : drop w out ≡ [] = drop-of-length-le out {i = w} (omega arith) in
       let e : new ≡ leBytes w b = en ∙ rw (m, d, append-nil (leBytes w b)) in
-      record { answer = rw (← ew, eq-eqb (length out) w l); buffer = rw (← ew, eq-eqb (length out) w l, ← ew, ← eb) e }
+      record { answer = real-write-says _ _ (rw (← ew, eq-eqb (length out) w l)); buffer = rw (← ew, eq-eqb (length out) w l, ← ew, ← eb) e }
 
 -- ---- there and back
 
@@ -234,4 +235,4 @@ module _ (t : AdsTypeId) (bs : List ℕ) (b : Bytes bs) (v : Real) (e : read.Val
   real-back out l =
       let s : realSize v ≡ length bs = held-as .size in
       let q : eqb (length out) (length bs) ≡ true = eq-eqb (length out) (length bs) l in
-      record { answer = rw (s, q); buffer = rw (s, q, s, held-as .bits) (sym (leBytes-leValue bs b)) }
+      record { answer = real-write-says _ _ (rw (s, q)); buffer = rw (s, q, s, held-as .bits) (sym (leBytes-leValue bs b)) }

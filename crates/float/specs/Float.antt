@@ -1,11 +1,12 @@
 -- Reals in memory (IEEE 754, binary32 and binary64). Assumes nothing.
 use mathlib.Core.Path.{_≡_}
 use mathlib.Core.Bool.{Bool, cond}
-use mathlib.Core.List.{List}
+use mathlib.Core.List.{List, [], _∷_}
 use Prim.Native.Nat.{ℕ, _%_, _^_}
 use lib.ListN.{length}
 use lib.Dec.{eqb}
-use lib.Ieee.{binary32, binary64, nanBits, ofBits, toBits}
+use lib.IntN.{pos, negsuc}
+use lib.Ieee.{Float, nan, inf, fin, binary32, binary64, nanBits, ofBits, toBits}
 use Rattle.type_id.specs.declared.AdsTypeId.{AdsTypeId}
 use Rattle.type_id.specs.declared.AdsTypeId.the-variants.{Void, Int16, Int32, Real32, Real64, Int8, UInt8, UInt16, UInt32, Int64, UInt64, String, WString, Real80, Bit, MaxTypes, BigType, Unknown}
 use Rattle.float.specs.declared.Real.{Real}
@@ -14,6 +15,7 @@ use Rattle.float.specs.declared.RealRead.{RealRead}
 use Rattle.float.specs.declared.RealRead.the-variants as read
 use Rattle.float.specs.declared.RealWrite.{RealWrite}
 use Rattle.float.specs.declared.RealWrite.the-variants as write
+use Rattle.number.specs.Answer.{truthNumber}
 use Rattle.number.specs.Le.{leValue, leBytes}
 
 -- the width in bytes of the id of a real, and 0 of every other; the 10 bytes of Real80 are not read
@@ -63,6 +65,31 @@ realSize (Double x) = 8
 realSize (NanSingle n) = 4
 realSize (NanDouble n) = 8
 
+-- a float's own parts: a NaN, an infinity by its sign, or sign, digits and exponent; `negsuc k` is −(k + 1)
+unfoldable pub floatNumbers : Float → List ℕ
+floatNumbers nan = 0 ∷ []
+floatNumbers (inf s) = 1 ∷ truthNumber s ∷ []
+floatNumbers (fin s m (pos k)) = 2 ∷ truthNumber s ∷ m ∷ k ∷ []
+floatNumbers (fin s m (negsuc k)) = 3 ∷ truthNumber s ∷ m ∷ k ∷ []
+
+-- a real's numbers: 9 for 4 bytes and 10 for 8 (the tape's kinds), its bit pattern, and the parts of a float where one holds it
+unfoldable pub realNumbers : Real → List ℕ
+realNumbers (Single x) = 9 ∷ toBits binary32 x ∷ floatNumbers x
+realNumbers (Double x) = 10 ∷ toBits binary64 x ∷ floatNumbers x
+realNumbers (NanSingle n) = 9 ∷ n ∷ []
+realNumbers (NanDouble n) = 10 ∷ n ∷ []
+
+-- document 01's number and values of a read's answer
+unfoldable pub realReadNumbers : RealRead → List ℕ
+realReadNumbers (read.Value v) = 0 ∷ realNumbers v
+realReadNumbers read.Size = 10 ∷ []
+realReadNumbers read.Unsupported = 11 ∷ []
+
+-- document 01's number of a write's answer
+unfoldable pub realWriteNumbers : RealWrite → List ℕ
+realWriteNumbers write.Done = 0 ∷ []
+realWriteNumbers write.Size = 10 ∷ []
+
 -- a read: the id is tested first, then the size
 unfoldable pub readReal : AdsTypeId → List ℕ → RealRead
 readReal t bs =
@@ -80,16 +107,5 @@ realAfter write.Size v old = old
 
 -- a write's answer r and the buffer after it
 pub record RealWritten (v : Real) (old : List ℕ) (r : RealWrite) (new : List ℕ) : Type 0 where
-  pub answer : r ≡ writeReal v old
+  pub answer : realWriteNumbers r ≡ realWriteNumbers (writeReal v old)
   pub buffer : new ≡ realAfter (writeReal v old) v old
-
--- document 01's number of a read's refusal; 0 where there is none
-abbrev pub realReadRefusal : RealRead → ℕ
-realReadRefusal (read.Value v) = 0
-realReadRefusal read.Size = 10
-realReadRefusal read.Unsupported = 11
-
--- document 01's number of a write's refusal; 0 where there is none
-abbrev pub realWriteRefusal : RealWrite → ℕ
-realWriteRefusal write.Done = 0
-realWriteRefusal write.Size = 10

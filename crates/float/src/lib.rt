@@ -3,7 +3,7 @@ use number::le::le_store;
 use number::le::le_value;
 use type_id::AdsTypeId;
 ghost use mathlib.Core.Path.{_≡_};
-ghost use Rattle.float.specs.Float.{realWidth, singleOf, doubleOf, realOf, realBits, realSize, readReal, RealWritten};
+ghost use Rattle.float.specs.Float.{realWidth, singleOf, doubleOf, realOf, realBits, realSize, realReadNumbers, readReal, RealWritten};
 
 // A real of 4 or 8 bytes. A float doesn't keep the bits of a NaN, so they have a case of their own.
 pub enum Real {
@@ -93,7 +93,7 @@ pub fn real_from_bits(double: bool, bits: u64) -> Real
 
 // Reads the real that the bytes hold, by the id's width.
 pub fn real_from_le_slice(slice: &[u8], id: AdsTypeId) -> RealRead
-    ensures { λ r. ⌜ r ≡ readReal id (now (slice .entry)) ⌝ }
+    ensures { λ r. ⌜ realReadNumbers r ≡ realReadNumbers (readReal id (now (slice .entry))) ⌝ }
 {
     let width = real_width(id);
     if width == 0 {

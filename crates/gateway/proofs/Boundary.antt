@@ -1,4 +1,5 @@
--- What the answers tell a caller of the forms whose names end in `_in`: how it comes to a valid book and a type block. Assumes nothing.
+-- What the answers tell a caller: how it comes to a valid book and a type block, which the forms whose names end in `_in` want, and what the number that
+-- a write returned says of its output. Assumes nothing.
 use mathlib.Core.Path.{_≡_, refl, sym, ap, _∙_}
 use mathlib.Core.Bool.{Bool, true, false, cond}
 use mathlib.Core.List.{List}
@@ -8,26 +9,20 @@ use lib.ListN.{length, take}
 use lib.Dec.{eqb}
 use borrow.Author.Tests.{ne-eqb}
 use Rattle.typebook.specs.Book.{isType}
-use Rattle.book_check.specs.Check.{checkBook, bookRefusal, ValidBook}
-use Rattle.book_check.specs.declared.BookCheck.{BookCheck}
-use Rattle.book_check.specs.declared.BookCheck.the-variants.{Valid, Size, Sum, Form, Doubled}
+use Rattle.book_check.specs.Check.{checkBook, bookNumbers, ValidBook}
+use Rattle.book_check.proofs.Numbers.{zero-valid}
 use Rattle.book_check.proofs.Valid.{valid-book}
 use Rattle.type_cache.specs.declared.Appended.the-variants.{Done, Refused}
-use Rattle.type_cache.specs.Append.{appendRefusal, appendCall}
+use Rattle.type_cache.specs.Append.{appendedNumbers, appendRefusal, appendCall}
 use Rattle.type_cache.proofs.Adds.{grown}
-use Rattle.codes.specs.Numbers.{truthNumber}
-use Rattle.book_answers.specs.Answers.{appendedRefusal}
-use Rattle.gateway.specs.Calls.{AppendGiven}
-
-zero-valid : (c : BookCheck) → bookRefusal c ≡ 0 → c ≡ Valid
-zero-valid Valid e = refl
-zero-valid Size e = absurd (omega arith)
-zero-valid Sum e = absurd (omega arith)
-zero-valid Form e = absurd (omega arith)
-zero-valid Doubled e = absurd (omega arith)
+use Rattle.number.specs.Answer.{refusalOf, truthNumber}
+use Rattle.ser.specs.Write.{Outcome, went, refused}
+use Rattle.ser.specs.Call.{writeNumbers}
+use Rattle.write_answers.specs.Answers.{isWritten, Numbered}
+use Rattle.gateway.specs.Calls.{AppendGiven, WriteGiven}
 
 -- `gateway_check_book` returned 0
-pub book-checked : (buffer : List ℕ) (len : ℕ) → bookRefusal (checkBook buffer len) ≡ 0 → ValidBook (take len buffer)
+pub book-checked : (buffer : List ℕ) (len : ℕ) → refusalOf (bookNumbers (checkBook buffer len)) ≡ 0 → ValidBook (take len buffer)
 book-checked buffer len e = valid-book buffer len (zero-valid _ e)
 
 one-true : (b : Bool) → truthNumber b ≡ 1 → b ≡ true
@@ -38,7 +33,8 @@ one-true false e = absurd (omega arith)
 pub root-checked : (book : List ℕ) (n : ℕ) → truthNumber (isType book n) ≡ 1 → isType book n ≡ true
 root-checked book n e = one-true (isType book n) e
 
-none-refused : (n k : ℕ) → 0 ≡ appendedRefusal (cond (eqb n 0) (Done k) (Refused n)) → n ≡ 0
+none-refused : (n k : ℕ) → 0 ≡ refusalOf (appendedNumbers (cond (eqb n 0) (Done k) (Refused n))) → n ≡ 0
+unfolding appendedNumbers
 none-refused zero k e = refl
 none-refused (suc n) k e = sym (rw (ne-eqb (suc n) 0 (λ q. omega arith)) at e)
 
@@ -47,5 +43,21 @@ pub append-checked : (buffer : List ℕ) (len : ℕ) (piece : List ℕ) {before 
     → ValidBook (take (len + length piece) buffer′)
 unfolding appendCall
 append-checked buffer len piece {buffer′ = buffer′} a =
-    let z : appendRefusal buffer len piece ≡ 0 = none-refused _ _ (a .gives .is ∙ ap appendedRefusal (a .by .answer)) in
+    let z : appendRefusal buffer len piece ≡ 0 = none-refused _ _ (a .gives .is ∙ ap refusalOf (a .by .answer)) in
     valid-book buffer′ (len + length piece) (rw (a .by .bytes) (grown buffer len piece z .check))
+
+-- `gateway_write` returned 0: something was written, and the output is that (`call-numbered` and `book-numbered` of write_answers give the premise)
+pub write-done : (o : Outcome) {image output before output′ after : List ℕ} → Numbered o → WriteGiven o image output before 0 output′ after → isWritten o ≡ true
+write-done o n g = n .nought (sym (g .gives .is ∙ ap refusalOf (g .by .answer)))
+
+-- it returned another number: an output as long as the image is the image
+pub write-kept : (o : Outcome) {image output before output′ after : List ℕ} {r : ℕ} → WriteGiven o image output before r output′ after → (r ≡ 0 → ⊥)
+    → eqb (length output) (length image) ≡ true → output′ ≡ image
+unfolding writeNumbers
+write-kept (went at bytes) g h e = absurd (h (g .gives .is ∙ ap refusalOf (g .by .answer)))
+write-kept (refused n b bytes) g h e = rw e at (g .by .output-is)
+
+-- whatever it returned: an output of another length is as before
+pub write-other : (o : Outcome) {image output before output′ after : List ℕ} {r : ℕ} → WriteGiven o image output before r output′ after
+    → eqb (length output) (length image) ≡ false → output′ ≡ output
+write-other o g e = rw e at (g .by .output-is)

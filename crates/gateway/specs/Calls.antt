@@ -5,76 +5,73 @@ use mathlib.Core.List.{List}
 use Prim.Native.Nat.{ℕ}
 use Rattle.typebook.specs.Book.{isType}
 use Rattle.type_cache.specs.declared.Appended.{Appended}
-use Rattle.type_cache.specs.Append.{AppendIs}
+use Rattle.type_cache.specs.Append.{appendedNumbers, AppendIs}
 use Rattle.resolvers.specs.declared.Resolved.{Resolved}
 use Rattle.resolvers.specs.declared.Resolved.the-variants.{Base}
+use Rattle.resolvers.specs.Resolve.{resolvedNumbers}
 use Rattle.field_types.specs.declared.FieldsAnswer.{FieldsAnswer}
-use Rattle.field_types.specs.Calls.{Filled}
+use Rattle.field_types.specs.Calls.{fieldsNumbers, Filled}
 use Rattle.read_modify_write.specs.declared.Rmw.{Rmw}
 use Rattle.missing_types.specs.declared.Missing.{Missing}
-use Rattle.read_modify_write.specs.Calls.{RmwIn, RmwIs}
-use Rattle.missing_types.specs.Calls.{MissingIn, MissingIs}
+use Rattle.read_modify_write.specs.Calls.{rmwNumbers, RmwIn, RmwIs}
+use Rattle.missing_types.specs.Calls.{missingNumbers, MissingIn, MissingIs}
 use Rattle.steps.specs.declared.ReadAnswer.{ReadAnswer}
 use Rattle.steps.specs.Trace.{Trace}
-use Rattle.steps.specs.Answer.{ReadIs}
-use Rattle.book_answers.specs.Answers.{AppendedAs}
-use Rattle.resolver_answers.specs.Answers.{ResolvedAs, FieldsAs}
-use Rattle.walk_answers.specs.Answers.{RmwAs, MissingAs}
-use Rattle.read_answers.specs.Answers.{ReadAs}
+use Rattle.steps.specs.Answer.{readNumbers, ReadIs}
 use Rattle.ser.specs.declared.WriteAnswer.{WriteAnswer}
 use Rattle.ser.specs.Write.{Outcome}
-use Rattle.ser.specs.Call.{Wrote}
-use Rattle.write_answers.specs.Answers.{WriteAs}
+use Rattle.ser.specs.Call.{writeNumbers, Wrote}
+use Rattle.lent_values.specs.Values.{Gives}
 
 -- what appending answers, as a number and values, and the buffer that it leaves
 pub record AppendGiven (buffer : List ℕ) (len : ℕ) (piece before : List ℕ) (r : ℕ) (buffer′ after : List ℕ) : Type 0 where
   pub answer : Appended
   pub by : AppendIs buffer len piece answer buffer′
-  pub gives : AppendedAs answer before r after
+  pub gives : Gives (appendedNumbers answer) before r after
 
 -- what a chain in a checked book comes to; its end is a type block
 pub record ChainGiven (book : List ℕ) (answer : Resolved) (before : List ℕ) (r : ℕ) (after : List ℕ) : Type 0 where
-  pub gives : ResolvedAs answer before r after
+  pub gives : Gives (resolvedNumbers answer) before r after
   pub typed : (u : ℕ) → answer ≡ Base u → isType book u ≡ true
 
 -- the answer `is` of `resolve_fields`, as a number and values, and the lent slice that it leaves, with the records `new` in a success
 pub record FieldsGiven (is : FieldsAnswer) (new records before : List ℕ) (r : ℕ) (records′ after : List ℕ) : Type 0 where
   pub answer : FieldsAnswer
   pub by : Filled is new records answer records′
-  pub gives : FieldsAs answer before r after
+  pub gives : Gives (fieldsNumbers answer) before r after
 
 -- what read-modify-write answers for a root, as a number and values, and the scratch that it leaves
 pub record RmwGiven (buffer : List ℕ) (len width root : ℕ) (scratch before : List ℕ) (r : ℕ) (scratch′ after : List ℕ) : Type 0 where
   pub answer : Rmw
   pub by : RmwIs buffer len width root scratch answer scratch′
-  pub gives : RmwAs answer before r after
+  pub gives : Gives (rmwNumbers answer) before r after
 
 -- the same for type block `root` of a checked book, where the scratch fits or not
 pub record RmwInGiven (fits : Bool) (book : List ℕ) (width root : ℕ) (scratch before : List ℕ) (r : ℕ) (scratch′ after : List ℕ) : Type 0 where
   pub answer : Rmw
   pub by : RmwIn fits book width root scratch answer scratch′
-  pub gives : RmwAs answer before r after
+  pub gives : Gives (rmwNumbers answer) before r after
 
 -- what `missing_types` answers for a root, as a number and values, and the scratch and the list that it leaves
 pub record MissingGiven (buffer : List ℕ) (len width root : ℕ) (scratch list before : List ℕ) (r : ℕ) (scratch′ list′ after : List ℕ) : Type 0 where
   pub answer : Missing
   pub by : MissingIs buffer len width root scratch list answer scratch′ list′
-  pub gives : MissingAs answer before r after
+  pub gives : Gives (missingNumbers answer) before r after
 
 -- the same for type block `root` of a checked book, where scratch and list fit or not
 pub record MissingInGiven (fits : Bool) (book : List ℕ) (width root : ℕ) (scratch list before : List ℕ) (r : ℕ) (scratch′ list′ after : List ℕ) : Type 0 where
   pub answer : Missing
   pub by : MissingIn fits book width root scratch list answer scratch′ list′
-  pub gives : MissingAs answer before r after
+  pub gives : Gives (missingNumbers answer) before r after
 
 -- what a read of the trace answers, as a number and values, and the tape and the text that it leaves
 pub record ReadGiven (trace : Trace) (tape text before : List ℕ) (r : ℕ) (tape′ text′ after : List ℕ) : Type 0 where
   pub answer : ReadAnswer
   pub by : ReadIs trace tape text answer tape′ text′
-  pub gives : ReadAs answer before r after
+  pub gives : Gives (readNumbers answer) before r after
 
 -- what a write of the outcome answers, as a number and values, and the output that it leaves
 pub record WriteGiven (outcome : Outcome) (image output before : List ℕ) (r : ℕ) (output′ after : List ℕ) : Type 0 where
   pub answer : WriteAnswer
   pub by : Wrote outcome image output answer output′
-  pub gives : WriteAs answer before r after
+  pub gives : Gives (writeNumbers answer) before r after

@@ -1,11 +1,10 @@
 // What the blocks of a book say, and appending a type to it.
 ghost use mathlib.Core.Path.{_≡_};
-ghost use mathlib.Core.List.{[], _∷_};
 ghost use Prim.Native.Nat.{_+_, _*_};
 ghost use Rattle.typebook.specs.Book.{isType, nameOf, typeNameOf};
 ghost use Rattle.type_category.specs.Category.{categoryOf};
-ghost use Rattle.category_number.specs.Number.{categoryNumber};
-ghost use Rattle.codes.specs.Numbers.{truthNumber};
+ghost use Rattle.type_category.specs.Number.{categoryNumbers};
+ghost use Rattle.number.specs.Answer.{truthNumber};
 ghost use Rattle.lent_values.specs.Values.{Gives};
 ghost use Rattle.book_answers.specs.Answers.{PartGiven};
 ghost use Rattle.gateway.specs.Calls.{AppendGiven};
@@ -43,7 +42,7 @@ pub extern "C" fn gateway_type_name(book: &[u8], block: u32, values: &mut [u64])
 // The number of the block's category.
 #[no_mangle]
 pub extern "C" fn gateway_determine(book: &[u8], width: u8, block: u32, values: &mut [u64]) -> u8
-    ensures { λ r. ⌜ Gives 0 (categoryNumber (categoryOf (now (book .entry)) width block) ∷ []) (now (values .entry)) r (now (values .exit)) ⌝ }
+    ensures { λ r. ⌜ Gives (categoryNumbers (categoryOf (now (book .entry)) width block)) (now (values .entry)) r (now (values .exit)) ⌝ }
 {
     done_1(
         values,

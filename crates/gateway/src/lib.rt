@@ -7,8 +7,9 @@ ghost use Rattle.utf_16.specs.Encode as utf16Encode;
 ghost use Rattle.type_provider.specs.Find.{find as findIn};
 ghost use Rattle.type_index.specs.Index.{IndexOf};
 ghost use Rattle.utf_8.specs.Utf8.{wellFormed};
-ghost use Rattle.book_check.specs.Check.{checkBook, bookRefusal};
-ghost use Rattle.codes.specs.Numbers.{foundNumber, truthNumber};
+ghost use Rattle.book_check.specs.Check.{checkBook, bookNumbers};
+ghost use Rattle.codes.specs.Numbers.{foundNumber};
+ghost use Rattle.number.specs.Answer.{refusalOf, truthNumber};
 ghost use Rattle.gateway.specs.Numbers.{WroteAs, FoundAs};
 
 pub mod book;
@@ -86,7 +87,7 @@ pub extern "C" fn gateway_utf_8_well_formed(text: &[u8]) -> u8
 // Document 01's number: 0 where the book is valid, else 1 to 4.
 #[no_mangle]
 pub extern "C" fn gateway_check_book(buffer: &[u8], len: usize) -> u8
-    ensures { λ r. ⌜ r ≡ bookRefusal (checkBook (now (buffer .entry)) len) ⌝ }
+    ensures { λ r. ⌜ r ≡ refusalOf (bookNumbers (checkBook (now (buffer .entry)) len)) ⌝ }
 {
-    codes::refusal(book_check::check_book(buffer, len))
+    book_check::refusal_of(book_check::check_book(buffer, len))
 }

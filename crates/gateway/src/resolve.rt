@@ -5,9 +5,9 @@ ghost use lib.ListN.{length};
 ghost use Rattle.typebook.specs.Book.{isType};
 ghost use Rattle.book_check.specs.Check.{ValidBook};
 ghost use Rattle.resolvers.specs.Resolve.{resolveAlias, resolveIndirection};
-ghost use Rattle.resolvers.specs.Calls.{rootAlias, rootIndirection};
+ghost use Rattle.resolvers.specs.Calls.{resolutionNumbers, rootAlias, rootIndirection};
 ghost use Rattle.field_types.specs.Calls.{rootFields, rootRecords, fieldsAnswer, fieldRecords, recordRoom};
-ghost use Rattle.resolver_answers.specs.Answers.{ResolutionAs};
+ghost use Rattle.lent_values.specs.Values.{Gives};
 ghost use Rattle.gateway.specs.Calls.{ChainGiven, FieldsGiven};
 use resolver_answers::give_fields;
 use resolver_answers::give_resolution;
@@ -22,7 +22,7 @@ pub extern "C" fn gateway_resolve_alias(
     root: u64,
     values: &mut [u64],
 ) -> u8
-    ensures { λ r. ⌜ ResolutionAs (rootAlias (now (buffer .entry)) len width root) (now (values .entry)) r (now (values .exit)) ⌝ }
+    ensures { λ r. ⌜ Gives (resolutionNumbers (rootAlias (now (buffer .entry)) len width root)) (now (values .entry)) r (now (values .exit)) ⌝ }
 {
     give_resolution(resolvers::resolve_alias(buffer, len, width, root), values)
 }
@@ -36,7 +36,7 @@ pub extern "C" fn gateway_resolve_indirection(
     root: u64,
     values: &mut [u64],
 ) -> u8
-    ensures { λ r. ⌜ ResolutionAs (rootIndirection (now (buffer .entry)) len width root) (now (values .entry)) r (now (values .exit)) ⌝ }
+    ensures { λ r. ⌜ Gives (resolutionNumbers (rootIndirection (now (buffer .entry)) len width root)) (now (values .entry)) r (now (values .exit)) ⌝ }
 {
     give_resolution(
         resolvers::resolve_indirection(buffer, len, width, root),

@@ -9,44 +9,55 @@ use lib.Seq.{take-all}
 use lib.Ieee.{Float}
 use Rattle.float.specs.Float.{realBits}
 use Rattle.float.specs.declared.Real.the-variants as real
+use Rattle.utf_8.specs.declared.TextEnd.{TextEnd}
+use Rattle.text_decoder.specs.Text.{decodedBy}
+use Rattle.text_decoder.specs.declared.Decoder.{Decoder}
+use Rattle.tape.specs.Record.{newRecord}
+use Rattle.tape.specs.declared.record.Record.{Record}
 use Rattle.type_category.specs.Category.{categoryOf}
 use Rattle.type_category.specs.declared.type_category.AdsTypeCategory.{AdsTypeCategory}
 use Rattle.leaves.specs.declared.leaf.LeafValue.{LeafValue}
 use Rattle.leaves.specs.declared.leaf.LeafValue.the-variants as leaf
-use Rattle.leaves.specs.Leaf.{leafBy, leafAt, kindOfLeaf}
+use Rattle.leaves.specs.Leaf.{leafBy, leafAt}
 use Rattle.leaves.proofs.Leaves.{leaf-own}
 use Rattle.steps.specs.declared.Step.{Step}
 use Rattle.steps.specs.Trace.{rec, text, one, From, Halts}
-use Rattle.steps.specs.Text.{decodedBy}
 use Rattle.steps.proofs.Runs.{halted}
 use Rattle.leaf_steps.specs.declared.LeafForm.{LeafForm}
 use Rattle.leaf_steps.specs.declared.LeafForm.the-variants as form
-use Rattle.leaf_steps.specs.Leaves.{formOf, traceOf}
+use Rattle.leaf_steps.specs.Leaves.{endsAt, formOf, traceOf}
 
 pub form-known : {v : LeafValue} {f : LeafForm} (u : LeafValue) → v ≡ u → f ≡ formOf u → f ≡ formOf v
 form-known u e q = rw e q
 
-pub form-bool : {v : LeafValue} (b : Bool) (n : ℕ) → v ≡ leaf.Bool b → n ≡ cond b 1 0 → form.Record 6 0 0 n ≡ formOf v
-form-bool b n e q = rw (e, q)
+-- a record that was made is the one of the form
+pub form-record : {v : LeafValue} (r : Record) (u : LeafValue) (k w a b : ℕ) → v ≡ u → r ≡ newRecord k w a b → form.Record (newRecord k w a b) ≡ formOf u → form.Record r ≡ formOf v
+form-record r u k w a b e q h = rw (e, q) h
 
-pub form-single : {v : LeafValue} (x : Float) (n : ℕ) → v ≡ leaf.Single x → n ≡ realBits (real.Single x) → form.Record 9 0 0 n ≡ formOf v
-form-single x n e q = rw (e, q)
+pub form-bool : {v : LeafValue} (r : Record) (b : Bool) (n : ℕ) → v ≡ leaf.Bool b → n ≡ cond b 1 0 → r ≡ newRecord 6 0 0 n → form.Record r ≡ formOf v
+form-bool r b n e q h = rw (e, h, q)
 
-pub form-double : {v : LeafValue} (x : Float) (n : ℕ) → v ≡ leaf.Double x → n ≡ realBits (real.Double x) → form.Record 10 0 0 n ≡ formOf v
-form-double x n e q = rw (e, q)
+pub form-single : {v : LeafValue} (r : Record) (x : Float) (n : ℕ) → v ≡ leaf.Single x → n ≡ realBits (real.Single x) → r ≡ newRecord 9 0 0 n → form.Record r ≡ formOf v
+form-single r x n e q h = rw (e, h, q)
+
+pub form-double : {v : LeafValue} (r : Record) (x : Float) (n : ℕ) → v ≡ leaf.Double x → n ≡ realBits (real.Double x) → r ≡ newRecord 10 0 0 n → form.Record r ≡ formOf v
+form-double r x n e q h = rw (e, h, q)
+
+pub form-text : {v : LeafValue} (d : Decoder) (t : TextEnd) (n : ℕ) → v ≡ leaf.Text d t → n ≡ endsAt t → form.Text 0 d n ≡ formOf v
+form-text d t n e q = rw (e, q)
 
 module _ (mem : List ℕ) {tape txt : List ℕ} {s r : Step} (v : LeafValue) (f : LeafForm) (q : f ≡ formOf v) where
-  pub leaf-record : {tape′ txt′ : List ℕ} (kind width a b : ℕ) → f ≡ form.Record kind width a b → From (one (rec kind width a b)) tape txt s r tape′ txt′ → From (traceOf v mem) tape txt s r tape′ txt′
-  leaf-record kind width a b e h = rw (← q, e) h
+  pub leaf-record : {tape′ txt′ : List ℕ} (x : Record) → f ≡ form.Record x → From (one (rec x)) tape txt s r tape′ txt′ → From (traceOf v mem) tape txt s r tape′ txt′
+  leaf-record x e h = rw (← q, e) h
 
-  pub leaf-text : {tape′ txt′ : List ℕ} (wide : Bool) (n : ℕ) (part : List ℕ) → f ≡ form.Text wide n → part ≡ take n mem → From (one (text (decodedBy wide part))) tape txt s r tape′ txt′ → From (traceOf v mem) tape txt s r tape′ txt′
-  leaf-text wide n part e z h = rw (← q, e, ← z) h
+  pub leaf-text : {tape′ txt′ : List ℕ} (w : ℕ) (d : Decoder) (n : ℕ) (part : List ℕ) → f ≡ form.Text w d n → part ≡ take n mem → From (one (text w 0 (decodedBy d part))) tape txt s r tape′ txt′ → From (traceOf v mem) tape txt s r tape′ txt′
+  leaf-text w d n part e z h = rw (← q, e, ← z) h
 
   pub leaf-refused : (k : ℕ) → f ≡ form.Refused k → Halts s k 0 r → From (traceOf v mem) tape txt s r tape txt
   leaf-refused k e h = rw (← q, e) (halted h)
 
 -- the value of type t, by a category that is its own
-pub leaf-at : (book : List ℕ) (width t : ℕ) (mem : List ℕ) {tape tape′ txt txt′ : List ℕ} {s r : Step} (v : LeafValue) (y : AdsTypeCategory) → y ≡ categoryOf book width t → v ≡ leafBy book width t mem (kindOfLeaf y) → From (traceOf v mem) tape txt s r tape′ txt′ → From (traceOf (leafAt book width t mem) mem) tape txt s r tape′ txt′
+pub leaf-at : (book : List ℕ) (width t : ℕ) (mem : List ℕ) {tape tape′ txt txt′ : List ℕ} {s r : Step} (v : LeafValue) (y : AdsTypeCategory) → y ≡ categoryOf book width t → v ≡ leafBy book width t y mem → From (traceOf v mem) tape txt s r tape′ txt′ → From (traceOf (leafAt book width t mem) mem) tape txt s r tape′ txt′
 leaf-at book width t mem v y k e h = rw (← leaf-own book width t mem y v k e) h
 
 -- ---- the first bytes

@@ -1,2 +1,3 @@
--- Laws that the functions' proofs cite.
+-- Laws that the functions' proofs cite, and the law on reals.
 mod Leaves
+pub mod Reals

@@ -7,7 +7,7 @@ ghost use Rattle.typebook.specs.Book.{fieldsOf, entriesOf};
 ghost use Rattle.type_category.specs.Category.{categoryOf};
 ghost use Rattle.leaves.specs.Leaf.{leafAt};
 ghost use Rattle.steps.specs.Trace.{From};
-ghost use Rattle.leaf_steps.specs.Leaves.{formOf, traceOf};
+ghost use Rattle.leaf_steps.specs.Leaves.{endsAt, formOf, traceOf};
 use float::Real;
 use leaves::leaf::LeafValue;
 use steps::Step;
@@ -18,10 +18,13 @@ use tape::record::BOOL;
 use tape::record::ENUM;
 use tape::record::REAL32;
 use tape::record::REAL64;
+use tape::record::Record;
 use tape::record::SIGNED;
 use tape::record::UNIT;
 use tape::record::UNSIGNED;
+use text_decoder::Decoder;
 use type_category::type_category::AdsTypeCategory;
+use utf_8::TextEnd;
 
 // The first n bytes, or all where there are fewer.
 fn first(bytes: &[u8], n: usize) -> &[u8]
@@ -42,10 +45,20 @@ fn bit(b: bool) -> u64
     0
 }
 
-// How a leaf's value goes on the tape: as one record (kind, width, A, B), as a text (wide or not, the number of its bytes), or not at all.
+// The number of bytes before a text's end, whether or not a terminator was found.
+fn before(end: TextEnd) -> usize
+    ensures { λ r. ⌜ r ≡ endsAt end ⌝ }
+{
+    match end {
+        TextEnd::Terminated(n) => n,
+        TextEnd::Unterminated(n) => n,
+    }
+}
+
+// How a leaf's value goes on the tape: as one record, as a text (byte 1 of its record, its decoder, the number of its bytes), or not at all.
 pub enum LeafForm {
-    Record(u8, u8, u64, u64),
-    Text(bool, usize),
+    Record(Record),
+    Text(u8, Decoder, usize),
     Refused(u8),
 }
 
@@ -54,17 +67,16 @@ fn form_of(value: LeafValue) -> LeafForm
     ensures { λ r. ⌜ r ≡ formOf value ⌝ }
 {
     match value {
-        LeafValue::Signed(w, b) => LeafForm::Record(SIGNED, w, 0, b),
-        LeafValue::Unsigned(w, n) => LeafForm::Record(UNSIGNED, w, 0, n),
-        LeafValue::Bool(b) => LeafForm::Record(BOOL, 0, 0, bit(b)),
-        LeafValue::Single(x) => LeafForm::Record(REAL32, 0, 0, Real::Single(x).bits()),
-        LeafValue::Double(x) => LeafForm::Record(REAL64, 0, 0, Real::Double(x).bits()),
-        LeafValue::NanSingle(n) => LeafForm::Record(REAL32, 0, 0, n as u64),
-        LeafValue::NanDouble(n) => LeafForm::Record(REAL64, 0, 0, n),
-        LeafValue::Text(n) => LeafForm::Text(false, n),
-        LeafValue::WideText(n) => LeafForm::Text(true, n),
-        LeafValue::Entry(n) => LeafForm::Record(ENUM, 0, n as u64, 0),
-        LeafValue::Unit => LeafForm::Record(UNIT, 0, 0, 0),
+        LeafValue::Signed(w, b) => LeafForm::Record(Record::new(SIGNED, w, 0, b)),
+        LeafValue::Unsigned(w, n) => LeafForm::Record(Record::new(UNSIGNED, w, 0, n)),
+        LeafValue::Bool(b) => LeafForm::Record(Record::new(BOOL, 0, 0, bit(b))),
+        LeafValue::Single(x) => LeafForm::Record(Record::new(REAL32, 0, 0, Real::Single(x).bits())),
+        LeafValue::Double(x) => LeafForm::Record(Record::new(REAL64, 0, 0, Real::Double(x).bits())),
+        LeafValue::NanSingle(n) => LeafForm::Record(Record::new(REAL32, 0, 0, n as u64)),
+        LeafValue::NanDouble(n) => LeafForm::Record(Record::new(REAL64, 0, 0, n)),
+        LeafValue::Text(decoder, end) => LeafForm::Text(0, decoder, before(end)),
+        LeafValue::Entry(n) => LeafForm::Record(Record::new(ENUM, 0, n as u64, 0)),
+        LeafValue::Unit => LeafForm::Record(Record::new(UNIT, 0, 0, 0)),
         LeafValue::Refused(k) => LeafForm::Refused(k),
     }
 }
@@ -75,8 +87,8 @@ pub fn put_leaf(s: Step, value: LeafValue, bytes: &[u8], tape: &mut [u8], text: 
 {
     let form = form_of(value);
     match form {
-        LeafForm::Record(kind, width, a, b) => put(s, tape, text, kind, width, a, b),
-        LeafForm::Text(wide, n) => put_text(s, wide, first(bytes, n), tape, text),
+        LeafForm::Record(r) => put(s, tape, text, r),
+        LeafForm::Text(w, decoder, n) => put_text(s, w, 0, decoder, first(bytes, n), tape, text),
         LeafForm::Refused(k) => stop(s, k, 0),
     }
 }

@@ -10,8 +10,8 @@ use lib.Ieee.{Float}
 use borrow.Author.Tests.{eq-eqb, ne-eqb}
 use Rattle.type_id.specs.TypeId.{idOf, numberOf}
 use Rattle.type_id.proofs.TypeIds.{number-of-id}
-use Rattle.integer.specs.Integer.{readInteger}
-use Rattle.float.specs.Float.{readReal}
+use Rattle.integer.specs.Integer.{integerReadNumbers, readInteger}
+use Rattle.float.specs.Float.{realReadNumbers, readReal}
 use Rattle.type_id.specs.declared.AdsTypeId.{AdsTypeId}
 use Rattle.type_id.specs.declared.AdsTypeId.the-variants.{UInt16, UInt32, UInt64}
 use Rattle.integer.specs.declared.Integer.{Integer}
@@ -23,9 +23,9 @@ use Rattle.float.specs.declared.Real.the-variants as real
 use Rattle.float.specs.declared.RealRead.{RealRead}
 use Rattle.float.specs.declared.RealRead.the-variants as realRead
 use Rattle.utf_8.specs.declared.TextEnd.{TextEnd}
-use Rattle.utf_8.specs.declared.TextEnd.the-variants.{Terminated, Unterminated}
-use Rattle.windows_1252.specs.Text.{stringEnd}
-use Rattle.utf_16.specs.WString.{wstringEnd}
+use Rattle.text_decoder.specs.Text.{endBy}
+use Rattle.text_decoder.specs.declared.Decoder.{Decoder}
+use Rattle.text_decoder.specs.declared.Decoder.the-variants as decoder
 use Rattle.typebook.specs.Book.{sizeOf, typeIdOf, fieldsOf, entriesOf, valueOf, sameName}
 use Rattle.type_provider.specs.declared.Found.{Found}
 use Rattle.type_provider.specs.declared.Found.the-variants.{At, Nothing}
@@ -35,7 +35,7 @@ use Rattle.leaves.specs.declared.leaf.LeafValue.{LeafValue}
 use Rattle.leaves.specs.declared.leaf.LeafValue.the-variants as leaf
 use Rattle.leaves.specs.declared.leaf.LeafKind.{LeafKind}
 use Rattle.leaves.specs.declared.leaf.LeafKind.the-variants as kind
-use Rattle.leaves.specs.Leaf.{kindOfLeaf, boolLeaf, realLeaf, integerLeaf, realOr, numberLeaf, pointerLeaf, endOf, textLeaf, entryFrom, unlisted, entryOr, enumLeaf, leafBy, leafAt}
+use Rattle.leaves.specs.Leaf.{kindOfLeaf, boolLeaf, realLeaf, integerLeaf, realOr, numberLeaf, pointerLeaf, decoderOf, textLeaf, entryFrom, unlisted, entryOr, enumLeaf, kindLeaf, leafBy, leafAt}
 
 -- ---- a bool
 
@@ -62,10 +62,32 @@ pub real-nan-double : {v : Real} (n : ℕ) → v ≡ real.NanDouble n → leaf.N
 real-nan-double n e = rw e
 
 pub integer-signed : {r : IntegerRead} {v : Integer} (w b : ℕ) → r ≡ read.Value v → v ≡ integer.Signed w b → leaf.Signed w b ≡ integerLeaf r
+unfolding integerLeaf
 integer-signed w b e q = rw (e, q)
 
 pub integer-unsigned : {r : IntegerRead} {v : Integer} (w n : ℕ) → r ≡ read.Value v → v ≡ integer.Unsigned w n → leaf.Unsigned w n ≡ integerLeaf r
+unfolding integerLeaf
 integer-unsigned w n e q = rw (e, q)
+
+pub integer-size : {r : IntegerRead} → r ≡ read.Size → leaf.Refused 10 ≡ integerLeaf r
+unfolding integerLeaf integerReadNumbers
+integer-size e = rw e
+
+pub integer-id : {r : IntegerRead} → r ≡ read.Unsupported → leaf.Refused 11 ≡ integerLeaf r
+unfolding integerLeaf integerReadNumbers
+integer-id e = rw e
+
+pub unlisted-value : {r : IntegerRead} (v : Integer) → r ≡ read.Value v → leaf.Refused 12 ≡ unlisted r
+unfolding unlisted
+unlisted-value v e = rw e
+
+pub unlisted-size : {r : IntegerRead} → r ≡ read.Size → leaf.Refused 10 ≡ unlisted r
+unfolding unlisted integerReadNumbers
+unlisted-size e = rw e
+
+pub unlisted-id : {r : IntegerRead} → r ≡ read.Unsupported → leaf.Refused 11 ≡ unlisted r
+unfolding unlisted integerReadNumbers
+unlisted-id e = rw e
 
 -- ---- a number by its id
 
@@ -83,12 +105,15 @@ module _ (book : List ℕ) (t : ℕ) (mem : List ℕ) (id : AdsTypeId) (ei : id 
     number-by e = rw (ne-eqb (typeIdOf book t) 33 (λ q. h (number-is ∙ q)), ← ei, ← ef) e
 
     pub number-real : (v : Real) → f ≡ realRead.Value v → r ≡ realLeaf v → r ≡ numberLeaf book t mem
+    unfolding realOr
     number-real v q e = number-by (rw q e)
 
     pub number-size : f ≡ realRead.Size → r ≡ leaf.Refused 10 → r ≡ numberLeaf book t mem
+    unfolding realOr realReadNumbers
     number-size q e = number-by (rw q e)
 
     pub number-integer : f ≡ realRead.Unsupported → (i : IntegerRead) → i ≡ readInteger id mem → r ≡ integerLeaf i → r ≡ numberLeaf book t mem
+    unfolding realOr
     number-integer q i ei e = number-by (rw (q, ← ei) e)
 
 -- ---- a pointer
@@ -114,36 +139,26 @@ module _ (width : ℕ) (mem : List ℕ) (r : LeafValue) where
 
 -- ---- a text
 
-module _ (book : List ℕ) (t : ℕ) (mem : List ℕ) (size : ℕ) (es : size ≡ sizeOf book t) (r : LeafValue) where
-  pub text-size : (length mem ≡ size → ⊥) → r ≡ leaf.Refused 10 → r ≡ textLeaf book t mem
+module _ (book : List ℕ) (t : ℕ) (id : AdsTypeId) (ei : id ≡ idOf (typeIdOf book t)) (n : ℕ) (en : n ≡ numberOf id) where
+  id-is : n ≡ typeIdOf book t
+  id-is = en ∙ ap numberOf ei ∙ number-of-id (typeIdOf book t)
+
+  pub decoder-wide : n ≡ 31 → decoder.Utf16 ≡ decoderOf book t
+  unfolding decoderOf
+  decoder-wide h = rw (eq-eqb (typeIdOf book t) 31 (sym id-is ∙ h))
+
+  pub decoder-narrow : (n ≡ 31 → ⊥) → decoder.Windows1252 ≡ decoderOf book t
+  unfolding decoderOf
+  decoder-narrow h = rw (ne-eqb (typeIdOf book t) 31 (λ z. h (id-is ∙ z)))
+
+module _ (book : List ℕ) (t : ℕ) (mem : List ℕ) (size : ℕ) (es : size ≡ sizeOf book t) where
+  pub text-size : (length mem ≡ size → ⊥) → leaf.Refused 10 ≡ textLeaf book t mem
   unfolding textLeaf
-  text-size h e = rw (← es, ne-eqb (length mem) size h) e
+  text-size h = rw (← es, ne-eqb (length mem) size h)
 
-  module _ (h : length mem ≡ size) (id : AdsTypeId) (ei : id ≡ idOf (typeIdOf book t)) (n : ℕ) (en : n ≡ numberOf id) where
-    id-is : n ≡ typeIdOf book t
-    id-is = en ∙ ap numberOf ei ∙ number-of-id (typeIdOf book t)
-
-    module _ (w : n ≡ 31) (e : TextEnd) (ee : e ≡ wstringEnd mem) where
-      wide-by : r ≡ leaf.WideText (endOf e) → r ≡ textLeaf book t mem
-      unfolding textLeaf
-      wide-by q = rw (← es, eq-eqb (length mem) size h, eq-eqb (typeIdOf book t) 31 (sym id-is ∙ w), ← ee) q
-
-      pub wide-ended : (k : ℕ) → e ≡ Terminated k → r ≡ leaf.WideText k → r ≡ textLeaf book t mem
-      wide-ended k q x = wide-by (rw q x)
-
-      pub wide-open : (k : ℕ) → e ≡ Unterminated k → r ≡ leaf.WideText k → r ≡ textLeaf book t mem
-      wide-open k q x = wide-by (rw q x)
-
-    module _ (w : n ≡ 31 → ⊥) (e : TextEnd) (ee : e ≡ stringEnd mem) where
-      narrow-by : r ≡ leaf.Text (endOf e) → r ≡ textLeaf book t mem
-      unfolding textLeaf
-      narrow-by q = rw (← es, eq-eqb (length mem) size h, ne-eqb (typeIdOf book t) 31 (λ z. w (id-is ∙ z)), ← ee) q
-
-      pub narrow-ended : (k : ℕ) → e ≡ Terminated k → r ≡ leaf.Text k → r ≡ textLeaf book t mem
-      narrow-ended k q x = narrow-by (rw q x)
-
-      pub narrow-open : (k : ℕ) → e ≡ Unterminated k → r ≡ leaf.Text k → r ≡ textLeaf book t mem
-      narrow-open k q x = narrow-by (rw q x)
+  pub text-is : length mem ≡ size → (d : Decoder) → d ≡ decoderOf book t → (e : TextEnd) → e ≡ endBy d mem → leaf.Text d e ≡ textLeaf book t mem
+  unfolding textLeaf
+  text-is h d ed e ee = rw (← es, eq-eqb (length mem) size h, ← ed, ← ee)
 
 -- ---- an enum
 
@@ -192,34 +207,35 @@ module _ (book : List ℕ) (t : ℕ) (mem : List ℕ) (size : ℕ) (es : size �
 -- ---- by the category
 
 -- the category is the type's own
-pub leaf-own : (book : List ℕ) (width t : ℕ) (mem : List ℕ) (c : AdsTypeCategory) (r : LeafValue) → c ≡ categoryOf book width t → r ≡ leafBy book width t mem (kindOfLeaf c) → r ≡ leafAt book width t mem
+pub leaf-own : (book : List ℕ) (width t : ℕ) (mem : List ℕ) (c : AdsTypeCategory) (r : LeafValue) → c ≡ categoryOf book width t → r ≡ leafBy book width t c mem → r ≡ leafAt book width t mem
 unfolding leafAt
 leaf-own book width t mem c r ec e = rw (← ec) e
 
 module _ (book : List ℕ) (width t : ℕ) (mem : List ℕ) (c : AdsTypeCategory) (k : LeafKind) (ek : k ≡ kindOfLeaf c) (r : LeafValue) where
-  leaf-by : r ≡ leafBy book width t mem k → r ≡ leafBy book width t mem (kindOfLeaf c)
+  leaf-by : r ≡ kindLeaf book width t mem k → r ≡ leafBy book width t c mem
+  unfolding leafBy
   leaf-by e = rw (← ek) e
 
-  pub leaf-number : k ≡ kind.Number → r ≡ numberLeaf book t mem → r ≡ leafBy book width t mem (kindOfLeaf c)
-  unfolding leafBy
+  pub leaf-number : k ≡ kind.Number → r ≡ numberLeaf book t mem → r ≡ leafBy book width t c mem
+  unfolding kindLeaf
   leaf-number q e = leaf-by (rw q e)
 
-  pub leaf-text : k ≡ kind.Text → r ≡ textLeaf book t mem → r ≡ leafBy book width t mem (kindOfLeaf c)
-  unfolding leafBy
+  pub leaf-text : k ≡ kind.Text → r ≡ textLeaf book t mem → r ≡ leafBy book width t c mem
+  unfolding kindLeaf
   leaf-text q e = leaf-by (rw q e)
 
-  pub leaf-enum : k ≡ kind.Enum → r ≡ enumLeaf book t mem → r ≡ leafBy book width t mem (kindOfLeaf c)
-  unfolding leafBy
+  pub leaf-enum : k ≡ kind.Enum → r ≡ enumLeaf book t mem → r ≡ leafBy book width t c mem
+  unfolding kindLeaf
   leaf-enum q e = leaf-by (rw q e)
 
-  pub leaf-pointer : k ≡ kind.Pointer → r ≡ pointerLeaf width mem → r ≡ leafBy book width t mem (kindOfLeaf c)
-  unfolding leafBy
+  pub leaf-pointer : k ≡ kind.Pointer → r ≡ pointerLeaf width mem → r ≡ leafBy book width t c mem
+  unfolding kindLeaf
   leaf-pointer q e = leaf-by (rw q e)
 
-  pub leaf-unit : k ≡ kind.Unit → r ≡ leaf.Unit → r ≡ leafBy book width t mem (kindOfLeaf c)
-  unfolding leafBy
+  pub leaf-unit : k ≡ kind.Unit → r ≡ leaf.Unit → r ≡ leafBy book width t c mem
+  unfolding kindLeaf
   leaf-unit q e = leaf-by (rw q e)
 
-  pub leaf-none : k ≡ kind.None → r ≡ leaf.Refused 11 → r ≡ leafBy book width t mem (kindOfLeaf c)
-  unfolding leafBy
+  pub leaf-none : k ≡ kind.None → r ≡ leaf.Refused 11 → r ≡ leafBy book width t c mem
+  unfolding kindLeaf
   leaf-none q e = leaf-by (rw q e)

@@ -1,12 +1,13 @@
 -- What the bytes of a type stand for that is neither struct nor array (document 01: deserializer.rs, refusals 10 to 13). Assumes nothing.
-use mathlib.Core.Bool.{Bool, cond, not}
-use mathlib.Core.List.{List}
+use mathlib.Core.Bool.{Bool, true, false, cond, not}
+use mathlib.Core.List.{List, [], _∷_}
 use Prim.Native.Nat.{ℕ, zero, suc, _+_}
 use lib.ListN.{length, getD}
 use lib.Dec.{eqb}
+use Rattle.number.specs.Answer.{refusalOf, truthNumber}
 use Rattle.type_id.specs.TypeId.{idOf}
-use Rattle.integer.specs.Integer.{readInteger}
-use Rattle.float.specs.Float.{readReal}
+use Rattle.integer.specs.Integer.{integerNumbers, integerReadNumbers, readInteger}
+use Rattle.float.specs.Float.{realNumbers, realReadNumbers, readReal}
 use Rattle.type_id.specs.declared.AdsTypeId.the-variants.{UInt16, UInt32, UInt64}
 use Rattle.integer.specs.declared.Integer.{Integer}
 use Rattle.integer.specs.declared.Integer.the-variants as integer
@@ -18,8 +19,9 @@ use Rattle.float.specs.declared.RealRead.{RealRead}
 use Rattle.float.specs.declared.RealRead.the-variants as realRead
 use Rattle.utf_8.specs.declared.TextEnd.{TextEnd}
 use Rattle.utf_8.specs.declared.TextEnd.the-variants.{Terminated, Unterminated}
-use Rattle.windows_1252.specs.Text.{stringEnd}
-use Rattle.utf_16.specs.WString.{wstringEnd}
+use Rattle.text_decoder.specs.Text.{endBy}
+use Rattle.text_decoder.specs.declared.Decoder.{Decoder}
+use Rattle.text_decoder.specs.declared.Decoder.the-variants as decoder
 use Rattle.typebook.specs.Book.{sizeOf, typeIdOf, fieldsOf, entriesOf, valueOf, sameName}
 use Rattle.type_provider.specs.declared.Found.{Found}
 use Rattle.type_provider.specs.declared.Found.the-variants.{At, Nothing}
@@ -30,6 +32,31 @@ use Rattle.leaves.specs.declared.leaf.LeafValue.{LeafValue}
 use Rattle.leaves.specs.declared.leaf.LeafValue.the-variants as leaf
 use Rattle.leaves.specs.declared.leaf.LeafKind.{LeafKind}
 use Rattle.leaves.specs.declared.leaf.LeafKind.the-variants as kind
+
+-- the number of a decoder: the type id of the STRING (30) or WSTRING (31) that it is for
+abbrev pub decoderNumber : Decoder → ℕ
+decoderNumber decoder.Windows1252 = 30
+decoderNumber decoder.Utf16 = 31
+
+-- the numbers of a text's end: whether a terminator was found, and how many bytes there are before the end
+abbrev pub endNumbers : TextEnd → List ℕ
+endNumbers (Terminated n) = truthNumber true ∷ n ∷ []
+endNumbers (Unterminated n) = truthNumber false ∷ n ∷ []
+
+-- document 01's number and values of a leaf's answer: 0, then the tape's kind and what the value holds; of a text its decoder and its end; or
+-- the refusal
+unfoldable pub leafNumbers : LeafValue → List ℕ
+leafNumbers (leaf.Signed w b) = 0 ∷ integerNumbers (integer.Signed w b)
+leafNumbers (leaf.Unsigned w n) = 0 ∷ integerNumbers (integer.Unsigned w n)
+leafNumbers (leaf.Bool b) = 0 ∷ 6 ∷ truthNumber b ∷ []
+leafNumbers (leaf.Single x) = 0 ∷ realNumbers (real.Single x)
+leafNumbers (leaf.Double x) = 0 ∷ realNumbers (real.Double x)
+leafNumbers (leaf.NanSingle n) = 0 ∷ realNumbers (real.NanSingle n)
+leafNumbers (leaf.NanDouble n) = 0 ∷ realNumbers (real.NanDouble n)
+leafNumbers (leaf.Text d e) = 0 ∷ 11 ∷ decoderNumber d ∷ endNumbers e
+leafNumbers (leaf.Entry n) = 0 ∷ 12 ∷ n ∷ []
+leafNumbers leaf.Unit = 0 ∷ 13 ∷ []
+leafNumbers (leaf.Refused n) = n ∷ []
 
 -- how the categories are read; a struct, union, function block or array is no leaf, an alias was resolved, programs and functions never arise
 abbrev pub kindOfLeaf : AdsTypeCategory → LeafKind
@@ -66,16 +93,16 @@ abbrev pub valueLeaf : Integer → LeafValue
 valueLeaf (integer.Signed w b) = leaf.Signed w b
 valueLeaf (integer.Unsigned w n) = leaf.Unsigned w n
 
--- 11 for an id that is no integer's, 10 for another size
-abbrev pub integerLeaf : IntegerRead → LeafValue
+-- the integer that was read, or the integer reader's refusal
+unfoldable pub integerLeaf : IntegerRead → LeafValue
 integerLeaf (read.Value v) = valueLeaf v
-integerLeaf read.Size = leaf.Refused 10
-integerLeaf read.Unsupported = leaf.Refused 11
+integerLeaf read.Size = leaf.Refused (refusalOf (integerReadNumbers read.Size))
+integerLeaf read.Unsupported = leaf.Refused (refusalOf (integerReadNumbers read.Unsupported))
 
--- a real's value, or 10 for another size; the other answer for an id that is no real's
-abbrev pub realOr : RealRead → LeafValue → LeafValue
+-- the real that was read, or the real reader's refusal of its size; the other answer for an id that is no real's
+unfoldable pub realOr : RealRead → LeafValue → LeafValue
 realOr (realRead.Value v) other = realLeaf v
-realOr realRead.Size other = leaf.Refused 10
+realOr realRead.Size other = leaf.Refused (refusalOf (realReadNumbers realRead.Size))
 realOr realRead.Unsupported other = other
 
 -- by the type's id alone: Bit (33), a real, an integer, else 11
@@ -91,28 +118,24 @@ pointerLeaf width mem =
     (cond (eqb width 4) (integerLeaf (readInteger UInt32 mem))
     (cond (eqb width 8) (integerLeaf (readInteger UInt64 mem)) (leaf.Refused 13)))
 
--- the number of bytes before a text's end, whether or not a terminator was found
-abbrev pub endOf : TextEnd → ℕ
-endOf (Terminated n) = n
-endOf (Unterminated n) = n
+-- id 31 is a WSTRING, in UTF-16; else it is a STRING, in Windows-1252
+unfoldable pub decoderOf : List ℕ → ℕ → Decoder
+decoderOf book t = cond (eqb (typeIdOf book t) 31) decoder.Utf16 decoder.Windows1252
 
--- 10 unless the bytes are as many as the type says; id 31 is a WSTRING
+-- 10 unless the bytes are as many as the type says; then the text's decoder and its end
 unfoldable pub textLeaf : List ℕ → ℕ → List ℕ → LeafValue
-textLeaf book t mem =
-    cond (eqb (length mem) (sizeOf book t))
-    (cond (eqb (typeIdOf book t) 31) (leaf.WideText (endOf (wstringEnd mem))) (leaf.Text (endOf (stringEnd mem))))
-    (leaf.Refused 10)
+textLeaf book t mem = cond (eqb (length mem) (sizeOf book t)) (leaf.Text (decoderOf book t) (endBy (decoderOf book t) mem)) (leaf.Refused 10)
 
 -- the first of the k entries from block n on whose value is these bytes
 unfoldable pub entryFrom : List ℕ → List ℕ → ℕ → ℕ → Found
 entryFrom book mem n zero = Nothing
 entryFrom book mem n (suc k) = cond (sameName (valueOf book n) mem) (At n) (entryFrom book mem (n + 1) k)
 
--- bytes that no entry has: the integer reader's 11 or 10, else 12
-abbrev pub unlisted : IntegerRead → LeafValue
+-- bytes that no entry has: the integer reader's refusal, else 12
+unfoldable pub unlisted : IntegerRead → LeafValue
 unlisted (read.Value v) = leaf.Refused 12
-unlisted read.Size = leaf.Refused 10
-unlisted read.Unsupported = leaf.Refused 11
+unlisted read.Size = leaf.Refused (refusalOf (integerReadNumbers read.Size))
+unlisted read.Unsupported = leaf.Refused (refusalOf (integerReadNumbers read.Unsupported))
 
 -- the entry that was found, else the other answer
 abbrev pub entryOr : Found → LeafValue → LeafValue
@@ -127,14 +150,18 @@ enumLeaf book t mem =
     (leaf.Refused 10)
 
 -- the value of resolved type t in some bytes, by how it is read; what is no leaf is 11
-unfoldable pub leafBy : List ℕ → ℕ → ℕ → List ℕ → LeafKind → LeafValue
-leafBy book width t mem kind.Number = numberLeaf book t mem
-leafBy book width t mem kind.Text = textLeaf book t mem
-leafBy book width t mem kind.Enum = enumLeaf book t mem
-leafBy book width t mem kind.Pointer = pointerLeaf width mem
-leafBy book width t mem kind.Unit = leaf.Unit
-leafBy book width t mem kind.None = leaf.Refused 11
+unfoldable pub kindLeaf : List ℕ → ℕ → ℕ → List ℕ → LeafKind → LeafValue
+kindLeaf book width t mem kind.Number = numberLeaf book t mem
+kindLeaf book width t mem kind.Text = textLeaf book t mem
+kindLeaf book width t mem kind.Enum = enumLeaf book t mem
+kindLeaf book width t mem kind.Pointer = pointerLeaf width mem
+kindLeaf book width t mem kind.Unit = leaf.Unit
+kindLeaf book width t mem kind.None = leaf.Refused 11
+
+-- the value of resolved type t, of a category, in some bytes
+unfoldable pub leafBy : List ℕ → ℕ → ℕ → AdsTypeCategory → List ℕ → LeafValue
+leafBy book width t c mem = kindLeaf book width t mem (kindOfLeaf c)
 
 -- the value of resolved type t in some bytes
 unfoldable pub leafAt : List ℕ → ℕ → ℕ → List ℕ → LeafValue
-leafAt book width t mem = leafBy book width t mem (kindOfLeaf (categoryOf book width t))
+leafAt book width t mem = leafBy book width t (categoryOf book width t) mem

@@ -2,7 +2,7 @@
 ghost use mathlib.Core.Path.{_≡_};
 ghost use Prim.Native.Nat.{_+_, _<_};
 ghost use Rattle.typebook.specs.Book.{fieldsOf, entriesOf};
-ghost use Rattle.leaves.specs.Leaf.{kindOfLeaf, boolLeaf, realLeaf, integerLeaf, numberLeaf, pointerLeaf, textLeaf, unlisted, enumLeaf, leafBy, leafAt};
+ghost use Rattle.leaves.specs.Leaf.{leafNumbers, kindOfLeaf, boolLeaf, realLeaf, integerLeaf, numberLeaf, pointerLeaf, decoderOf, textLeaf, unlisted, enumLeaf, leafBy};
 use crate::enum_access::find_entry;
 use float::Real;
 use float::RealRead;
@@ -10,6 +10,8 @@ use float::real_from_le_slice;
 use integer::Integer;
 use integer::IntegerRead;
 use integer::try_from_le_slice;
+use text_decoder::Decoder;
+use text_decoder::text_end;
 use type_category::type_category::AdsTypeCategory;
 use type_id::AdsTypeId;
 use type_provider::Found;
@@ -25,9 +27,8 @@ pub enum LeafValue {
     Double(f64),
     NanSingle(u32),
     NanDouble(u64),
-    // A STRING or WSTRING: the number of bytes before its end.
-    Text(usize),
-    WideText(usize),
+    // A STRING or WSTRING: its decoder, and what the search for its end told.
+    Text(Decoder, TextEnd),
     // An enum entry's block.
     Entry(u32),
     Unit,
@@ -134,6 +135,16 @@ fn pointer_leaf(width: u8, bytes: &[u8]) -> LeafValue
     LeafValue::Refused(13)
 }
 
+// A WSTRING is UTF-16, a STRING is Windows-1252.
+fn decoder_of(book: &[u8], t: u32) -> Decoder
+    ensures { λ r. ⌜ r ≡ decoderOf (now (book .entry)) t ⌝ }
+{
+    if typebook::block::type_id(book, t).to_u32() == 31 {
+        return Decoder::Utf16;
+    }
+    Decoder::Windows1252
+}
+
 // A STRING or WSTRING up to its terminator.
 fn text_leaf(book: &[u8], t: u32, bytes: &[u8]) -> LeafValue
     ensures { λ r. ⌜ r ≡ textLeaf (now (book .entry)) t (now (bytes .entry)) ⌝ }
@@ -141,18 +152,9 @@ fn text_leaf(book: &[u8], t: u32, bytes: &[u8]) -> LeafValue
     if bytes.len() != typebook::block::size(book, t) as usize {
         return LeafValue::Refused(10);
     }
-    if typebook::block::type_id(book, t).to_u32() == 31 {
-        let end = utf_16::wstring_end(bytes);
-        return match end {
-            TextEnd::Terminated(n) => LeafValue::WideText(n),
-            TextEnd::Unterminated(n) => LeafValue::WideText(n),
-        };
-    }
-    let end = windows_1252::string_end(bytes);
-    match end {
-        TextEnd::Terminated(n) => LeafValue::Text(n),
-        TextEnd::Unterminated(n) => LeafValue::Text(n),
-    }
+    let decoder = decoder_of(book, t);
+    let end = text_end(decoder, bytes);
+    LeafValue::Text(decoder, end)
 }
 
 // An enum's bytes that no entry has.
@@ -188,7 +190,7 @@ fn enum_leaf(book: &[u8], t: u32, bytes: &[u8]) -> LeafValue
 // The value of resolved type t in `bytes`, where t's category is known.
 pub fn leaf_by(book: &[u8], width: u8, t: u32, category: AdsTypeCategory, bytes: &[u8]) -> LeafValue
     requires { ⌜ t + fieldsOf (now book) t + entriesOf (now book) t < 65536 ⌝ }
-    ensures { λ r. ⌜ r ≡ leafBy (now (book .entry)) width t (now (bytes .entry)) (kindOfLeaf category) ⌝ }
+    ensures { λ r. ⌜ leafNumbers r ≡ leafNumbers (leafBy (now (book .entry)) width t category (now (bytes .entry))) ⌝ }
 {
     let kind = kind_of(category);
     match kind {
@@ -199,18 +201,4 @@ pub fn leaf_by(book: &[u8], width: u8, t: u32, category: AdsTypeCategory, bytes:
         LeafKind::Unit => LeafValue::Unit,
         LeafKind::None => LeafValue::Refused(11),
     }
-}
-
-// The value of resolved type t in `bytes`.
-pub fn leaf_in(book: &[u8], width: u8, t: u32, bytes: &[u8]) -> LeafValue
-    requires { ⌜ t + fieldsOf (now book) t + entriesOf (now book) t < 65536 ⌝ }
-    ensures { λ r. ⌜ r ≡ leafAt (now (book .entry)) width t (now (bytes .entry)) ⌝ }
-{
-    leaf_by(
-        book,
-        width,
-        t,
-        AdsTypeCategory::determine(book, width, t),
-        bytes,
-    )
 }

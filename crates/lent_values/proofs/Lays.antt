@@ -29,16 +29,16 @@ three (x ∷ []) a b c = refl
 three (x ∷ y ∷ []) a b c = refl
 three (x ∷ y ∷ z ∷ v) a b c = refl
 
-pub laid-one : (n a : ℕ) (v : List ℕ) {v₁ : List ℕ} → v₁ ≡ set v 0 a → Gives n (a ∷ []) v n v₁
+pub laid-one : (n a : ℕ) (v : List ℕ) {v₁ : List ℕ} → v₁ ≡ set v 0 a → Gives (n ∷ a ∷ []) v n v₁
 laid-one n a v e₁ = record { is = refl; values = e₁ ∙ one v a }
 
-pub laid-two : (a b : ℕ) (v : List ℕ) {v₁ v₂ : List ℕ} → v₁ ≡ set v 0 a → v₂ ≡ set v₁ 1 b → Gives 0 (a ∷ b ∷ []) v 0 v₂
+pub laid-two : (a b : ℕ) (v : List ℕ) {v₁ v₂ : List ℕ} → v₁ ≡ set v 0 a → v₂ ≡ set v₁ 1 b → Gives (0 ∷ a ∷ b ∷ []) v 0 v₂
 laid-two a b v e₁ e₂ = record { is = refl; values = e₂ ∙ ap (λ w. set w 1 b) e₁ ∙ two v a b }
 
-pub laid-three : (a b c : ℕ) (v : List ℕ) {v₁ v₂ v₃ : List ℕ} → v₁ ≡ set v 0 a → v₂ ≡ set v₁ 1 b → v₃ ≡ set v₂ 2 c → Gives 0 (a ∷ b ∷ c ∷ []) v 0 v₃
+pub laid-three : (a b c : ℕ) (v : List ℕ) {v₁ v₂ v₃ : List ℕ} → v₁ ≡ set v 0 a → v₂ ≡ set v₁ 1 b → v₃ ≡ set v₂ 2 c → Gives (0 ∷ a ∷ b ∷ c ∷ []) v 0 v₃
 laid-three a b c v e₁ e₂ e₃ = record { is = refl; values = e₃ ∙ ap (λ w. set w 2 c) (e₂ ∙ ap (λ w. set w 1 b) e₁) ∙ three v a b c }
 
 -- a refusal without a value
-pub none : (n : ℕ) (before : List ℕ) → Gives n [] before n before
+pub none : (n : ℕ) (before : List ℕ) → Gives (n ∷ []) before n before
 unfolding laid
 none n before = record { is = refl; values = refl }

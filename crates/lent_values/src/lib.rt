@@ -16,7 +16,7 @@ fn put(values: &mut [u64], i: usize, a: u64)
 
 // Nothing is refused, and there is one value.
 pub fn done_1(values: &mut [u64], only: u64) -> u8
-    ensures { λ r. ⌜ Gives 0 (only ∷ []) (now (values .entry)) r (now (values .exit)) ⌝ }
+    ensures { λ r. ⌜ Gives (0 ∷ only ∷ []) (now (values .entry)) r (now (values .exit)) ⌝ }
 {
     put(values, 0, only);
     0
@@ -24,7 +24,7 @@ pub fn done_1(values: &mut [u64], only: u64) -> u8
 
 // The same with two values.
 pub fn done_2(values: &mut [u64], first: u64, second: u64) -> u8
-    ensures { λ r. ⌜ Gives 0 (first ∷ second ∷ []) (now (values .entry)) r (now (values .exit)) ⌝ }
+    ensures { λ r. ⌜ Gives (0 ∷ first ∷ second ∷ []) (now (values .entry)) r (now (values .exit)) ⌝ }
 {
     put(values, 0, first);
     put(values, 1, second);
@@ -33,7 +33,7 @@ pub fn done_2(values: &mut [u64], first: u64, second: u64) -> u8
 
 // The same with three values.
 pub fn done_3(values: &mut [u64], a: u64, b: u64, c: u64) -> u8
-    ensures { λ r. ⌜ Gives 0 (a ∷ b ∷ c ∷ []) (now (values .entry)) r (now (values .exit)) ⌝ }
+    ensures { λ r. ⌜ Gives (0 ∷ a ∷ b ∷ c ∷ []) (now (values .entry)) r (now (values .exit)) ⌝ }
 {
     put(values, 0, a);
     put(values, 1, b);
@@ -43,7 +43,7 @@ pub fn done_3(values: &mut [u64], a: u64, b: u64, c: u64) -> u8
 
 // 7, with the block whose type name is not in the book.
 pub fn lacks(values: &mut [u64], block: u32) -> u8
-    ensures { λ r. ⌜ Gives 7 (block ∷ []) (now (values .entry)) r (now (values .exit)) ⌝ }
+    ensures { λ r. ⌜ Gives (7 ∷ block ∷ []) (now (values .entry)) r (now (values .exit)) ⌝ }
 {
     put(values, 0, block as u64);
     7

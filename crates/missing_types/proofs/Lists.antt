@@ -8,7 +8,7 @@ use native.Mathlib.Numerals.{add-one}
 use lib.ListN.{length, take, drop, set, take-append-drop, length-set}
 use lib.Seq.{take-suc-set, drop-set-lt, drop-drop, length-take-le}
 use Rattle.resolvers.specs.declared.Resolved.{Resolved}
-use Rattle.resolvers.specs.declared.Resolved.the-variants.{Base, Lacks, Endless}
+use Rattle.resolvers.specs.declared.Resolved.the-variants.{Base, Lacks, TooLong}
 use Rattle.type_category.specs.declared.type_category.AdsTypeCategory.{AdsTypeCategory}
 use Rattle.events.specs.declared.Event.{Event}
 use Rattle.events.specs.declared.Event.the-variants.{Old, Lacking, New, Long, Full}
@@ -46,7 +46,7 @@ module _ {w next : Walk} {b c : ℕ} {x : List ℕ} (e : w ≡ met b x (Lacks c)
   unfolding whole
   whole-lacking = ap whole e
 
-module _ {w next : Walk} {b : ℕ} {x : List ℕ} (e : w ≡ met b x Endless next) where
+module _ {w next : Walk} {b : ℕ} {x : List ℕ} (e : w ≡ met b x TooLong next) where
   listed-long : listed w ≡ listed next
   unfolding listed
   listed-long = ap listed e

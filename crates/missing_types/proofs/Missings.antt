@@ -13,7 +13,7 @@ use Rattle.type_provider.specs.Find.{find}
 use Rattle.book_check.specs.Check.{ValidBook}
 use Rattle.book_check.proofs.Valid.{valid-own}
 use Rattle.resolvers.specs.declared.Resolved.{Resolved}
-use Rattle.resolvers.specs.declared.Resolved.the-variants.{Base, Lacks, Endless}
+use Rattle.resolvers.specs.declared.Resolved.the-variants.{Base, Lacks, TooLong}
 use Rattle.resolvers.specs.Resolve.{isFollowed, onward, follow, resolveAlias}
 use Rattle.resolvers.proofs.Chains.{follow-none, follow-base, follow-on, follow-lacks, follow-breaks}
 use Rattle.walks.specs.Walk.{Walk, over, full, met, comesTo, push, meet, walk, walkOf}
@@ -21,7 +21,6 @@ use Rattle.walks.specs.Reads.{names, listed, whole}
 use Rattle.walks.specs.Reached.{Reached, Needed, reached, chain}
 use Rattle.walks.proofs.Goes.{Goes, none, old, fresh, stop, goes}
 use Rattle.walks.proofs.Reach.{whole-rest, met-is-reached, reached-met, reached-found}
-use Rattle.missing_types.specs.Calls.{missingRefusal, missingAnswer}
 use Rattle.missing_types.specs.Needs.{Lacking, Unresolved, Listing, Defined}
 
 different : {X : Type 0} → _≡_ {A = ℕ} 0 1 → X
@@ -69,7 +68,7 @@ listed-cases : (c b : ℕ) (x : List ℕ) (f : Resolved) (w : Walk) {X : Type 0}
 unfolding listed
 listed-cases c b x (Base t) w m p q = q m
 listed-cases c b x (Lacks d) w m p q = ⊎-elim (λ e. p (ap Lacks (sym e))) q (List·Memᴰ·cases-cons m)
-listed-cases c b x Endless w m p q = q m
+listed-cases c b x TooLong w m p q = q m
 
 over-none : (c : ℕ) → List·Memᴰ c (listed over) → ⊥
 unfolding listed
@@ -83,7 +82,7 @@ listed-rest : (c b : ℕ) (x : List ℕ) (f : Resolved) (w : Walk) → List·Mem
 unfolding listed
 listed-rest c b x (Base t) w m = m
 listed-rest c b x (Lacks d) w m = List·Memᴰ·tail m
-listed-rest c b x Endless w m = m
+listed-rest c b x TooLong w m = m
 
 listed-here : (c b : ℕ) (x : List ℕ) (f : Resolved) (w : Walk) → f ≡ Lacks c → List·Memᴰ c (listed (met b x f w))
 unfolding listed
@@ -201,10 +200,3 @@ module _ (book : List ℕ) (width root : ℕ) (h : whole (walkOf book width root
       (λ o. let z : find book y ≡ At root = valid-own book v root t in let n : find book y ≡ Nothing = ap (find book) (sym o) ∙ q in different cc)
       (λ n. rest-listing book width root y f w x (goes-listing book width (goes book width 4095 (y ∷ []) _) (whole-rest root y f w h) x n q))
       (List·Memᴰ·cases-cons (reached-met book width root h r))
-
--- ---- the answer's number
-
--- `missing_types` is not refused after 1 to 6
-pub missing-number : (book : List ℕ) (width t : ℕ) → missingRefusal (missingAnswer true book width t) ≡ 0
-unfolding missingAnswer
-missing-number book width t = refl

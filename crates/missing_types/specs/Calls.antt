@@ -2,21 +2,22 @@
 -- Assumes nothing.
 use mathlib.Core.Path.{_≡_}
 use mathlib.Core.Bool.{Bool, true, false, cond, _&&_}
-use mathlib.Core.List.{List, _++_}
+use mathlib.Core.List.{List, [], _∷_, _++_}
 use Prim.Native.Nat.{ℕ}
 use lib.ListN.{length, take, drop}
-use Rattle.book_check.specs.Check.{checkRoot}
-use Rattle.resolvers.specs.Calls.{atRoot}
+use Rattle.number.specs.Answer.{truthNumber}
+use Rattle.book_check.specs.Check.{checkRoot, atRoot}
 use Rattle.walks.specs.Walk.{walkOf}
 use Rattle.walks.specs.Reads.{count, listed, whole}
 use Rattle.walks.specs.Scratch.{scratchFits, listFits, zeroed}
 use Rattle.missing_types.specs.declared.Missing.{Missing}
 use Rattle.missing_types.specs.declared.Missing.the-variants as missing
 
--- document 01's number of what `missing_types` answers, 0 where nothing is refused
-abbrev pub missingRefusal : Missing → ℕ
-missingRefusal (missing.Listed n w c) = 0
-missingRefusal (missing.Refused n) = n
+-- document 01's number and values of what `missing_types` answers: 0 and how many blocks are listed, the mark "whole" as 1 or 0 and how many
+-- distinct names were met, or the refusal
+unfoldable pub missingNumbers : Missing → List ℕ
+missingNumbers (missing.Listed n whole count) = 0 ∷ n ∷ truthNumber whole ∷ count ∷ []
+missingNumbers (missing.Refused n) = n ∷ []
 
 -- how many blocks are listed, the mark "whole", and the number of distinct names met
 unfoldable pub missingAnswer : Bool → List ℕ → ℕ → ℕ → Missing
@@ -36,12 +37,17 @@ pub record Walked (book : List ℕ) (width t : ℕ) (list : List ℕ) (r : Missi
 
 -- what is answered, and what scratch and list hold then, for type block t of a valid book
 pub record MissingIn (fits : Bool) (book : List ℕ) (width t : ℕ) (sc list : List ℕ) (r : Missing) (sc′ list′ : List ℕ) : Type 0 where
-  pub answer : r ≡ missingAnswer fits book width t
+  pub answer : missingNumbers r ≡ missingNumbers (missingAnswer fits book width t)
   pub scratch : sc′ ≡ cond fits (zeroed sc) sc
   pub blocks : list′ ≡ missingList fits book width t list
 
+-- the answer for a book in a buffer and a root: 1 to 5 first
+unfoldable pub missingCall : List ℕ → ℕ → ℕ → ℕ → List ℕ → List ℕ → Missing
+missingCall buffer len width root sc list =
+    atRoot missing.Refused (λ t. missingAnswer (scratchFits sc && listFits list) (take len buffer) width t) (checkRoot buffer len root)
+
 -- the same for a book in a buffer and a root: 1 to 6 leave scratch and list as they were
 pub record MissingIs (buffer : List ℕ) (len width root : ℕ) (sc list : List ℕ) (r : Missing) (sc′ list′ : List ℕ) : Type 0 where
-  pub answer : r ≡ atRoot missing.Refused (λ t. missingAnswer (scratchFits sc && listFits list) (take len buffer) width t) (checkRoot buffer len root)
+  pub answer : missingNumbers r ≡ missingNumbers (missingCall buffer len width root sc list)
   pub scratch : sc′ ≡ atRoot (λ n. sc) (λ t. cond (scratchFits sc && listFits list) (zeroed sc) sc) (checkRoot buffer len root)
   pub blocks : list′ ≡ atRoot (λ n. list) (λ t. missingList (scratchFits sc && listFits list) (take len buffer) width t list) (checkRoot buffer len root)

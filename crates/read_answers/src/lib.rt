@@ -1,12 +1,13 @@
 // What a read answers, as a number and values.
-ghost use Rattle.read_answers.specs.Answers.{ReadAs};
+ghost use Rattle.steps.specs.Answer.{readNumbers};
+ghost use Rattle.lent_values.specs.Values.{Gives};
 use lent_values::done_2;
 use lent_values::lacks;
 use steps::ReadAnswer;
 
 // The numbers of records and of text bytes, 7 with its block, or another refusal.
 pub fn give_read(answer: ReadAnswer, values: &mut [u64]) -> u8
-    ensures { λ r. ⌜ ReadAs answer (now (values .entry)) r (now (values .exit)) ⌝ }
+    ensures { λ r. ⌜ Gives (readNumbers answer) (now (values .entry)) r (now (values .exit)) ⌝ }
 {
     match answer {
         ReadAnswer::Done(n, m) => done_2(values, n as u64, m as u64),

@@ -6,7 +6,7 @@ use Prim.Native.Nat.{ℕ, _+_, _-_, _≤_, _<_}
 use native.Mathlib.Omega.{arith}
 use Rattle.type_category.specs.declared.type_category.AdsTypeCategory.{AdsTypeCategory}
 use Rattle.type_category.specs.Category.{categoryOf}
-use Rattle.resolvers.specs.declared.Resolved.the-variants.{Base, Lacks, Endless}
+use Rattle.resolvers.specs.declared.Resolved.the-variants.{Base, Lacks, TooLong}
 use Rattle.events.specs.declared.Event.{Event}
 use Rattle.events.specs.declared.Event.the-variants.{Old, Lacking, New, Long, Full}
 use Rattle.walks.specs.Walk.{Walk, full, met, walkOf}
@@ -35,7 +35,7 @@ module _ (book : List ℕ) (width : ℕ) {w next : Walk} {b : ℕ} {x : List ℕ
   unfolding rmwOf
   rmw-lacking e = ap (rmwOf book width) e
 
-  rmw-long : w ≡ met b x Endless next → rmwOf book width w ≡ rmw.Refused 8
+  rmw-long : w ≡ met b x TooLong next → rmwOf book width w ≡ rmw.Refused 8
   unfolding rmwOf
   rmw-long e = ap (rmwOf book width) e
 

@@ -2,23 +2,23 @@
 -- Assumes nothing.
 use mathlib.Core.Path.{_≡_}
 use mathlib.Core.Bool.{Bool, true, false, cond}
-use mathlib.Core.List.{List}
+use mathlib.Core.List.{List, [], _∷_}
 use Prim.Native.Nat.{ℕ}
 use lib.ListN.{take}
-use Rattle.book_check.specs.Check.{checkRoot}
-use Rattle.resolvers.specs.Calls.{atRoot}
+use Rattle.number.specs.Answer.{truthNumber}
+use Rattle.book_check.specs.Check.{checkRoot, atRoot}
 use Rattle.walks.specs.Walk.{walkOf}
 use Rattle.walks.specs.Scratch.{scratchFits, zeroed}
 use Rattle.read_modify_write.specs.declared.Rmw.{Rmw}
 use Rattle.read_modify_write.specs.declared.Rmw.the-variants as rmw
 use Rattle.read_modify_write.specs.Reads.{rmwOf}
 
--- document 01's number of an answer, 0 where nothing is refused; 7 comes with the block that `NotFound` carries
-abbrev pub rmwRefusal : Rmw → ℕ
-rmwRefusal rmw.Yes = 0
-rmwRefusal rmw.No = 0
-rmwRefusal (rmw.NotFound b) = 7
-rmwRefusal (rmw.Refused n) = n
+-- document 01's number and value of an answer: 0 and 1 for yes or 0 for no, 7 and the block whose type name is not found, or another refusal
+unfoldable pub rmwNumbers : Rmw → List ℕ
+rmwNumbers rmw.Yes = 0 ∷ truthNumber true ∷ []
+rmwNumbers rmw.No = 0 ∷ truthNumber false ∷ []
+rmwNumbers (rmw.NotFound b) = 7 ∷ b ∷ []
+rmwNumbers (rmw.Refused n) = n ∷ []
 
 -- the answer for type block t of a valid book, where the scratch fits or not
 unfoldable pub rmwAnswer : Bool → List ℕ → ℕ → ℕ → Rmw
@@ -27,10 +27,14 @@ rmwAnswer false book width t = rmw.Refused 6
 
 -- what is answered, and what the scratch holds then, for type block t of a valid book
 pub record RmwIn (fits : Bool) (book : List ℕ) (width t : ℕ) (sc : List ℕ) (r : Rmw) (sc′ : List ℕ) : Type 0 where
-  pub answer : r ≡ rmwAnswer fits book width t
+  pub answer : rmwNumbers r ≡ rmwNumbers (rmwAnswer fits book width t)
   pub scratch : sc′ ≡ cond fits (zeroed sc) sc
+
+-- the answer for a book in a buffer and a root: 1 to 5 first
+unfoldable pub rmwCall : List ℕ → ℕ → ℕ → ℕ → List ℕ → Rmw
+rmwCall buffer len width root sc = atRoot rmw.Refused (λ t. rmwAnswer (scratchFits sc) (take len buffer) width t) (checkRoot buffer len root)
 
 -- the same for a book in a buffer and a root: 1 to 6 leave the scratch as it was
 pub record RmwIs (buffer : List ℕ) (len width root : ℕ) (sc : List ℕ) (r : Rmw) (sc′ : List ℕ) : Type 0 where
-  pub answer : r ≡ atRoot rmw.Refused (λ t. rmwAnswer (scratchFits sc) (take len buffer) width t) (checkRoot buffer len root)
+  pub answer : rmwNumbers r ≡ rmwNumbers (rmwCall buffer len width root sc)
   pub scratch : sc′ ≡ atRoot (λ n. sc) (λ t. cond (scratchFits sc) (zeroed sc) sc) (checkRoot buffer len root)

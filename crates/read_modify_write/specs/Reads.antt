@@ -5,7 +5,7 @@ use Prim.Native.Nat.{ℕ}
 use Rattle.type_category.specs.declared.type_category.AdsTypeCategory.{AdsTypeCategory}
 use Rattle.type_category.specs.declared.type_category.AdsTypeCategory.the-variants as category
 use Rattle.type_category.specs.Category.{categoryOf}
-use Rattle.resolvers.specs.declared.Resolved.the-variants.{Base, Lacks, Endless}
+use Rattle.resolvers.specs.declared.Resolved.the-variants.{Base, Lacks, TooLong}
 use Rattle.walks.specs.Walk.{Walk, over, full, met}
 use Rattle.read_modify_write.specs.declared.Rmw.{Rmw}
 use Rattle.read_modify_write.specs.declared.Rmw.the-variants as rmw
@@ -35,4 +35,4 @@ rmwOf book width over = rmw.No
 rmwOf book width (full b x) = rmw.Refused 9
 rmwOf book width (met b x (Base t) w) = cond (keepsState (categoryOf book width t)) rmw.Yes (rmwOf book width w)
 rmwOf book width (met b x (Lacks c) w) = rmw.NotFound c
-rmwOf book width (met b x Endless w) = rmw.Refused 8
+rmwOf book width (met b x TooLong w) = rmw.Refused 8

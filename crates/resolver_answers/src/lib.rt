@@ -1,5 +1,8 @@
 // What the resolvers answer, as a number and values.
-ghost use Rattle.resolver_answers.specs.Answers.{ResolvedAs, ResolutionAs, FieldsAs};
+ghost use Rattle.resolvers.specs.Resolve.{resolvedNumbers};
+ghost use Rattle.resolvers.specs.Calls.{resolutionNumbers};
+ghost use Rattle.field_types.specs.Calls.{fieldsNumbers};
+ghost use Rattle.lent_values.specs.Values.{Gives};
 use field_types::FieldsAnswer;
 use lent_values::done_1;
 use lent_values::lacks;
@@ -8,18 +11,18 @@ use resolvers::Resolved;
 
 // The block that a chain in a checked book ends at, 7 with its block, or 8.
 pub fn give_resolved(answer: Resolved, values: &mut [u64]) -> u8
-    ensures { λ r. ⌜ ResolvedAs answer (now (values .entry)) r (now (values .exit)) ⌝ }
+    ensures { λ r. ⌜ Gives (resolvedNumbers answer) (now (values .entry)) r (now (values .exit)) ⌝ }
 {
     match answer {
         Resolved::Base(b) => done_1(values, b as u64),
         Resolved::Lacks(b) => lacks(values, b),
-        Resolved::Endless => 8,
+        Resolved::TooLong => 8,
     }
 }
 
 // The block that the root comes to, 7 with its block, or another refusal.
 pub fn give_resolution(answer: Resolution, values: &mut [u64]) -> u8
-    ensures { λ r. ⌜ ResolutionAs answer (now (values .entry)) r (now (values .exit)) ⌝ }
+    ensures { λ r. ⌜ Gives (resolutionNumbers answer) (now (values .entry)) r (now (values .exit)) ⌝ }
 {
     match answer {
         Resolution::Block(b) => done_1(values, b as u64),
@@ -30,7 +33,7 @@ pub fn give_resolution(answer: Resolution, values: &mut [u64]) -> u8
 
 // The number of fields, 7 with its block, or another refusal.
 pub fn give_fields(answer: FieldsAnswer, values: &mut [u64]) -> u8
-    ensures { λ r. ⌜ FieldsAs answer (now (values .entry)) r (now (values .exit)) ⌝ }
+    ensures { λ r. ⌜ Gives (fieldsNumbers answer) (now (values .entry)) r (now (values .exit)) ⌝ }
 {
     match answer {
         FieldsAnswer::Done(n) => done_1(values, n as u64),

@@ -8,7 +8,7 @@ use borrow.Author.Tests.{not-true, not-false}
 use Rattle.type_provider.specs.declared.Found.{Found}
 use Rattle.type_provider.specs.declared.Found.the-variants.{At, Nothing}
 use Rattle.typebook.specs.Book.{isType, typeNameOf}
-use Rattle.type_provider.specs.Find.{find}
+use Rattle.type_provider.specs.Find.{find, foundNumbers}
 use Rattle.type_index.specs.Index.{FoundBy}
 use Rattle.type_provider.proofs.Finds.{find-named, named-kind}
 use Rattle.type_category.specs.declared.type_category.AdsTypeCategory.{AdsTypeCategory}
@@ -17,7 +17,8 @@ use Rattle.type_category.specs.Category.{categoryOf}
 use Rattle.book_check.specs.Check.{ValidBook}
 use Rattle.book_check.proofs.Valid.{valid-unique}
 use Rattle.resolvers.specs.declared.Resolved.{Resolved}
-use Rattle.resolvers.specs.declared.Resolved.the-variants.{Base, Lacks, Endless}
+use Rattle.resolvers.specs.declared.Resolved.the-variants.{Base, Lacks, TooLong}
+use Rattle.resolvers.proofs.Numbers.{resolved-is, resolved-says}
 use Rattle.resolvers.specs.Resolve.{goesOn, isFollowed, onward, follow, resolveAlias, lookUp, ResolvedIs, LookedUp}
 
 -- ---- the categories that are followed
@@ -58,7 +59,7 @@ followed-is references book width n c e r h = h ∙ rw e
 -- ---- one look-up of a chain
 
 module _ (goes : ℕ → Bool) (book : List ℕ) where
-  pub follow-none : (t : ℕ) → follow goes book 0 t ≡ Endless
+  pub follow-none : (t : ℕ) → follow goes book 0 t ≡ TooLong
   unfolding follow
   follow-none t = refl
 
@@ -135,8 +136,8 @@ alias-breaks book width t c e = followed-alias book width c (follow-breaks (isFo
 
 -- ---- the look-up by an index, in a valid book
 
-pub found-is : (book : List ℕ) → ValidBook book → (name : List ℕ) (f : Found) → FoundBy book name f → f ≡ find book name
-found-is book v name f ef = ef .unique (valid-unique book v)
+pub found-valid : (book : List ℕ) → ValidBook book → (name : List ℕ) (f : Found) → FoundBy book name f → foundNumbers f ≡ foundNumbers (find book name)
+found-valid book v name f ef = ef .unique (valid-unique book v)
 
 pub found-typed : (book : List ℕ) (b : ℕ) (f : Found) → f ≡ find book (typeNameOf book b) → (u : ℕ) → f ≡ At u → isType book u ≡ true
 found-typed book b f ef u h = found-type book (typeNameOf book b) u (sym ef ∙ h)
@@ -145,11 +146,11 @@ found-typed book b f ef u h = found-type book (typeNameOf book b) u (sym ef ∙ 
 
 module _ (references : Bool) (book : List ℕ) (width : ℕ) (whole : Resolved) (at left : ℕ)
     (inv : whole ≡ follow (isFollowed references book width) book left at) where
-  pub chain-end : left ≤ 0 → ResolvedIs book whole Endless
+  pub chain-end : left ≤ 0 → ResolvedIs book whole TooLong
   chain-end h =
       let z : left ≡ 0 = omega arith in
       record {
-        is = sym (inv ∙ rw z (follow-none (isFollowed references book width) book at));
+        is = resolved-says _ _ (sym (inv ∙ rw z (follow-none (isFollowed references book width) book at)));
         typed = λ u e. absurd (let z : _≡_ {A = ℕ} 0 1 = cc in omega arith);
       }
 
@@ -160,7 +161,7 @@ module _ (references : Bool) (book : List ℕ) (width : ℕ) (whole : Resolved) 
     pub chain-base : not g ≡ true → isType book at ≡ true → ResolvedIs book whole (Base at)
     chain-base h y =
         record {
-          is = sym (turn ∙ follow-base (isFollowed references book width) book (left - 1) at (sym eg ∙ not-true g h));
+          is = resolved-says _ _ (sym (turn ∙ follow-base (isFollowed references book width) book (left - 1) at (sym eg ∙ not-true g h)));
           typed = λ u e. let q : at ≡ u = cc in rw (← q) y;
         }
 
@@ -171,7 +172,7 @@ module _ (references : Bool) (book : List ℕ) (width : ℕ) (whole : Resolved) 
       pub chain-lacks : f ≡ Nothing → ResolvedIs book whole (Lacks at)
       chain-lacks n =
           record {
-            is = sym (turn ∙ follow-lacks (isFollowed references book width) book (left - 1) at goes-on (sym ef ∙ n));
+            is = resolved-says _ _ (sym (turn ∙ follow-lacks (isFollowed references book width) book (left - 1) at goes-on (sym ef ∙ n)));
             typed = λ u e. absurd (let z : _≡_ {A = ℕ} 0 1 = cc in omega arith);
           }
 
@@ -209,13 +210,13 @@ module _ (book : List ℕ) (width b : ℕ) where
     pub looked-nothing : f ≡ Nothing → LookedUp book width b (Lacks b)
     looked-nothing n =
         record {
-          is = sym (look-nothing (sym ef ∙ n));
+          is = resolved-says _ _ (sym (look-nothing (sym ef ∙ n)));
           typed = λ u e. absurd (let z : _≡_ {A = ℕ} 0 1 = cc in omega arith);
         }
 
     pub looked-at : (u : ℕ) → f ≡ At u → (r : Resolved) → ResolvedIs book (resolveAlias book width u) r → LookedUp book width b r
     looked-at u n r q =
         record {
-          is = q .is ∙ sym (look-at u (sym ef ∙ n));
+          is = q .is ∙ resolved-says _ _ (sym (look-at u (sym ef ∙ n)));
           typed = q .typed;
         }

@@ -8,7 +8,7 @@ use native.Mathlib.Omega.{arith}
 use Rattle.type_provider.specs.declared.Found.the-variants.{At, Nothing}
 use Rattle.typebook.specs.Book.{typeNameOf}
 use Rattle.type_provider.specs.Find.{find}
-use Rattle.resolvers.specs.declared.Resolved.the-variants.{Base, Lacks, Endless}
+use Rattle.resolvers.specs.declared.Resolved.the-variants.{Base, Lacks, TooLong}
 use Rattle.resolvers.specs.Resolve.{isFollowed, follow, resolveType}
 use Rattle.resolvers.specs.Hops.{Hops, none, hop}
 use Rattle.resolvers.proofs.Chains.{follow-none, follow-base, follow-on, follow-lacks}
@@ -31,12 +31,12 @@ module _ (references : Bool) (book : List ℕ) (width : ℕ) where
       → resolveType references book width t ≡ Base u
   hops-31 t u r h = hops-follow (isFollowed references book width) book 31 1 t u r ∙ follow-base (isFollowed references book width) book 0 u h
 
-  pub hops-32 : (t u : ℕ) → Hops (isFollowed references book width) book 32 t u → resolveType references book width t ≡ Endless
+  pub hops-32 : (t u : ℕ) → Hops (isFollowed references book width) book 32 t u → resolveType references book width t ≡ TooLong
   hops-32 t u r = hops-follow (isFollowed references book width) book 32 0 t u r ∙ follow-none (isFollowed references book width) book u
 
   pub hops-missing : (t u : ℕ) → Hops (isFollowed references book width) book 31 t u → isFollowed references book width u ≡ true
       → find book (typeNameOf book u) ≡ Nothing → resolveType references book width t ≡ Lacks u
   hops-missing t u r h e = hops-follow (isFollowed references book width) book 31 1 t u r ∙ follow-lacks (isFollowed references book width) book 0 u h e
 
-  pub self-endless : (t : ℕ) → isFollowed references book width t ≡ true → find book (typeNameOf book t) ≡ At t → resolveType references book width t ≡ Endless
+  pub self-endless : (t : ℕ) → isFollowed references book width t ≡ true → find book (typeNameOf book t) ≡ At t → resolveType references book width t ≡ TooLong
   self-endless t h e = hops-32 t t (hops-self (isFollowed references book width) book 32 t h e)

@@ -1,27 +1,21 @@
 -- The two calls, over a book that fills the first `len` bytes of a buffer: refusals 1 to 5 first, then 7 and 8. Assumes nothing.
 use mathlib.Core.Bool.{Bool, true, false}
-use mathlib.Core.List.{List}
+use mathlib.Core.List.{List, [], _∷_}
 use Prim.Native.Nat.{ℕ}
 use lib.ListN.{take}
-use Rattle.book_check.specs.declared.RootCheck.{RootCheck}
-use Rattle.book_check.specs.declared.RootCheck.the-variants as checked
-use Rattle.book_check.specs.Check.{checkRoot}
+use Rattle.number.specs.Answer.{refusalOf}
+use Rattle.book_check.specs.Check.{checkRoot, atRoot}
 use Rattle.resolvers.specs.declared.Resolved.{Resolved}
 use Rattle.resolvers.specs.declared.Resolved.the-variants as resolved
 use Rattle.resolvers.specs.declared.Resolution.{Resolution}
 use Rattle.resolvers.specs.declared.Resolution.the-variants.{Block, NotFound, Refused}
-use Rattle.resolvers.specs.Resolve.{resolveType}
+use Rattle.resolvers.specs.Resolve.{resolvedNumbers, resolveType}
 
--- document 01's number of an answer, 0 where nothing is refused; 7 comes with the block that `NotFound` carries
-abbrev pub resolutionRefusal : Resolution → ℕ
-resolutionRefusal (Block b) = 0
-resolutionRefusal (NotFound b) = 7
-resolutionRefusal (Refused n) = n
-
--- 1 to 5 come first; then what is said of the root block
-unfoldable pub atRoot : {A : Type 0} → (ℕ → A) → (ℕ → A) → RootCheck → A
-atRoot refuse go (checked.Root t) = go t
-atRoot refuse go (checked.Refused n) = refuse n
+-- document 01's number and value of an answer: 0 and the block, 7 and the block whose type name is not found, or another refusal
+unfoldable pub resolutionNumbers : Resolution → List ℕ
+resolutionNumbers (Block b) = 0 ∷ b ∷ []
+resolutionNumbers (NotFound b) = 7 ∷ b ∷ []
+resolutionNumbers (Refused n) = n ∷ []
 
 -- ---- resolve_alias, resolve_indirection
 
@@ -29,7 +23,7 @@ atRoot refuse go (checked.Refused n) = refuse n
 unfoldable pub resolution : Resolved → Resolution
 resolution (resolved.Base u) = Block u
 resolution (resolved.Lacks c) = NotFound c
-resolution resolved.Endless = Refused 8
+resolution resolved.TooLong = Refused (refusalOf (resolvedNumbers resolved.TooLong))
 
 -- the root with aliases resolved, and references too where they are followed: 1 to 5 first, then 7 or 8
 unfoldable pub rootResolution : Bool → List ℕ → ℕ → ℕ → ℕ → Resolution

@@ -1,7 +1,7 @@
 -- Chains of aliases and references, by look-ups in a type book (document 01, "resolvers.rs"; refusals 7 and 8). Assumes nothing.
 use mathlib.Core.Path.{_≡_}
 use mathlib.Core.Bool.{Bool, true, false, cond}
-use mathlib.Core.List.{List}
+use mathlib.Core.List.{List, [], _∷_}
 use Prim.Native.Nat.{ℕ, zero, suc}
 use Rattle.type_provider.specs.declared.Found.{Found}
 use Rattle.type_provider.specs.declared.Found.the-variants.{At, Nothing}
@@ -11,13 +11,13 @@ use Rattle.type_category.specs.declared.type_category.AdsTypeCategory.{AdsTypeC
 use Rattle.type_category.specs.declared.type_category.AdsTypeCategory.the-variants as category
 use Rattle.type_category.specs.Category.{categoryOf}
 use Rattle.resolvers.specs.declared.Resolved.{Resolved}
-use Rattle.resolvers.specs.declared.Resolved.the-variants.{Base, Lacks, Endless}
+use Rattle.resolvers.specs.declared.Resolved.the-variants.{Base, Lacks, TooLong}
 
--- document 01's number of what a chain comes to: 0 where nothing is refused, 7 with the block that `Lacks` carries, 8
-abbrev pub resolvedRefusal : Resolved → ℕ
-resolvedRefusal (Base u) = 0
-resolvedRefusal (Lacks c) = 7
-resolvedRefusal Endless = 8
+-- document 01's number and value of what a chain comes to: 0 and the block, 7 and the block whose type name is not found, or 8
+unfoldable pub resolvedNumbers : Resolved → List ℕ
+resolvedNumbers (Base u) = 0 ∷ u ∷ []
+resolvedNumbers (Lacks c) = 7 ∷ c ∷ []
+resolvedNumbers TooLong = 8 ∷ []
 
 -- ---- chains
 
@@ -51,7 +51,7 @@ onward go b Nothing = Lacks b
 
 -- the block at which the chain from block t ends, in at most k look-ups, where `goes` says from which blocks it goes on
 unfoldable pub follow : (ℕ → Bool) → List ℕ → ℕ → ℕ → Resolved
-follow goes book zero t = Endless
+follow goes book zero t = TooLong
 follow goes book (suc k) t = cond (goes t) (onward (follow goes book k) t (find book (typeNameOf book t))) (Base t)
 
 -- 32 look-ups are made before 8
@@ -72,10 +72,10 @@ lookUp book width b = onward (resolveAlias book width) b (find book (typeNameOf 
 
 -- an answer, which is a type block where it is a block
 pub record ResolvedIs (book : List ℕ) (answer r : Resolved) : Type 0 where
-  pub is : r ≡ answer
+  pub is : resolvedNumbers r ≡ resolvedNumbers answer
   pub typed : (u : ℕ) → r ≡ Base u → isType book u ≡ true
 
 -- what block b's type name comes to, which is a type block where it is a block
 pub record LookedUp (book : List ℕ) (width b : ℕ) (r : Resolved) : Type 0 where
-  pub is : r ≡ lookUp book width b
+  pub is : resolvedNumbers r ≡ resolvedNumbers (lookUp book width b)
   pub typed : (u : ℕ) → r ≡ Base u → isType book u ≡ true

@@ -3,10 +3,10 @@
 ghost use mathlib.Core.Path.{_≡_};
 ghost use mathlib.Core.Bool.{true};
 ghost use Rattle.typebook.specs.Book.{isType, typeNameOf};
-ghost use Rattle.type_provider.specs.Find.{find};
+ghost use Rattle.type_provider.specs.Find.{find, foundNumbers};
 ghost use Rattle.book_check.specs.Check.{ValidBook};
 ghost use Rattle.resolvers.specs.Resolve.{goesOn, isFollowed, resolveType, resolveAlias, resolveIndirection, ResolvedIs, LookedUp};
-ghost use Rattle.resolvers.specs.Calls.{resolution, rootAlias, rootIndirection};
+ghost use Rattle.resolvers.specs.Calls.{resolutionNumbers, resolution, rootAlias, rootIndirection};
 use book_check::RootCheck;
 use type_category::type_category::AdsTypeCategory;
 use type_provider::Found;
@@ -22,7 +22,7 @@ pub enum Resolved {
     // The block whose type name is not in the book: of a chain its last alias.
     Lacks(u32),
     // More look-ups than allowed.
-    Endless,
+    TooLong,
 }
 
 // What `resolve_alias` and `resolve_indirection` answer.
@@ -69,7 +69,7 @@ fn is_followed(book: &[u8], width: u8, n: u32, references: bool) -> bool
 // The type that block b names, as a field, as an array or as an alias.
 pub fn named_in(book: &[u8], index: &[u32], b: u32) -> Found
     requires { ⌜ ValidBook (now book) ⌝ }
-    ensures { λ r. ⌜ r ≡ find (now (book .entry)) (typeNameOf (now (book .entry)) b) ⌝ }
+    ensures { λ r. ⌜ foundNumbers r ≡ foundNumbers (find (now (book .entry)) (typeNameOf (now (book .entry)) b)) ⌝ }
 {
     type_index::type_of(book, index, b)
 }
@@ -92,7 +92,7 @@ fn follow(book: &[u8], index: &[u32], width: u8, t: u32, references: bool) -> Re
         at = u;
         left -= 1;
     }
-    Resolved::Endless
+    Resolved::TooLong
 }
 
 // Resolves type block t down to a type that is no alias.
@@ -127,7 +127,7 @@ pub fn look_up_in(book: &[u8], index: &[u32], width: u8, b: u32) -> Resolved
 
 fn resolve_root(book: &[u8], width: u8, t: u32, references: bool) -> Resolution
     requires { ⌜ ValidBook (now book) × (isType (now book) t ≡ true) ⌝ }
-    ensures { λ r. ⌜ r ≡ resolution (resolveType references (now (book .entry)) width t) ⌝ }
+    ensures { λ r. ⌜ resolutionNumbers r ≡ resolutionNumbers (resolution (resolveType references (now (book .entry)) width t)) ⌝ }
 {
     let mut index = [0u32; 16384];
     type_index::fill_names(book, &mut index);
@@ -135,13 +135,13 @@ fn resolve_root(book: &[u8], width: u8, t: u32, references: bool) -> Resolution
     match resolved {
         Resolved::Base(u) => Resolution::Block(u),
         Resolved::Lacks(c) => Resolution::NotFound(c),
-        Resolved::Endless => Resolution::Refused(8),
+        Resolved::TooLong => Resolution::Refused(8),
     }
 }
 
 // Resolves the root, an alias or not, down to a type that is no alias. The book fills the first `len` bytes of the buffer.
 pub fn resolve_alias(buffer: &[u8], len: usize, width: u8, root: u64) -> Resolution
-    ensures { λ r. ⌜ r ≡ rootAlias (now (buffer .entry)) len width root ⌝ }
+    ensures { λ r. ⌜ resolutionNumbers r ≡ resolutionNumbers (rootAlias (now (buffer .entry)) len width root) ⌝ }
 {
     let check = book_check::check_root(buffer, len, root);
     match check {
@@ -152,7 +152,7 @@ pub fn resolve_alias(buffer: &[u8], len: usize, width: u8, root: u64) -> Resolut
 
 // The same down to a type that is neither an alias nor a reference.
 pub fn resolve_indirection(buffer: &[u8], len: usize, width: u8, root: u64) -> Resolution
-    ensures { λ r. ⌜ r ≡ rootIndirection (now (buffer .entry)) len width root ⌝ }
+    ensures { λ r. ⌜ resolutionNumbers r ≡ resolutionNumbers (rootIndirection (now (buffer .entry)) len width root) ⌝ }
 {
     let check = book_check::check_root(buffer, len, root);
     match check {

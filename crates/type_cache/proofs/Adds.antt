@@ -16,6 +16,7 @@ use Rattle.book_check.specs.Check.{sumAt, placedFrom, checkBook, ValidBook}
 use Rattle.book_check.specs.declared.BookCheck.the-variants.{Valid}
 use Rattle.book_check.proofs.Valid.{Placed, Definition, field-is, entry-is, valid-size, valid-type, valid-names, valid-place, valid-passes, valid-book, valid-in}
 use Rattle.book_check.proofs.Append.{append-blocks}
+use Rattle.book_check.proofs.Numbers.{valid-number}
 use Rattle.type_cache.specs.Append.{isOneType, additionRefusal, isKnown, hasRoom, appendRefusal, joined, appendBuffer}
 use Rattle.type_cache.specs.Same.{blocksOf, definitionOf, Same}
 use Rattle.type_cache.proofs.Checked.{book-fits, valid-of}
@@ -114,7 +115,7 @@ module _ (c : List ℕ) (v : ValidBook c) (n : ℕ) (t : isType c n ≡ true) wh
   module _ (buffer : List ℕ) (len : ℕ) (b : checkBook buffer len ≡ Valid) where
     pub add-known : (k : ℕ) → find (take len buffer) (nameOf c n) ≡ At k → appendRefusal buffer len (definitionOf c n) ≡ 4
     add-known k e =
-        sym (refused-known buffer len d (checkBook buffer len) refl 0 (rw b) refl 0 (sym definition-whole) refl (nameOf d 0) refl
+        sym (refused-known buffer len d (checkBook buffer len) refl 0 (valid-number (checkBook buffer len) b) refl 0 (sym definition-whole) refl (nameOf d 0) refl
         (isKnown (take len buffer) (nameOf d 0)) refl (sym (known-at (take len buffer) (nameOf d 0) _ refl k (rw definition-name e))))
 
     pub add-lacking : find (take len buffer) (nameOf c n) ≡ Nothing → hasRoom (length buffer) len (length (definitionOf c n)) ≡ true → appendRefusal buffer len (definitionOf c n) ≡ 0

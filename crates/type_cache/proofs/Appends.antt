@@ -9,60 +9,63 @@ use native.Mathlib.Numerals.{add-one}
 use lib.ListN.{length, getD, take, set}
 use lib.Seq.{length-take-le, take-length, paste, paste-zero, paste-suc}
 use lib.Dec.{eqb, leb}
+use Rattle.number.specs.Answer.{refusalOf}
 use Rattle.typebook.specs.Book.{blocks, fieldsOf, entriesOf, nameOf}
 use Rattle.type_provider.specs.Find.{find}
 use Rattle.type_provider.specs.declared.Found.{Found}
 use Rattle.type_provider.specs.declared.Found.the-variants.{At, Nothing}
-use Rattle.book_check.specs.Check.{checkBook, bookRefusal}
+use Rattle.book_check.specs.Check.{checkBook, bookNumbers}
 use Rattle.book_check.specs.declared.BookCheck.{BookCheck}
 use Rattle.book_check.specs.declared.BookCheck.the-variants.{Valid, Size, Sum, Form, Doubled}
 use Rattle.type_cache.specs.Append.{isOneType, additionCheck, additionRefusal, isFound, isKnown, hasRoom, orNext, appendRefusal, joined, CopyIs, appendCall, appendBuffer, AppendIs}
 use Rattle.type_cache.specs.declared.Appended.the-variants.{Done, Refused}
-use Rattle.type_cache.proofs.Checked.{and-left, and-right, zero-valid, book-fits}
+use Rattle.book_check.proofs.Numbers.{zero-valid}
+use Rattle.type_cache.proofs.Checked.{and-left, and-right, book-fits}
+use Rattle.type_cache.proofs.Numbers.{appended-says}
 
 -- ---- the addition by itself
 pub one-is : (addition : List ℕ) (f e n : ℕ) → f ≡ fieldsOf addition 0 → e ≡ entriesOf addition 0 → n ≡ blocks addition → eqb (f + e + 1) n ≡ isOneType addition
 one-is addition f e n p q o = rw (p, q, o)
 
 module _ (addition : List ℕ) (c : BookCheck) (e : c ≡ checkBook addition (length addition)) where
-  checked : (k : BookCheck) → c ≡ k → additionCheck k (isOneType addition) ≡ additionRefusal addition
+  checked : (k : BookCheck) → c ≡ k → refusalOf (bookNumbers (additionCheck k (isOneType addition))) ≡ additionRefusal addition
   checked k h = rw (← e, h)
 
   module _ (h : c ≡ Valid) (t : Bool) (q : t ≡ isOneType addition) where
     pub addition-one : t ≡ true → 0 ≡ additionRefusal addition
-    unfolding additionCheck
+    unfolding additionCheck bookNumbers
     addition-one g = rw (← e, h, ← q, g)
 
     pub addition-more : t ≡ false → 3 ≡ additionRefusal addition
-    unfolding additionCheck
+    unfolding additionCheck bookNumbers
     addition-more g = rw (← e, h, ← q, g)
 
   pub addition-size : c ≡ Size → 1 ≡ additionRefusal addition
-  unfolding additionCheck
+  unfolding additionCheck bookNumbers
   addition-size h = checked Size h
 
   pub addition-sum : c ≡ Sum → 2 ≡ additionRefusal addition
-  unfolding additionCheck
+  unfolding additionCheck bookNumbers
   addition-sum h = checked Sum h
 
   pub addition-form : c ≡ Form → 3 ≡ additionRefusal addition
-  unfolding additionCheck
+  unfolding additionCheck bookNumbers
   addition-form h = checked Form h
 
   pub addition-doubled : c ≡ Doubled → 3 ≡ additionRefusal addition
-  unfolding additionCheck
+  unfolding additionCheck bookNumbers
   addition-doubled h = checked Doubled h
 
-valid-one : (k : BookCheck) (one : Bool) → additionCheck k one ≡ 0 → k ≡ Valid
-unfolding additionCheck
+valid-one : (k : BookCheck) (one : Bool) → refusalOf (bookNumbers (additionCheck k one)) ≡ 0 → k ≡ Valid
+unfolding additionCheck bookNumbers
 valid-one Valid one h = refl
 valid-one Size one h = absurd (omega arith)
 valid-one Sum one h = absurd (omega arith)
 valid-one Form one h = absurd (omega arith)
 valid-one Doubled one h = absurd (omega arith)
 
-single : (one : Bool) → additionCheck Valid one ≡ 0 → one ≡ true
-unfolding additionCheck
+single : (one : Bool) → refusalOf (bookNumbers (additionCheck Valid one)) ≡ 0 → one ≡ true
+unfolding additionCheck bookNumbers
 single true h = refl
 single false h = absurd (omega arith)
 
@@ -140,7 +143,7 @@ or-right : (n k : ℕ) → orNext n k ≡ 0 → k ≡ 0
 or-right n k h = sym (or-next n k (or-left n k h)) ∙ h
 
 module _ (buffer : List ℕ) (len : ℕ) (addition : List ℕ) where
-  module _ (c : BookCheck) (ec : c ≡ checkBook buffer len) (b : ℕ) (eb : b ≡ bookRefusal c) where
+  module _ (c : BookCheck) (ec : c ≡ checkBook buffer len) (b : ℕ) (eb : b ≡ refusalOf (bookNumbers c)) where
     pub refused-book : (b ≡ 0 → ⊥) → b ≡ appendRefusal buffer len addition
     unfolding appendRefusal
     refused-book h = rw (← ec, ← eb) (sym (or-stop b _ h))
@@ -189,7 +192,7 @@ module _ (buffer : List ℕ) (len : ℕ) (addition : List ℕ) where
   pub accepted : appendRefusal buffer len addition ≡ 0 → Accepted buffer len addition
   unfolding appendRefusal
   accepted h =
-      let a = or-right (bookRefusal (checkBook buffer len)) _ h in
+      let a = or-right (refusalOf (bookNumbers (checkBook buffer len))) _ h in
       let l = or-right (additionRefusal addition) _ a in
       record {
         book = zero-valid _ (or-left _ _ h);
@@ -199,7 +202,7 @@ module _ (buffer : List ℕ) (len : ℕ) (addition : List ℕ) where
       }
 
   pub accepts : Accepted buffer len addition → appendRefusal buffer len addition ≡ 0
-  unfolding appendRefusal
+  unfolding appendRefusal bookNumbers
   accepts a = rw (a .book, a .one, a .new, a .room, or-next 0 _ refl, or-next 0 _ refl)
 
   -- the answer tells an accepted addition from a refused one
@@ -232,7 +235,7 @@ module _ (buffer : List ℕ) (len : ℕ) (addition : List ℕ) where
   module _ (r : ℕ) (e : r ≡ appendRefusal buffer len addition) where
     pub append-refused : (r ≡ 0 → ⊥) → AppendIs buffer len addition (Refused r) buffer
     unfolding appendCall appendBuffer
-    append-refused h = record { answer = rw (← e, ne-eqb r 0 h); bytes = rw (← e, ne-eqb r 0 h) }
+    append-refused h = record { answer = appended-says _ _ (rw (← e, ne-eqb r 0 h)); bytes = rw (← e, ne-eqb r 0 h) }
 
     module _ (z : r ≡ 0) where
       pub append-fits : len + length addition ≤ length buffer
@@ -240,7 +243,7 @@ module _ (buffer : List ℕ) (len : ℕ) (addition : List ℕ) where
 
       pub append-done : (n : ℕ) (after : List ℕ) → CopyIs buffer len addition n after → AppendIs buffer len addition (Done n) after
       unfolding appendCall appendBuffer
-      append-done n after o = record { answer = rw (← e, eq-eqb r 0 z) (ap Done (o .new)); bytes = rw (← e, eq-eqb r 0 z) (o .bytes) }
+      append-done n after o = record { answer = appended-says _ _ (rw (← e, eq-eqb r 0 z) (ap Done (o .new))); bytes = rw (← e, eq-eqb r 0 z) (o .bytes) }
 
 -- ---- the loop of `copy`
 module _ (buffer : List ℕ) (len : ℕ) (addition : List ℕ) where

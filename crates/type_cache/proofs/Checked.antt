@@ -9,7 +9,7 @@ use lib.ListN.{length}
 use lib.Seq.{take-length}
 use lib.Dec.{leb}
 use Rattle.doubles.specs.Doubles.{distinct}
-use Rattle.book_check.specs.Check.{sizeRight, sums, placed, checkBlocks, checkBook, bookRefusal, ValidBook}
+use Rattle.book_check.specs.Check.{sizeRight, sums, placed, checkBlocks, checkBook, ValidBook}
 use Rattle.book_check.specs.declared.BookCheck.{BookCheck}
 use Rattle.book_check.specs.declared.BookCheck.the-variants.{Valid, Size, Sum, Form, Doubled}
 
@@ -20,13 +20,6 @@ and-left false b e = e
 pub and-right : (a b : Bool) → a && b ≡ true → b ≡ true
 and-right true b e = e
 and-right false b e = cc
-
-pub zero-valid : (c : BookCheck) → bookRefusal c ≡ 0 → c ≡ Valid
-zero-valid Valid e = refl
-zero-valid Size e = absurd (omega arith)
-zero-valid Sum e = absurd (omega arith)
-zero-valid Form e = absurd (omega arith)
-zero-valid Doubled e = absurd (omega arith)
 
 -- a valid book lies in its buffer
 module _ (buffer : List ℕ) (len : ℕ) where

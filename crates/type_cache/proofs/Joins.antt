@@ -14,7 +14,7 @@ use Rattle.type_provider.specs.declared.Found.the-variants.{At, Nothing}
 use Rattle.typebook.proofs.Blocks.{same-byte, block-append}
 use Rattle.type_provider.proofs.Finds.{same-named, named-own, named-name, named-kind, find-nothing, find-is, find-lacks, find-append}
 use Rattle.book_check.specs.Check.{ValidBook}
-use Rattle.book_check.proofs.Valid.{Definition, valid-size, valid-type, valid-names, valid-below, valid-passes, type-is}
+use Rattle.book_check.proofs.Valid.{Definition, valid-size, valid-some, valid-type, valid-names, valid-below, valid-passes, type-is}
 use Rattle.book_check.proofs.Append.{append-blocks, valid-append}
 use Rattle.type_cache.specs.Append.{isOneType}
 use Rattle.type_cache.specs.Same.{blocksOf, definitionOf, Same}
@@ -79,7 +79,7 @@ pub record OneType (more : List ℕ) : Type 0 where
 module _ (more : List ℕ) (v : ValidBook more) where
   pub type-first : isType more 0 ≡ true
   type-first =
-      let q : blocks more ≡ suc (blocks more - 1) = omega (arith, valid-size more v .some) in
+      let q : blocks more ≡ suc (blocks more - 1) = omega (arith, valid-some more v) in
       eq-eqb _ _ (type-is more 0 (placed-first more 0 (blocks more - 1) (rw q at (valid-passes more v .place))) .kind)
 
   pub one-type : isOneType more ≡ true → OneType more
@@ -109,7 +109,7 @@ module _ (book more : List ℕ) (v : ValidBook book) (w : ValidBook more) (o : O
 
   pub join-name : nameOf (book ++ more) (blocks book) ≡ nameOf more 0
   join-name =
-      sym (names-same more (book ++ more) 0 (blocks book) (sym (join-at book more v)) (valid-names more w 0 (valid-size more w .some)))
+      sym (names-same more (book ++ more) 0 (blocks book) (sym (join-at book more v)) (valid-names more w 0 (valid-some more w)))
 
   pub join-type : isType (book ++ more) (blocks book) ≡ true
   join-type = rw (same-byte (book ++ more) more (blocks book) 0 (join-at book more v) 0 (omega arith)) (o .is)
@@ -119,7 +119,7 @@ module _ (book more : List ℕ) (v : ValidBook book) (w : ValidBook more) (o : O
   find-new =
       find-is (book ++ more) (nameOf more 0) (blocks book)
       (record {
-        below = omega (arith, size, valid-size more w .some);
+        below = omega (arith, size, valid-some more w);
         named = rw join-name at (named-own (book ++ more) (blocks book) join-type);
       })
       (lacks (nameOf more 0) new)

@@ -2,35 +2,41 @@
 -- paragraph of its refusals). Assumes nothing.
 use mathlib.Core.Path.{_≡_}
 use mathlib.Core.Bool.{Bool, true, false, cond, _&&_}
-use mathlib.Core.List.{List, _++_}
+use mathlib.Core.List.{List, [], _∷_, _++_}
 use Prim.Native.Nat.{ℕ, zero, suc, _+_, _/_}
 use lib.ListN.{length, take, drop}
 use lib.Dec.{eqb, leb}
+use Rattle.number.specs.Answer.{refusalOf}
 use Rattle.typebook.specs.Book.{blocks, fieldsOf, entriesOf, nameOf}
 use Rattle.type_provider.specs.Find.{find}
 use Rattle.type_provider.specs.declared.Found.{Found}
 use Rattle.type_provider.specs.declared.Found.the-variants.{At, Nothing}
-use Rattle.book_check.specs.Check.{checkBook, bookRefusal}
+use Rattle.book_check.specs.Check.{checkBook, bookNumbers}
 use Rattle.book_check.specs.declared.BookCheck.{BookCheck}
 use Rattle.book_check.specs.declared.BookCheck.the-variants.{Valid, Size, Sum, Form, Doubled}
 use Rattle.type_cache.specs.declared.Appended.{Appended}
 use Rattle.type_cache.specs.declared.Appended.the-variants.{Done, Refused}
 
+-- document 01's number and value of what appending answers: 0 and the book's new length, or the refusal
+unfoldable pub appendedNumbers : Appended → List ℕ
+appendedNumbers (Done n) = 0 ∷ n ∷ []
+appendedNumbers (Refused n) = n ∷ []
+
 -- of an addition that is a book by itself: the first type, with its fields and entries, is all of it
 abbrev pub isOneType : List ℕ → Bool
 isOneType addition = eqb (fieldsOf addition 0 + entriesOf addition 0 + 1) (blocks addition)
 
--- how a book's answer is taken for an addition: 3 also answers what is not one whole type, and so two types of one name
-unfoldable pub additionCheck : BookCheck → Bool → ℕ
-additionCheck Valid one = cond one 0 3
-additionCheck Size one = 1
-additionCheck Sum one = 2
-additionCheck Form one = 3
-additionCheck Doubled one = 3
+-- how a book's check is taken for an addition: what is not one whole type, and so two types of one name, is of the wrong form
+unfoldable pub additionCheck : BookCheck → Bool → BookCheck
+additionCheck Valid one = cond one Valid Form
+additionCheck Size one = Size
+additionCheck Sum one = Sum
+additionCheck Form one = Form
+additionCheck Doubled one = Form
 
 -- 1, 2 and 3 of the addition by itself, 0 if there is none
 abbrev pub additionRefusal : List ℕ → ℕ
-additionRefusal addition = additionCheck (checkBook addition (length addition)) (isOneType addition)
+additionRefusal addition = refusalOf (bookNumbers (additionCheck (checkBook addition (length addition)) (isOneType addition)))
 
 -- a look-up has found a type
 unfoldable pub isFound : Found → Bool
@@ -53,7 +59,7 @@ orNext (suc n) next = suc n
 -- the book's 1 to 4, then the addition's 1 to 3, then 4 for a known name, then 15; 0 if there is none
 unfoldable pub appendRefusal : List ℕ → ℕ → List ℕ → ℕ
 appendRefusal buffer len addition =
-    orNext (bookRefusal (checkBook buffer len))
+    orNext (refusalOf (bookNumbers (checkBook buffer len)))
     (orNext (additionRefusal addition)
     (cond (isKnown (take len buffer) (nameOf addition 0)) 4
     (cond (hasRoom (length buffer) len (length addition)) 0 15)))
@@ -78,5 +84,5 @@ appendBuffer buffer len addition = cond (eqb (appendRefusal buffer len addition)
 
 -- what the call promises: its answer, and every byte of the buffer
 pub record AppendIs (buffer : List ℕ) (len : ℕ) (addition : List ℕ) (r : Appended) (after : List ℕ) : Type 0 where
-  pub answer : r ≡ appendCall buffer len addition
+  pub answer : appendedNumbers r ≡ appendedNumbers (appendCall buffer len addition)
   pub bytes : after ≡ appendBuffer buffer len addition

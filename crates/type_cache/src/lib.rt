@@ -3,10 +3,10 @@
 ghost use mathlib.Core.Path.{_≡_};
 ghost use Prim.Native.Nat.{_+_, _≤_};
 ghost use lib.ListN.{length};
-ghost use Rattle.book_check.specs.Check.{bookRefusal};
 ghost use Rattle.type_cache.specs.Append.{isOneType, additionRefusal, isKnown, hasRoom, appendRefusal, CopyIs, AppendIs};
 use book_check::BookCheck;
 use book_check::check_book;
+use book_check::refusal_of;
 use type_provider::Found;
 use type_provider::find;
 use typebook::block;
@@ -16,19 +16,6 @@ use typebook::block::BLOCK;
 pub enum Appended {
     Done(usize),
     Refused(u8),
-}
-
-// Document 01's number of a refusal of the book, 0 for none.
-fn book_refusal(check: BookCheck) -> u8
-    ensures { λ r. ⌜ r ≡ bookRefusal check ⌝ }
-{
-    match check {
-        BookCheck::Valid => 0,
-        BookCheck::Size => 1,
-        BookCheck::Sum => 2,
-        BookCheck::Form => 3,
-        BookCheck::Doubled => 4,
-    }
 }
 
 // The first type, with its fields and entries, is all there is.
@@ -71,7 +58,7 @@ fn is_known(book: &[u8], name: &[u8]) -> bool
 }
 
 // The longer book fits the buffer, and has at most 65,536 blocks.
-fn has_room(room: usize, len: usize, more: usize) -> bool
+pub fn has_room(room: usize, len: usize, more: usize) -> bool
     ensures { λ r. ⌜ r ≡ hasRoom room len more ⌝ }
 {
     if len > room {
@@ -87,7 +74,7 @@ fn has_room(room: usize, len: usize, more: usize) -> bool
 fn append_refusal(buffer: &[u8], len: usize, addition: &[u8]) -> u8
     ensures { λ r. ⌜ r ≡ appendRefusal (now (buffer .entry)) len (now (addition .entry)) ⌝ }
 {
-    let of_book = book_refusal(check_book(buffer, len));
+    let of_book = refusal_of(check_book(buffer, len));
     if of_book != 0 {
         return of_book;
     }
@@ -105,7 +92,7 @@ fn append_refusal(buffer: &[u8], len: usize, addition: &[u8]) -> u8
 }
 
 // Writes the addition after the first `len` bytes, and gives the length of both.
-fn copy(buffer: &mut [u8], len: usize, addition: &[u8]) -> usize
+pub fn copy(buffer: &mut [u8], len: usize, addition: &[u8]) -> usize
     requires { ⌜ len + length (now addition) ≤ length (now buffer) ⌝ }
     ensures { λ r. ⌜ CopyIs (now (buffer .entry)) len (now (addition .entry)) r (now (buffer .exit)) ⌝ }
 {

@@ -2,6 +2,7 @@
 ghost use mathlib.Core.Path.{_≡_};
 ghost use Prim.Native.Nat.{_+_};
 ghost use Rattle.typebook.specs.Book.{offsetOf};
+ghost use Rattle.type_category.specs.Number.{categoryNumbers};
 ghost use Rattle.type_category.specs.Category.{isAlias, idStep, isUnion, isEmptyStruct, bareCategory, methodsCategory, fieldsCategory, sizeCategory, complexCategory, simpleCategory, categoryOf};
 use type_id::AdsTypeId;
 use type_names::is_pointer_name;
@@ -56,7 +57,7 @@ impl AdsTypeCategory {
     // The category of block n, for pointers of `width` bytes. The width tells interfaces from function blocks where both
     // have methods. An empty function block with no interface is taken for an interface.
     pub fn determine(book: &[u8], width: u8, n: u32) -> AdsTypeCategory
-        ensures { λ r. ⌜ r ≡ categoryOf (now (book .entry)) width n ⌝ }
+        ensures { λ r. ⌜ categoryNumbers r ≡ categoryNumbers (categoryOf (now (book .entry)) width n) ⌝ }
     {
         let name = block::name(book, n);
         if block::is_pointer(book, n) {

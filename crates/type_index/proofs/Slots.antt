@@ -16,6 +16,7 @@ use Rattle.type_provider.specs.declared.Found.the-variants.{At, Nothing}
 use Rattle.typebook.specs.Book.{blocks, typeNameOf, isNamed, kindOf}
 use Rattle.type_provider.specs.Find.{searched, find, TypeBlock}
 use Rattle.type_provider.proofs.Finds.{find-named, named-kind, unique-find}
+use Rattle.type_provider.proofs.Numbers.{found-is, found-says}
 use Rattle.type_index.specs.Index.{FoundBy, Slots, IndexOf}
 use Rattle.type_index.specs.Probe.{Probed, IsHint, Entered}
 
@@ -32,17 +33,17 @@ module _ (book name : List ℕ) where
   pub by-search : (r : Found) → r ≡ find book name → FoundBy book name r
   by-search r e =
       record {
-        at = λ n h. find-named book name n (sym e ∙ h);
-        nothing = λ h. sym e ∙ h;
-        unique = λ u. e;
+        at = λ n h. find-named book name n (sym e ∙ found-is _ _ h);
+        nothing = λ h. sym (found-says _ _ e) ∙ h;
+        unique = λ u. found-says _ _ e;
       }
 
   pub by-probe : (r : Found) (n : ℕ) → Probed book name r → r ≡ At n → FoundBy book name (At n)
   by-probe r n p e =
       record {
-        at = λ m h. p .at m (e ∙ h);
-        nothing = λ h. absurd (let z : _≡_ {A = ℕ} 0 1 = cc in omega arith);
-        unique = λ u. sym (unique-find book u name n (p .at n e));
+        at = λ m h. p .at m (e ∙ found-is _ _ h);
+        nothing = λ h. absurd (let q : At n ≡ Nothing = found-is _ _ h in let z : _≡_ {A = ℕ} 0 1 = cc in omega arith);
+        unique = λ u. found-says _ _ (sym (unique-find book u name n (p .at n e)));
       }
 
 -- the same of the type name of a block, by its hint or by its name

@@ -1,11 +1,16 @@
 -- The look-up of a type by its name (`TypeProvider::get_type_info` of the Rust). Assumes nothing.
 use mathlib.Core.Path.{_≡_}
 use mathlib.Core.Bool.{true, cond}
-use mathlib.Core.List.{List}
+use mathlib.Core.List.{List, [], _∷_}
 use Prim.Native.Nat.{ℕ, zero, suc, _+_, _<_, min}
 use Rattle.typebook.specs.Book.{blocks, isType, nameOf, isNamed}
 use Rattle.type_provider.specs.declared.Found.{Found}
 use Rattle.type_provider.specs.declared.Found.the-variants.{At, Nothing}
+
+-- document 01's number and values of a look-up's answer: 0 and the block, or 7
+unfoldable pub foundNumbers : Found → List ℕ
+foundNumbers (At n) = 0 ∷ n ∷ []
+foundNumbers Nothing = 7 ∷ []
 
 -- the number of blocks that a look-up searches: 65,536 at most, since a longer book is refused (1) before any look-up
 abbrev pub searched : List ℕ → ℕ

@@ -1,7 +1,7 @@
 // The look-up of a type by its name (the Rust's `TypeProvider::get_type_info`): a search of the whole book.
 ghost use mathlib.Core.Path.{_≡_};
 ghost use Rattle.typebook.specs.Book.{isNamed};
-ghost use Rattle.type_provider.specs.Find.{searched as searchedOf, find as findIn};
+ghost use Rattle.type_provider.specs.Find.{searched as searchedOf, find as findIn, foundNumbers};
 use typebook::block;
 
 // A type block's number, or that the book has no type of that name.
@@ -36,7 +36,7 @@ pub fn is_named(book: &[u8], name: &[u8], n: u32) -> bool
 
 // The first type block of that name.
 pub fn find(book: &[u8], name: &[u8]) -> Found
-    ensures { λ r. ⌜ r ≡ findIn (now (book .entry)) (now (name .entry)) ⌝ }
+    ensures { λ r. ⌜ foundNumbers r ≡ foundNumbers (findIn (now (book .entry)) (now (name .entry))) ⌝ }
 {
     let n = searched(book);
     let mut i: u32 = 0;

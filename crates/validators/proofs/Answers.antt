@@ -14,8 +14,8 @@ use Rattle.type_id.specs.TypeId.{idOf, numberOf}
 use Rattle.typebook.specs.Book.{typeIdOf}
 use Rattle.type_category.specs.declared.type_category.AdsTypeCategory.{AdsTypeCategory}
 use Rattle.type_category.specs.Category.{categoryOf}
-use Rattle.category_number.specs.Number.{categoryNumber}
-use Rattle.category_number.proofs.Numbers.{number-small}
+use Rattle.type_category.specs.Number.{categoryNumber}
+use Rattle.type_category.proofs.Numbers.{number-small}
 use Rattle.validators.specs.Validate.{unknownOf, sameId, isIn, indirect, typeIdRefusal, integerRefusal, categoryRefusal, sizeRefusal}
 
 -- same_id

@@ -13,7 +13,7 @@ use Rattle.type_category.specs.declared.type_category.AdsTypeCategory.the-varia
 use Rattle.validators.specs.declared.Validity.{Validity}
 use Rattle.validators.specs.declared.Validity.the-variants.{Valid, TypeMismatch, SizeMismatch}
 use Rattle.type_category.specs.Category.{categoryOf}
-use Rattle.category_number.specs.Number.{categoryNumber}
+use Rattle.type_category.specs.Number.{categoryNumber}
 
 -- document 01's number of an answer; 0 where nothing is refused
 abbrev pub refusalOf : Validity → ℕ

@@ -76,7 +76,7 @@ fn changed(input: &[u8], book: &mut [u8], len: usize) -> u8 {
     let check = book_check::check_book(book, len);
     put_number(book, sum_at, sum as u64, 4);
     put_byte(book, place, old);
-    codes::refusal(check)
+    book_check::refusal_of(check)
 }
 
 fn category(input: &[u8], book: &[u8]) -> AdsTypeCategory {

@@ -7,28 +7,35 @@ use Rattle.read_modify_write.specs.declared.Rmw.{Rmw}
 use Rattle.read_modify_write.specs.declared.Rmw.the-variants as rmw
 use Rattle.missing_types.specs.declared.Missing.{Missing}
 use Rattle.missing_types.specs.declared.Missing.the-variants as missing
-use Rattle.codes.specs.Numbers.{truthNumber}
+use Rattle.number.specs.Answer.{truthNumber}
+use Rattle.read_modify_write.specs.Calls.{rmwNumbers}
+use Rattle.missing_types.specs.Calls.{missingNumbers}
 use Rattle.lent_values.specs.Values.{Gives}
 use Rattle.lent_values.proofs.Lays.{none}
-use Rattle.walk_answers.specs.Answers.{RmwAs, MissingAs}
 
 module _ {before after : List ℕ} {r : ℕ} where
-  pub rmw-yes : (x : Rmw) → x ≡ rmw.Yes → Gives 0 (1 ∷ []) before r after → RmwAs x before r after
+  pub rmw-yes : (x : Rmw) → x ≡ rmw.Yes → Gives (0 ∷ 1 ∷ []) before r after → Gives (rmwNumbers x) before r after
+  unfolding rmwNumbers
   rmw-yes x e g = rw e g
 
-  pub rmw-no : (x : Rmw) → x ≡ rmw.No → Gives 0 (0 ∷ []) before r after → RmwAs x before r after
+  pub rmw-no : (x : Rmw) → x ≡ rmw.No → Gives (0 ∷ 0 ∷ []) before r after → Gives (rmwNumbers x) before r after
+  unfolding rmwNumbers
   rmw-no x e g = rw e g
 
-  pub rmw-lacks : (x : Rmw) (b : ℕ) → x ≡ rmw.NotFound b → Gives 7 (b ∷ []) before r after → RmwAs x before r after
+  pub rmw-lacks : (x : Rmw) (b : ℕ) → x ≡ rmw.NotFound b → Gives (7 ∷ b ∷ []) before r after → Gives (rmwNumbers x) before r after
+  unfolding rmwNumbers
   rmw-lacks x b e g = rw e g
 
   pub missing-listed : (x : Missing) (n : ℕ) (whole : Bool) (count w : ℕ) → x ≡ missing.Listed n whole count → w ≡ truthNumber whole
-      → Gives 0 (n ∷ w ∷ count ∷ []) before r after → MissingAs x before r after
+      → Gives (0 ∷ n ∷ w ∷ count ∷ []) before r after → Gives (missingNumbers x) before r after
+  unfolding missingNumbers
   missing-listed x n whole count w e q g = rw (e, ← q) g
 
 module _ {before : List ℕ} where
-  pub rmw-refused : (x : Rmw) (n : ℕ) → x ≡ rmw.Refused n → RmwAs x before n before
+  pub rmw-refused : (x : Rmw) (n : ℕ) → x ≡ rmw.Refused n → Gives (rmwNumbers x) before n before
+  unfolding rmwNumbers
   rmw-refused x n e = rw e (none n before)
 
-  pub missing-refused : (x : Missing) (n : ℕ) → x ≡ missing.Refused n → MissingAs x before n before
+  pub missing-refused : (x : Missing) (n : ℕ) → x ≡ missing.Refused n → Gives (missingNumbers x) before n before
+  unfolding missingNumbers
   missing-refused x n e = rw e (none n before)

@@ -1,5 +1,7 @@
 // What the walks answer, as a number and values.
-ghost use Rattle.walk_answers.specs.Answers.{RmwAs, MissingAs};
+ghost use Rattle.read_modify_write.specs.Calls.{rmwNumbers};
+ghost use Rattle.missing_types.specs.Calls.{missingNumbers};
+ghost use Rattle.lent_values.specs.Values.{Gives};
 use codes::truth;
 use lent_values::done_1;
 use lent_values::done_3;
@@ -9,7 +11,7 @@ use read_modify_write::Rmw;
 
 // 1 for yes and 0 for no, 7 with its block, or another refusal.
 pub fn give_rmw(answer: Rmw, values: &mut [u64]) -> u8
-    ensures { λ r. ⌜ RmwAs answer (now (values .entry)) r (now (values .exit)) ⌝ }
+    ensures { λ r. ⌜ Gives (rmwNumbers answer) (now (values .entry)) r (now (values .exit)) ⌝ }
 {
     match answer {
         Rmw::Yes => done_1(values, 1),
@@ -21,7 +23,7 @@ pub fn give_rmw(answer: Rmw, values: &mut [u64]) -> u8
 
 // How many blocks are listed, 1 where the walk is whole, else 0, and how many names were met; or the refusal.
 pub fn give_missing(answer: Missing, values: &mut [u64]) -> u8
-    ensures { λ r. ⌜ MissingAs answer (now (values .entry)) r (now (values .exit)) ⌝ }
+    ensures { λ r. ⌜ Gives (missingNumbers answer) (now (values .entry)) r (now (values .exit)) ⌝ }
 {
     match answer {
         Missing::Listed(n, whole, count) => {

@@ -13,13 +13,13 @@ use Rattle.typebook.specs.Book.{nameOf, typeNameOf, sameName}
 use Rattle.type_provider.specs.Find.{find}
 use Rattle.typebook.proofs.Names.{same-eq, same-refl}
 use Rattle.resolvers.specs.declared.Resolved.{Resolved}
-use Rattle.resolvers.specs.declared.Resolved.the-variants.{Base, Lacks, Endless}
+use Rattle.resolvers.specs.declared.Resolved.the-variants.{Base, Lacks, TooLong}
 use Rattle.resolvers.specs.Resolve.{onward, resolveAlias}
 use Rattle.visits.specs.Parts.{partsOf}
-use Rattle.walks.specs.Walk.{Walk, met, comesTo, has, push, meet, walk, walkFrom, walkOf}
+use Rattle.walks.specs.Walk.{Walk, over, met, comesTo, has, push, meet, walk, walkFrom, walkOf}
 use Rattle.walks.specs.Reads.{names, count, listed, whole}
 use Rattle.walks.specs.Reached.{Reached, start, part, Distinct, none as nothing, more, Resolves}
-use Rattle.walks.proofs.Goes.{Goes, none, old, fresh, stop, goes}
+use Rattle.walks.proofs.Goes.{Goes, none, old, fresh, stop, walk-none, goes}
 
 pub true-false : {X : Type 0} → true ≡ false → X
 true-false e = absurd (let z : _≡_ {A = ℕ} 0 1 = cc in omega arith)
@@ -37,7 +37,7 @@ push-cases : (book : List ℕ) (width : ℕ) (s : List ℕ) (f : Resolved) {b : 
 unfolding push
 push-cases book width s (Base t) m p q = ⊎-elim (p t refl) q (List·Memᴰ·append-cases (partsOf book width t) m)
 push-cases book width s (Lacks c) m p q = q m
-push-cases book width s Endless m p q = q m
+push-cases book width s TooLong m p q = q m
 
 -- a name comes to a type: the book defines it, and its aliases end there
 look-base : (book : List ℕ) (width b u : ℕ) (f : Found) → comesTo book width b f ≡ Base u → (t : ℕ) × (f ≡ At t) × (resolveAlias book width t ≡ Base u)
@@ -126,7 +126,7 @@ pub whole-rest : (b : ℕ) (x : List ℕ) (f : Resolved) (w : Walk) → whole (m
 unfolding whole
 whole-rest b x (Base u) w h = h
 whole-rest b x (Lacks c) w h = h
-whole-rest b x Endless w h = true-false (sym h)
+whole-rest b x TooLong w h = true-false (sym h)
 
 whole-count : (book : List ℕ) (width : ℕ) {left : ℕ} {v : List (List ℕ)} {s : List ℕ} {w : Walk} → Goes book width left v s w → whole w ≡ true → count w ≤ left
 unfolding names whole
@@ -154,13 +154,13 @@ push-rest : (book : List ℕ) (width : ℕ) (s : List ℕ) (f : Resolved) {b : �
 unfolding push
 push-rest book width s (Base t) m = Memᴰ·append-right (partsOf book width t) m
 push-rest book width s (Lacks c) m = m
-push-rest book width s Endless m = m
+push-rest book width s TooLong m = m
 
 listed-none : (b : ℕ) (x : List ℕ) (f : Resolved) (w : Walk) → whole (met b x f w) ≡ true → listed (met b x f w) ≡ [] → ((u : ℕ) × (f ≡ Base u)) × (listed w ≡ [])
 unfolding listed whole
 listed-none b x (Base u) w k h = ((u, refl), h)
 listed-none b x (Lacks c) w k h = absurd (let z = ap length h in omega arith)
-listed-none b x Endless w k h = true-false (sym k)
+listed-none b x TooLong w k h = true-false (sym k)
 
 module _ (book : List ℕ) (width : ℕ) where
   -- every name on the stack is known in the end
@@ -254,3 +254,8 @@ from-count book width name block h =
 pub count-whole : (book : List ℕ) (width root : ℕ) → whole (walkOf book width root) ≡ true → count (walkOf book width root) ≤ 4096
 unfolding walkOf
 count-whole book width root = from-count book width (nameOf book root) root
+
+-- a walk from a name that the book lacks meets that name alone: its block is listed, or 7 is answered with it
+pub from-lacking : (book : List ℕ) (width : ℕ) (name : List ℕ) (block : ℕ) → find book name ≡ Nothing → walkFrom book width name block ≡ met block name (Lacks block) over
+unfolding meet push onward
+from-lacking book width name block h = rw (h, walk-none book width 4095 (name ∷ []))

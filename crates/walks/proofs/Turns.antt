@@ -17,7 +17,7 @@ use Rattle.typebook.proofs.Names.{same-eq, eq-same}
 use Rattle.book_check.specs.Check.{ValidBook}
 use Rattle.book_check.proofs.Valid.{valid-own}
 use Rattle.resolvers.specs.declared.Resolved.{Resolved}
-use Rattle.resolvers.specs.declared.Resolved.the-variants.{Base, Lacks, Endless}
+use Rattle.resolvers.specs.declared.Resolved.the-variants.{Base, Lacks, TooLong}
 use Rattle.resolvers.specs.Resolve.{onward, resolveAlias}
 use Rattle.visits.specs.declared.Taken.{Taken}
 use Rattle.visits.specs.Scratch.{stackOf, markedIn, isPart, namesIt, hasRef, Took}
@@ -147,7 +147,7 @@ module _ (book : List ℕ) (width : ℕ) (ls : List ℕ) (v : List (List ℕ)) (
         by = b;
         name = y;
         next = walk book width (left - 1) (y ∷ v) (stackOf sc d);
-        is = met-as Endless (s .to);
+        is = met-as TooLong (s .to);
         left-over = dead-left (s .dead) ls (λ x f. refl);
       }
   settled-after Full sc′ s = absurd s

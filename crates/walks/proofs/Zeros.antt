@@ -1,32 +1,23 @@
 -- What is lent to a walk: long enough once 6 is past, and a scratch that is cleared before the walk and after it. Assumes nothing.
-use mathlib.Core.Path.{_≡_, refl, sym, ap, _∙_}
-use mathlib.Core.Bool.{Bool, true, false, not}
+use mathlib.Core.Path.{_≡_, sym, ap, _∙_}
+use mathlib.Core.Bool.{Bool, false, not}
 use mathlib.Core.List.{List}
 use Prim.Native.Nat.{ℕ, _≤_}
 use native.Mathlib.Omega.{arith}
 use lib.ListN.{length, replicate, length-replicate}
-use borrow.Author.Tests.{leb-true}
+use borrow.Author.Tests.{leb-true, not-false}
 use Rattle.walks.specs.Scratch.{scratchFits, listFits}
 
 -- ---- 6
 
--- a test that was not refused, and one that was
-pub passed : (g : Bool) → not g ≡ false → g ≡ true
-passed true h = refl
-passed false h = sym h
-
-pub failed : (g : Bool) → not g ≡ true → g ≡ false
-failed true h = sym h
-failed false h = refl
-
 module _ (g : Bool) (h : not g ≡ false) where
   -- the scratch has room for the stack and the bits
   pub scratch-room : (sc : List ℕ) → g ≡ scratchFits sc → 6144 ≤ length sc
-  scratch-room sc e = let p = leb-true 16384 (length sc) (sym e ∙ passed g h) in omega arith
+  scratch-room sc e = let p = leb-true 16384 (length sc) (sym e ∙ not-false g h) in omega arith
 
   -- the list has room for every name
   pub list-room : (list : List ℕ) → g ≡ listFits list → 4096 ≤ length list
-  list-room list e = leb-true 4096 (length list) (sym e ∙ passed g h)
+  list-room list e = leb-true 4096 (length list) (sym e ∙ not-false g h)
 
 -- ---- cleared
 

@@ -13,7 +13,7 @@ use Rattle.type_provider.specs.Find.{find}
 use Rattle.type_category.specs.declared.type_category.AdsTypeCategory.{AdsTypeCategory}
 use Rattle.type_category.specs.Category.{categoryOf}
 use Rattle.book_check.specs.Check.{ValidBook}
-use Rattle.resolvers.specs.declared.Resolved.the-variants.{Base, Lacks, Endless}
+use Rattle.resolvers.specs.declared.Resolved.the-variants.{Base, Lacks, TooLong}
 use Rattle.resolvers.specs.Resolve.{resolveAlias}
 use Rattle.visits.specs.declared.Taken.{Taken}
 use Rattle.visits.specs.Scratch.{stackOf, markedIn, isPart, hasRef, takenAt, takenFrom}
@@ -88,7 +88,7 @@ pub record AfterLong (book : List ℕ) (width : ℕ) (sc ls : List ℕ) (left de
   pub by : ℕ
   pub name : List ℕ
   pub next : Walk
-  pub is : w ≡ met by name Endless next
+  pub is : w ≡ met by name TooLong next
   pub left-over : Left book width sc ls left depth next
 
 -- the name is one too many, and nothing is left

@@ -7,7 +7,7 @@ use Rattle.type_provider.specs.declared.Found.{Found}
 use Rattle.typebook.specs.Book.{nameOf, typeNameOf, sameName}
 use Rattle.type_provider.specs.Find.{find}
 use Rattle.resolvers.specs.declared.Resolved.{Resolved}
-use Rattle.resolvers.specs.declared.Resolved.the-variants.{Base, Lacks, Endless}
+use Rattle.resolvers.specs.declared.Resolved.the-variants.{Base, Lacks, TooLong}
 use Rattle.resolvers.specs.Resolve.{onward, resolveAlias}
 use Rattle.visits.specs.Parts.{partsOf}
 
@@ -37,7 +37,7 @@ skip book v (b ∷ s) = cond (has v (typeNameOf book b)) (skip book v s) (b ∷ 
 unfoldable pub push : List ℕ → ℕ → Resolved → List ℕ → List ℕ
 push book width (Base t) s = partsOf book width t ++ s
 push book width (Lacks b) s = s
-push book width Endless s = s
+push book width TooLong s = s
 
 -- the rest of a walk, by the names visited and the stack
 abbrev pub Go : Type 0

@@ -1,2 +1,3 @@
--- Laws that the functions' proofs cite.
+-- Laws that the functions' proofs cite, and the numbers that a write answers with.
 mod Answers
+pub mod Told

@@ -1,11 +1,12 @@
 // What a write answers, as a number and values.
-ghost use Rattle.write_answers.specs.Answers.{WriteAs};
+ghost use Rattle.ser.specs.Call.{writeNumbers};
+ghost use Rattle.lent_values.specs.Values.{Gives};
 use lent_values::lacks;
 use ser::WriteAnswer;
 
 // 0 with nothing, 7 with its block, or another refusal.
 pub fn give_write(answer: WriteAnswer, values: &mut [u64]) -> u8
-    ensures { λ r. ⌜ WriteAs answer (now (values .entry)) r (now (values .exit)) ⌝ }
+    ensures { λ r. ⌜ Gives (writeNumbers answer) (now (values .entry)) r (now (values .exit)) ⌝ }
 {
     match answer {
         WriteAnswer::Done => 0,

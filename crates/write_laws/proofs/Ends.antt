@@ -7,9 +7,7 @@ use native.Mathlib.Omega.{arith}
 use borrow.Author.Tests.{eqb-true, eqb-false, eq-eqb, ne-eqb}
 use lib.ListN.{length}
 use lib.Dec.{leb, ltb, eqb}
-use Rattle.typebook.specs.Book.{sizeOf, typeIdOf, countOf}
-use Rattle.type_id.specs.declared.AdsTypeId.{AdsTypeId}
-use Rattle.type_id.specs.declared.AdsTypeId.the-variants.{UInt16, UInt32, UInt64}
+use Rattle.typebook.specs.Book.{sizeOf, countOf}
 use Rattle.type_provider.specs.declared.Found.{Found}
 use Rattle.type_provider.specs.declared.Found.the-variants as found
 use Rattle.type_category.specs.Category.{categoryOf}
@@ -21,15 +19,11 @@ use Rattle.field_types.specs.declared.FieldAnswer.{FieldAnswer}
 use Rattle.field_types.specs.declared.FieldAnswer.the-variants as answer
 use Rattle.field_types.specs.declared.FieldsCheck.{FieldsCheck}
 use Rattle.field_types.specs.declared.FieldsCheck.the-variants as check
-use Rattle.integer.specs.Integer.{writeInteger, integerBytes}
-use Rattle.integer.specs.declared.Integer.{Integer}
-use Rattle.integer.specs.declared.IntegerWrite.{IntegerWrite}
-use Rattle.integer.specs.declared.IntegerWrite.the-variants as write
 use Rattle.shape.specs.declared.Shape.{Shape}
 use Rattle.shape.specs.declared.Shape.the-variants as shape
 use Rattle.shape.specs.Value.{shapeOf}
 use Rattle.shape.specs.Array.{strideOf, bytesOf}
-use Rattle.named_blocks.specs.Named.{fieldNamed, entryNamed}
+use Rattle.named_blocks.specs.Named.{fieldNamed}
 use Rattle.tape.specs.Record.{stepAt}
 use Rattle.tape.specs.Text.{recordText}
 use Rattle.tape.specs.declared.record.Record.{Record}
@@ -42,16 +36,15 @@ use Rattle.tape_form.specs.Ranges.{onlyA, empty, names, leafFine}
 use Rattle.tape_form.specs.Ranges as ranges
 use Rattle.tape_form.specs.Form.{formed, withRecord, onward, closing, several, memberAt, valueAt, endsAt}
 use Rattle.tape_form.specs.Form as form
-use Rattle.ser_leaf.specs.declared.Target.{Target}
-use Rattle.ser_leaf.specs.declared.Target.the-variants as target
-use Rattle.ser_leaf.specs.Leaf.{Leaf, holds, exactly, boolLeaf, realLeaf, integerEnd, integerBy, pointerLeaf, targetOf, integerLeaf, entryBy, entryLeaf, enumLeaf, padded, textBy, textLeaf, leafBy}
+use Rattle.ser_leaf.specs.Leaf.{Leaf, holds, targetOf, leafBy}
 use Rattle.ser_leaf.specs.Leaf as leaf
 use Rattle.ser.specs.declared.array_writer.Entered.{Entered}
 use Rattle.ser.specs.declared.array_writer.Entered.the-variants as entered
-use Rattle.ser.specs.declared.WriteAnswer.the-variants.{Done, NotFound, Refused}
+use Rattle.ser.specs.declared.WriteAnswer.the-variants.{NotFound, Refused}
 use Rattle.ser.specs.Write.{Ctx, Outcome, went, refused, _then_, Item, whole, further, Child, placed, takenBy, taken, endBy, leafEnd, leafOf, shapeAt, checked, fieldValue, foundValue, keyBy, keyOf, keysFrom, mapBy, mapOf, elementItem, elementCheck, elementsFrom, elementsBy, dimensionOf, elementType, enteredBy, enteredAt, arrayBy, arrayOf, valueBy, itemWalk, walk}
 use Rattle.ser.specs.Call.{typeWrite, rootBy, rootWrite, bookWrite, answerOf}
 use Rattle.write_laws.specs.Laws.{EndsAt, FormedEnds, SixteenIsForm}
+use Rattle.write_laws.proofs.LeafForm.{Mild, mild-leaf}
 use Rattle.write_laws.proofs.Plain.{different, and-left}
 
 -- ---- a walk that ends at a place and is not refused with 16
@@ -190,103 +183,7 @@ module _ (c : form.Ctx) (child : form.Child) (r : Record) (mid next : Cursor) (h
       by true q = let z : At mid ≡ At next = rw (o, u, q) at h in record { fine = q; same = let y : mid ≡ next = cc in ap (λ (i : Cursor). i .at) y }
       by false q = broken-at (rw (o, u, q) at h)
 
--- ---- a leaf is not refused with 16
-
-record Mild (l : Leaf) : Type 0 where
-  never : l ≡ leaf.refused 16 → ⊥
-
-mild-cond : (b : Bool) (x y : Leaf) → Mild x → Mild y → Mild (cond b x y)
-mild-cond true x y p q = p
-mild-cond false x y p q = q
-
-mild-holds : (bs : List ℕ) → Mild (holds bs)
-mild-holds bs = record { never = λ e. different cc }
-
-mild-refused : (k : ℕ) → (k ≡ 16 → ⊥) → Mild (leaf.refused k)
-mild-refused k h = record { never = λ e. h (let z : k ≡ 16 = cc in z) }
-
-mild-exactly : (bs old : List ℕ) → Mild (exactly bs old)
-unfolding exactly
-mild-exactly bs old = mild-cond (eqb (length bs) (length old)) _ _ (mild-holds bs) (mild-refused 10 (λ e. omega arith))
-
-mild-end : (w : IntegerWrite) (bs : List ℕ) → Mild (integerEnd w bs)
-mild-end write.Done bs = mild-holds bs
-mild-end write.OutOfRange bs = mild-refused 19 (λ e. omega arith)
-mild-end write.Size bs = mild-refused 10 (λ e. omega arith)
-mild-end write.Unsupported bs = mild-refused 17 (λ e. omega arith)
-
-mild-integer : (id : AdsTypeId) (v : Integer) (old : List ℕ) → Mild (integerBy id v old)
-unfolding integerBy
-mild-integer id v old = mild-end (writeInteger id v old) (integerBytes id v)
-
-mild-pointer : (width : ℕ) (v : Integer) (old : List ℕ) → Mild (pointerLeaf width v old)
-unfolding pointerLeaf
-mild-pointer width v old =
-    mild-cond (eqb width 2) _ _ (mild-integer UInt16 v old)
-    (mild-cond (eqb width 4) _ _ (mild-integer UInt32 v old)
-    (mild-cond (eqb width 8) _ _ (mild-integer UInt64 v old) (mild-refused 13 (λ e. omega arith))))
-
-mild-padded : (bs : List ℕ) (zeros : ℕ) (old : List ℕ) → Mild (padded bs zeros old)
-unfolding padded
-mild-padded bs zeros old = mild-cond (leb (length bs + zeros) (length old)) _ _ (mild-holds _) (mild-refused 10 (λ e. omega arith))
-
-mild-text-by : (id : ℕ) (text old : List ℕ) → Mild (textBy id text old)
-unfolding textBy
-mild-text-by id text old =
-    mild-cond (eqb id 30) _ _ (mild-padded _ 1 old) (mild-cond (eqb id 31) _ _ (mild-padded _ 2 old) (mild-refused 17 (λ e. omega arith)))
-
--- a test of the form and the same test of the write
-mild-both : (b p q : Bool) (x y : Leaf) → cond b p q ≡ true → Mild x → (q ≡ true → Mild y) → Mild (cond b x y)
-mild-both true p q x y h m n = m
-mild-both false p q x y h m n = n h
-
-module _ (book : List ℕ) (width t : ℕ) (old : List ℕ) where
-  mild-bool : (b : ℕ) → Mild (boolLeaf book t b old)
-  unfolding boolLeaf
-  mild-bool b = mild-cond (eqb (typeIdOf book t) 33) _ _ (mild-exactly _ old) (mild-refused 17 (λ e. omega arith))
-
-  mild-real : (is-double : Bool) (b : ℕ) → Mild (realLeaf book t is-double b old)
-  unfolding realLeaf
-  mild-real is-double b = mild-cond (eqb (typeIdOf book t) (leaf.realId is-double)) _ _ (mild-exactly _ old) (mild-refused 17 (λ e. omega arith))
-
-  mild-number : (v : Integer) (k : Target) → Mild (integerLeaf book width t v old k)
-  unfolding integerLeaf
-  mild-number v target.Pointer = mild-pointer width v old
-  mild-number v target.Enum = mild-integer _ v old
-  mild-number v target.Other = mild-integer _ v old
-
-  mild-found : (f : Found) → Mild (entryBy book old f)
-  unfolding entryBy
-  mild-found (found.At n) = mild-exactly _ old
-  mild-found found.Nothing = mild-refused 18 (λ e. omega arith)
-
-  mild-entry : (name : List ℕ) → Mild (entryLeaf book t name old)
-  unfolding entryLeaf
-  mild-entry name = mild-cond (eqb (length old) (sizeOf book t)) _ _ (mild-found (entryNamed book t name)) (mild-refused 10 (λ e. omega arith))
-
-  mild-enum : (name : List ℕ) (k : Target) → Mild (enumLeaf book t name old k)
-  unfolding enumLeaf
-  mild-enum name target.Enum = mild-entry name
-  mild-enum name target.Pointer = mild-refused 17 (λ e. omega arith)
-  mild-enum name target.Other = mild-refused 17 (λ e. omega arith)
-
-  mild-text : (text : List ℕ) (k : Target) → Mild (textLeaf book t text old k)
-  unfolding textLeaf
-  mild-text text target.Enum = mild-entry text
-  mild-text text target.Pointer = mild-text-by _ text old
-  mild-text text target.Other = mild-text-by _ text old
-
-  mild-leaf : (k : Target) (r : Record) (text : List ℕ) → leafFine book text r ≡ true → Mild (leafBy book width t k r text old)
-  unfolding leafBy leafFine ranges.leafBy
-  mild-leaf k r text h =
-      mild-both (eqb (r .kind) 6) _ _ _ _ h (mild-bool (r .b)) (λ h.
-      mild-both (eqb (r .kind) 7) _ _ _ _ h (mild-number _ k) (λ h.
-      mild-both (eqb (r .kind) 8) _ _ _ _ h (mild-number _ k) (λ h.
-      mild-both (eqb (r .kind) 9) _ _ _ _ h (mild-real false (r .b)) (λ h.
-      mild-both (eqb (r .kind) 10) _ _ _ _ h (mild-real true (r .b)) (λ h.
-      mild-both (eqb (r .kind) 11) _ _ _ _ h (mild-text (recordText book text r) k) (λ h.
-      mild-both (eqb (r .kind) 12) _ _ _ _ h (mild-enum (recordText book text r) k) (λ h.
-      mild-both (eqb (r .kind) 13) _ _ _ _ h (mild-refused 17 (λ e. omega arith)) (λ h. different cc))))))))
+-- ---- a leaf
 
 mild-ends : (n : ℕ) (next : Cursor) (bytes : List ℕ) (l : Leaf) → next .at ≡ n → Mild l → EndsAt n (leafEnd next bytes l)
 unfolding leafEnd
@@ -310,7 +207,7 @@ element-mild : (book : List ℕ) (t len : ℕ) (r : Resolved) → EnteredMild (e
 unfolding elementType
 element-mild book t len (resolved.Base e) = entered-if (eqb (bytesOf book t e) len) (entered.Element e) (record { never = λ e. omega arith })
 element-mild book t len (resolved.Lacks b) = record { never = λ e. omega arith }
-element-mild book t len resolved.Endless = record { never = λ e. omega arith }
+element-mild book t len resolved.TooLong = record { never = λ e. omega arith }
 
 entered-mild : (book : List ℕ) (width t len : ℕ) (s : Shape) → EnteredMild (enteredBy book width t len s)
 unfolding enteredBy
@@ -348,7 +245,7 @@ ends-checked : (n : ℕ) (bytes : List ℕ) (f : FieldsCheck) (o : Outcome) → 
 unfolding checked
 ends-checked n bytes check.Fine o p = p
 ends-checked n bytes (check.Lacks b) o p = ends-refused n 7 b bytes (λ e. omega arith)
-ends-checked n bytes check.Endless o p = ends-refused n 8 0 bytes (λ e. omega arith)
+ends-checked n bytes check.TooLong o p = ends-refused n 8 0 bytes (λ e. omega arith)
 
 module _ (c : Ctx) (left : ℕ) (child : Child) (ih : Follows c left child) where
   -- ---- a map
@@ -359,7 +256,7 @@ module _ (c : Ctx) (left : ℕ) (child : Child) (ih : Follows c left child) wher
       ends-if (next .at) (leb (f .offset + f .size) (length bytes)) _ 10 0 bytes (λ e. omega arith)
       (ends-placed (next .at) _ _ bytes _ (ih (whole (f .resolved)) at next _ h))
   field-ends at next bytes h (answer.Lacks b) = ends-refused (next .at) 7 b bytes (λ e. omega arith)
-  field-ends at next bytes h answer.Endless = ends-refused (next .at) 8 0 bytes (λ e. omega arith)
+  field-ends at next bytes h answer.TooLong = ends-refused (next .at) 8 0 bytes (λ e. omega arith)
 
   found-ends : (at next : Cursor) (bytes : List ℕ) → valueAt (formCtx c) left at ≡ At next → (f : Found) → EndsAt (next .at) (foundValue child c at bytes f)
   unfolding foundValue
@@ -491,7 +388,7 @@ root-sixteen : (c : Ctx) (image : List ℕ) (r : Resolved) → formed (c .book) 
 unfolding rootBy
 root-sixteen c image (resolved.Base t) f e = not-sixteen (length (c .tape)) (typeWrite c t image) (formed-ends c t image f) e
 root-sixteen c image (resolved.Lacks b) f e = different cc
-root-sixteen c image resolved.Endless f e = different cc
+root-sixteen c image resolved.TooLong f e = different cc
 
 pub sixteen-is-form : SixteenIsForm
 unfolding bookWrite rootWrite

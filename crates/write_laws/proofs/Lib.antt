@@ -1,12 +1,15 @@
--- Where a write goes: leaves keep their length (Sizes), what is kept outside ranges (Ranges), along the walk (Outside), of a whole write (Wholes).
--- The tape's form: the walk of a write follows it (Ends); a read's leaves are in their ranges (ReadLeaf), its records those of a tree
+-- Where a write goes: leaves keep their length (Sizes), what is kept outside ranges (Ranges), along the walk (Outside), of a whole write (Wholes;
+-- examples: Places).
+-- The tape's form: the walk of a write follows it (LeafForm, Ends); a read's leaves are in their ranges (ReadLeaf), its records those of a tree
 -- (ReadTree), its tape well formed (ReadForm).
--- The round trip: UTF-16 (WideTrip), the ids of texts (TextId), a leaf (TripLeaf), along both walks (TripWalk), of two calls (RoundTrip), its premises (Needed).
+-- The round trip: UTF-16 (WideTrip), the ids of texts (TextId), a leaf (TripLeaf), along both walks (TripWalk), of two calls (RoundTrip), its premises
+-- (Needed). Books: the examples' books.
 mod Plain
 mod Sizes
 mod Ranges
 mod Outside
 pub mod Wholes
+mod LeafForm
 pub mod Ends
 mod ReadLeaf
 mod ReadTree
@@ -16,4 +19,6 @@ mod TextId
 mod TripLeaf
 mod TripWalk
 pub mod RoundTrip
+mod Books
+mod Places
 mod Needed

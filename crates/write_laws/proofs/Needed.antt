@@ -1,8 +1,8 @@
 -- Each premise of the round trip is needed: bytes that a read takes and a write of the same tape does not give back. Assumes nothing.
 use mathlib.Core.Path.{_≡_, refl}
 use mathlib.Core.Bool.{Bool, true, false}
-use mathlib.Core.List.{List, [], _∷_, _++_, flatMap}
-use Prim.Native.Nat.{ℕ, _-_}
+use mathlib.Core.List.{List, [], _∷_, flatMap}
+use Prim.Native.Nat.{ℕ}
 use lib.ListN.{length, replicate}
 use Rattle.ser.specs.Write.{Outcome, went, refused}
 use Rattle.de.specs.Walk.{ctx}
@@ -34,25 +34,15 @@ use Rattle.tape_form.specs.Form as tape-form-form
 use Rattle.shape.specs.Array as shape-array
 use Rattle.leaves.specs.Leaf as leaves-leaf
 use Rattle.steps.specs.Trace as steps-trace
-use Rattle.steps.specs.Text as steps-text
+use Rattle.text_decoder.specs.Text as text-decoder-text
+use Rattle.array_elements.specs.Element as array-elements-element
 use Rattle.de.specs.Walk as de-walk
 use Rattle.de.specs.Read as de-read
 use Rattle.ser_leaf.specs.Leaf as ser-leaf-leaf
 use Rattle.ser.specs.Write as ser-write
 use Rattle.ser.specs.Call as ser-call
 use Rattle.write_laws.specs.Trip as trip
-
--- bytes, filled up with zeros
-filled : ℕ → List ℕ → List ℕ
-filled n bytes = bytes ++ replicate (n - length bytes) 0
-
--- a block: kind, byte 1, bytes 4 to 7, 8 to 11, 12 to 15 and 16 to 19, the bytes from 20 on, name and type name
-made : ℕ → ℕ → ℕ → ℕ → ℕ → ℕ → List ℕ → List ℕ → List ℕ → List ℕ
-made kind flags low size fields entries value name typeName =
-    let bytes : List ℕ =
-    kind ∷ flags ∷ 0 ∷ 0 ∷ (number-le.leBytes 4 low ++ number-le.leBytes 4 size ++ number-le.leBytes 4 fields ++ number-le.leBytes 4 entries ++ filled 32 value
-    ++ (length name ∷ length typeName ∷ (filled 200 name ++ filled 200 typeName ++ replicate 54 0))) in
-    bytes ++ number-le.leBytes 4 (block-form-form.sumOf bytes)
+use Rattle.write_laws.proofs.Books.{filled, made, bare, enum, struct}
 
 -- what a call writes over some bytes of root block 0, of what a call reads of them
 again : List ℕ → List ℕ → Outcome
@@ -60,19 +50,6 @@ again book mem =
     ser-call.writeCall book (length book) 8 0 mem (length mem)
     (steps-trace.tapeBytes 0 (steps-trace.eventsOf (de-read.readTrace book (length book) 8 0 mem)))
     (steps-trace.textBytes (steps-trace.eventsOf (de-read.readTrace book (length book) 8 0 mem)))
-
--- a type T without fields: id and size
-bare : ℕ → ℕ → List ℕ
-bare id size = made 1 0 id size 0 0 [] (0x54 ∷ []) []
-
--- an enum of one byte, with two entries of these names, 1 and 2
-enum : ℕ → ℕ → List ℕ
-enum x y = made 1 4 17 1 0 2 [] (0x45 ∷ []) [] ++ made 3 1 0 0 0 0 (1 ∷ []) (x ∷ []) [] ++ made 3 1 0 0 0 0 (2 ∷ []) (y ∷ []) []
-
--- a struct of two bytes, with two fields of these names and of the type T, an unsigned byte
-struct : ℕ → ℕ → List ℕ
-struct x y =
-    made 1 0 65 2 2 0 [] (0x53 ∷ []) [] ++ made 2 0 0 1 0 0 [] (x ∷ []) (0x54 ∷ []) ++ made 2 0 1 1 0 0 [] (y ∷ []) (0x54 ∷ []) ++ bare 17 1
 
 -- whether the bytes of root block 0 are kept
 kept : List ℕ → List ℕ → Bool
@@ -98,31 +75,19 @@ lost :
     ∷ went (record { at = 24 }) (1 ∷ [])
     ∷ went (record { at = 144 }) (2 ∷ 2 ∷ [])
     ∷ []
-unfolding again kept bare enum struct made filled flatMap number-le.leValue number-le.leBytes integer-integer.twosComplement integer-integer.twosBits integer-integer.bytesValue integer-integer.integerOf integer-integer.readInteger integer-integer.fitsSigned integer-integer.fitsUnsigned integer-integer.fitsId integer-integer.writeInteger integer-integer.bufferAfter integer-integer.integerBytes float-float.singleOf float-float.doubleOf float-float.realOf float-float.readReal float-float.writeReal float-float.realAfter utf-8-utf8.leading utf-8-utf8.following utf-8-utf8.after utf-8-utf8.decodeFrom utf-8-utf8.noError utf-8-utf8.found utf-8-utf8.nextFrom utf-8-utf8.encoded utf-8-utf8.utf8Of windows-1252-text.endFrom windows-1252-text.decodeText windows-1252-text.digits windows-1252-text.bytesBy windows-1252-text.encodeText windows-1252-index.listed windows-1252-index.codePoint windows-1252-index.codePoints windows-1252-index.firstFrom windows-1252-index.byteOf utf-16-decode.unitAlone utf-16-decode.unitAfter utf-16-decode.decodeFrom utf-16-decode.decodeScalars utf-16-encode.utf16Of utf-16-wstring.endFrom typebook-book.sameName typebook-book.isNamed type-id-typeid.idOf type-names-text.isOneOf type-names-text.startsWith type-names-text.contains type-names-names.isPointerName type-names-names.isSubRangeName type-names-names.isPrimitiveName type-category-category.isPointer type-category-category.isReference type-category-category.isAlias type-category-category.orElse type-category-category.isUnion type-category-category.methodsCategory type-category-category.fieldsCategory type-category-category.isEmptyStruct type-category-category.bareCategory type-category-category.sizeCategory type-category-category.complexCategory type-category-category.simpleCategory type-category-category.categoryOf type-provider-find.findFrom type-provider-find.find block-form-form.sumOf block-form-form.sumRight block-form-form.every block-form-form.unusedZero block-form-form.nameForm block-form-form.namesForm block-form-form.typeForm block-form-form.fieldForm block-form-form.entryForm doubles-doubles.allFrom doubles-doubles.isOther doubles-doubles.isFirst book-check-check.sizeRight book-check-check.sumAt book-check-check.placeOf book-check-check.onward book-check-check.placedFrom book-check-check.checkBlocks book-check-check.checkBook book-check-check.rootOf book-check-check.checkRoot resolvers-resolve.isFollowed resolvers-resolve.onward resolvers-resolve.follow resolvers-resolve.lookUp field-types-fields.fieldOf field-types-fields.fieldFound field-types-fields.resolveField field-types-fields.fieldThen field-types-fields.fieldsFrom field-types-fields.fieldsCheck named-blocks-named.namedFrom tape-record.recordBytes tape-record.recordOf tape-record.stepAt tape-text.partOf tape-text.nameIn tape-text.recordText tape-form-ranges.unused tape-form-ranges.isWidth tape-form-ranges.blockIs tape-form-ranges.textIn tape-form-ranges.onlyA tape-form-ranges.empty tape-form-ranges.names tape-form-ranges.onlyB tape-form-ranges.sized tape-form-ranges.integerFine tape-form-ranges.textual tape-form-ranges.leafBy tape-form-ranges.leafFine tape-form-form.withRecord tape-form-form.onward tape-form-form.closing tape-form-form.several tape-form-form.memberAt tape-form-form.shapeOf tape-form-form.valueBy tape-form-form.valueAt tape-form-form.endsAt tape-form-form.formed shape-array.productFrom shape-array.strideOf shape-array.isLast shape-array.bytesOf leaves-leaf.boolLeaf leaves-leaf.numberLeaf leaves-leaf.pointerLeaf leaves-leaf.textLeaf leaves-leaf.entryFrom leaves-leaf.enumLeaf leaves-leaf.leafBy leaves-leaf.leafAt steps-trace.textBytes steps-trace.tapeBytes steps-trace.eventsOf steps-trace.endOf steps-trace._then_ steps-trace.fits steps-trace.stepOf steps-trace.fitting steps-text.decodedBy de-walk.shapeAt de-walk.leafOf de-walk.checked de-walk.fieldValue de-walk.memberOf de-walk.membersFrom de-walk.membersOf de-walk.mapOf de-walk.elementItem de-walk.shapeCheck de-walk.elementCheck de-walk.elementsFrom de-walk.elementsOf de-walk.dimensionOf de-walk.arrayBy de-walk.arrayOf de-walk.shapeWalk de-walk.itemWalk de-walk.walk de-read.rootBy de-read.rootTrace de-read.checkedTrace de-read.readTrace ser-leaf-leaf.exactly ser-leaf-leaf.boolLeaf ser-leaf-leaf.realLeaf ser-leaf-leaf.integerBy ser-leaf-leaf.pointerLeaf ser-leaf-leaf.integerLeaf ser-leaf-leaf.entryBy ser-leaf-leaf.entryLeaf ser-leaf-leaf.enumLeaf ser-leaf-leaf.padded ser-leaf-leaf.textBy ser-leaf-leaf.textLeaf ser-leaf-leaf.leafBy ser-write._then_ ser-write.placed ser-write.takenBy ser-write.taken ser-write.endBy ser-write.leafEnd ser-write.leafOf ser-write.shapeAt ser-write.checked ser-write.fieldValue ser-write.foundValue ser-write.keyBy ser-write.keyOf ser-write.keysFrom ser-write.mapBy ser-write.mapOf ser-write.elementItem ser-write.shapeCheck ser-write.elementCheck ser-write.elementsFrom ser-write.elementsBy ser-write.dimensionOf ser-write.elementType ser-write.enteredBy ser-write.enteredAt ser-write.arrayBy ser-write.arrayOf ser-write.valueBy ser-write.itemWalk ser-write.walk ser-call.typeWrite ser-call.rootBy ser-call.rootWrite ser-call.bookWrite ser-call.checkedWrite ser-call.writeCall trip.zerosAfter trip.isWhole trip.entryKept trip.leafKept trip.finds trip.fieldKept trip.fieldsKept trip.elementsKept trip.dimensionKept trip.arrayKept trip.shapeKept trip.itemKept trip.walkKept trip.rootKept trip.isKept
+unfolding again kept bare enum struct made filled flatMap number-le.leValue number-le.leBytes integer-integer.integerReadNumbers integer-integer.integerWriteNumbers integer-integer.twosComplement integer-integer.twosBits integer-integer.bytesValue integer-integer.integerOf integer-integer.readInteger integer-integer.fitsSigned integer-integer.fitsUnsigned integer-integer.fitsId integer-integer.writeInteger integer-integer.bufferAfter integer-integer.integerBytes float-float.realReadNumbers float-float.singleOf float-float.doubleOf float-float.realOf float-float.readReal float-float.writeReal float-float.realAfter utf-8-utf8.leading utf-8-utf8.following utf-8-utf8.after utf-8-utf8.decodeFrom utf-8-utf8.noError utf-8-utf8.found utf-8-utf8.nextFrom utf-8-utf8.encoded utf-8-utf8.utf8Of windows-1252-text.endFrom windows-1252-text.decodeText windows-1252-text.digits windows-1252-text.bytesBy windows-1252-text.encodeText windows-1252-index.listed windows-1252-index.codePoint windows-1252-index.codePoints windows-1252-index.firstFrom windows-1252-index.byteOf utf-16-decode.unitAlone utf-16-decode.unitAfter utf-16-decode.decodeFrom utf-16-decode.decodeScalars utf-16-encode.utf16Of utf-16-wstring.endFrom typebook-book.sameName typebook-book.isNamed type-id-typeid.idOf type-names-text.isOneOf type-names-text.startsWith type-names-text.contains type-names-names.isPointerName type-names-names.isSubRangeName type-names-names.isPrimitiveName type-category-category.isPointer type-category-category.isReference type-category-category.isAlias type-category-category.orElse type-category-category.isUnion type-category-category.methodsCategory type-category-category.fieldsCategory type-category-category.isEmptyStruct type-category-category.bareCategory type-category-category.sizeCategory type-category-category.complexCategory type-category-category.simpleCategory type-category-category.categoryOf type-provider-find.findFrom type-provider-find.find block-form-form.sumOf block-form-form.sumRight block-form-form.every block-form-form.unusedZero block-form-form.nameForm block-form-form.namesForm block-form-form.typeForm block-form-form.flagsForm block-form-form.fieldForm block-form-form.entryForm doubles-doubles.allFrom doubles-doubles.isOther doubles-doubles.isFirst book-check-check.sizeRight book-check-check.sumAt book-check-check.placeOf book-check-check.onward book-check-check.placedFrom book-check-check.checkBlocks book-check-check.checkBook book-check-check.rootOf book-check-check.bookNumbers book-check-check.atRoot book-check-check.checkRoot resolvers-resolve.isFollowed resolvers-resolve.onward resolvers-resolve.follow resolvers-resolve.lookUp field-types-fields.fieldOf field-types-fields.fieldFound field-types-fields.resolveField field-types-fields.fieldThen field-types-fields.fieldsFrom field-types-fields.fieldsCheck named-blocks-named.namedFrom tape-record.recordBytes tape-record.recordOf tape-record.stepAt tape-text.partOf tape-text.nameIn tape-text.recordText tape-form-ranges.unused tape-form-ranges.isWidth tape-form-ranges.blockIs tape-form-ranges.textIn tape-form-ranges.onlyA tape-form-ranges.empty tape-form-ranges.names tape-form-ranges.onlyB tape-form-ranges.sized tape-form-ranges.integerFine tape-form-ranges.textual tape-form-ranges.leafBy tape-form-ranges.leafFine tape-form-form.withRecord tape-form-form.onward tape-form-form.closing tape-form-form.several tape-form-form.memberAt tape-form-form.shapeOf tape-form-form.valueBy tape-form-form.valueAt tape-form-form.endsAt tape-form-form.formed shape-array.productFrom shape-array.strideOf shape-array.isLast shape-array.bytesOf leaves-leaf.boolLeaf leaves-leaf.integerLeaf leaves-leaf.realOr leaves-leaf.numberLeaf leaves-leaf.pointerLeaf leaves-leaf.decoderOf leaves-leaf.textLeaf leaves-leaf.entryFrom leaves-leaf.unlisted leaves-leaf.enumLeaf leaves-leaf.kindLeaf leaves-leaf.leafBy leaves-leaf.leafAt steps-trace.textBytes steps-trace.tapeBytes steps-trace.eventsOf steps-trace.endOf steps-trace._then_ steps-trace.fits steps-trace.stepOf steps-trace.fitting text-decoder-text.decodedBy text-decoder-text.endBy array-elements-element.shapeAt de-walk.leafOf de-walk.checked de-walk.fieldValue de-walk.memberOf de-walk.membersFrom de-walk.membersOf de-walk.mapOf array-elements-element.elementItem array-elements-element.shapeCheck array-elements-element.elementCheck de-walk.elementsFrom de-walk.elementsOf de-walk.dimensionOf de-walk.elementBy de-walk.arrayBy de-walk.arrayOf de-walk.shapeWalk de-walk.itemWalk de-walk.walk de-read.rootBy de-read.rootTrace de-read.checkedTrace de-read.readTrace ser-leaf-leaf.exactly ser-leaf-leaf.boolLeaf ser-leaf-leaf.realLeaf ser-leaf-leaf.integerBy ser-leaf-leaf.pointerLeaf ser-leaf-leaf.integerLeaf ser-leaf-leaf.entryBy ser-leaf-leaf.entryLeaf ser-leaf-leaf.enumLeaf ser-leaf-leaf.padded ser-leaf-leaf.textBy ser-leaf-leaf.textLeaf ser-leaf-leaf.leafBy ser-write._then_ ser-write.placed ser-write.takenBy ser-write.taken ser-write.endBy ser-write.leafEnd ser-write.leafOf ser-write.shapeAt ser-write.checked ser-write.fieldValue ser-write.foundValue ser-write.keyBy ser-write.keyOf ser-write.keysFrom ser-write.mapBy ser-write.mapOf ser-write.elementItem ser-write.shapeCheck ser-write.elementCheck ser-write.elementsFrom ser-write.elementsBy ser-write.dimensionOf ser-write.elementType ser-write.enteredBy ser-write.enteredAt ser-write.arrayBy ser-write.arrayOf ser-write.valueBy ser-write.itemWalk ser-write.walk ser-call.typeWrite ser-call.rootBy ser-call.rootWrite ser-call.refusedBefore ser-call.bookWrite ser-call.checkedWrite ser-call.writeCall trip.zerosAfter trip.isWhole trip.textKept trip.entryKept trip.leafKept trip.finds trip.fieldKept trip.fieldsKept trip.elementsKept trip.dimensionKept trip.arrayKept trip.shapeKept trip.itemKept trip.walkKept trip.rootKept trip.isKept
 lost = refl
 
--- and the premise says so, case by case
+-- and the premise says so, case by case; their like is kept
 told :
-    kept (bare 33 1) (2 ∷ [])
-    ∷ kept (bare 30 3) (0x41 ∷ 0 ∷ 0x42 ∷ [])
-    ∷ kept (bare 30 2) (0x41 ∷ 0x42 ∷ [])
-    ∷ kept (bare 31 4) (0 ∷ 0xd8 ∷ 0 ∷ 0 ∷ [])
-    ∷ kept (bare 65 1) (7 ∷ [])
-    ∷ kept (enum 0x58 0x58) (2 ∷ [])
-    ∷ kept (struct 0x41 0x41) (1 ∷ 2 ∷ [])
+    kept (bare 33 1) (2 ∷ []) ∷ kept (bare 33 1) (1 ∷ [])
+    ∷ kept (bare 30 3) (0x41 ∷ 0 ∷ 0x42 ∷ []) ∷ kept (bare 30 3) (0x41 ∷ 0x80 ∷ 0 ∷ [])
+    ∷ kept (bare 30 2) (0x41 ∷ 0x42 ∷ []) ∷ kept (bare 30 2) (0x41 ∷ 0 ∷ [])
+    ∷ kept (bare 31 4) (0 ∷ 0xd8 ∷ 0 ∷ 0 ∷ []) ∷ kept (bare 31 4) (0x41 ∷ 0 ∷ 0 ∷ 0 ∷ [])
+    ∷ kept (bare 65 1) (7 ∷ []) ∷ kept (bare 17 1) (7 ∷ [])
+    ∷ kept (enum 0x58 0x58) (2 ∷ []) ∷ kept (enum 0x58 0x59) (2 ∷ [])
+    ∷ kept (struct 0x41 0x41) (1 ∷ 2 ∷ []) ∷ kept (struct 0x41 0x42) (1 ∷ 2 ∷ [])
     ∷ []
-    ≡ replicate 7 false
-unfolding again kept bare enum struct made filled flatMap number-le.leValue number-le.leBytes integer-integer.twosComplement integer-integer.twosBits integer-integer.bytesValue integer-integer.integerOf integer-integer.readInteger integer-integer.fitsSigned integer-integer.fitsUnsigned integer-integer.fitsId integer-integer.writeInteger integer-integer.bufferAfter integer-integer.integerBytes float-float.singleOf float-float.doubleOf float-float.realOf float-float.readReal float-float.writeReal float-float.realAfter utf-8-utf8.leading utf-8-utf8.following utf-8-utf8.after utf-8-utf8.decodeFrom utf-8-utf8.noError utf-8-utf8.found utf-8-utf8.nextFrom utf-8-utf8.encoded utf-8-utf8.utf8Of windows-1252-text.endFrom windows-1252-text.decodeText windows-1252-text.digits windows-1252-text.bytesBy windows-1252-text.encodeText windows-1252-index.listed windows-1252-index.codePoint windows-1252-index.codePoints windows-1252-index.firstFrom windows-1252-index.byteOf utf-16-decode.unitAlone utf-16-decode.unitAfter utf-16-decode.decodeFrom utf-16-decode.decodeScalars utf-16-encode.utf16Of utf-16-wstring.endFrom typebook-book.sameName typebook-book.isNamed type-id-typeid.idOf type-names-text.isOneOf type-names-text.startsWith type-names-text.contains type-names-names.isPointerName type-names-names.isSubRangeName type-names-names.isPrimitiveName type-category-category.isPointer type-category-category.isReference type-category-category.isAlias type-category-category.orElse type-category-category.isUnion type-category-category.methodsCategory type-category-category.fieldsCategory type-category-category.isEmptyStruct type-category-category.bareCategory type-category-category.sizeCategory type-category-category.complexCategory type-category-category.simpleCategory type-category-category.categoryOf type-provider-find.findFrom type-provider-find.find block-form-form.sumOf block-form-form.sumRight block-form-form.every block-form-form.unusedZero block-form-form.nameForm block-form-form.namesForm block-form-form.typeForm block-form-form.fieldForm block-form-form.entryForm doubles-doubles.allFrom doubles-doubles.isOther doubles-doubles.isFirst book-check-check.sizeRight book-check-check.sumAt book-check-check.placeOf book-check-check.onward book-check-check.placedFrom book-check-check.checkBlocks book-check-check.checkBook book-check-check.rootOf book-check-check.checkRoot resolvers-resolve.isFollowed resolvers-resolve.onward resolvers-resolve.follow resolvers-resolve.lookUp field-types-fields.fieldOf field-types-fields.fieldFound field-types-fields.resolveField field-types-fields.fieldThen field-types-fields.fieldsFrom field-types-fields.fieldsCheck named-blocks-named.namedFrom tape-record.recordBytes tape-record.recordOf tape-record.stepAt tape-text.partOf tape-text.nameIn tape-text.recordText tape-form-ranges.unused tape-form-ranges.isWidth tape-form-ranges.blockIs tape-form-ranges.textIn tape-form-ranges.onlyA tape-form-ranges.empty tape-form-ranges.names tape-form-ranges.onlyB tape-form-ranges.sized tape-form-ranges.integerFine tape-form-ranges.textual tape-form-ranges.leafBy tape-form-ranges.leafFine tape-form-form.withRecord tape-form-form.onward tape-form-form.closing tape-form-form.several tape-form-form.memberAt tape-form-form.shapeOf tape-form-form.valueBy tape-form-form.valueAt tape-form-form.endsAt tape-form-form.formed shape-array.productFrom shape-array.strideOf shape-array.isLast shape-array.bytesOf leaves-leaf.boolLeaf leaves-leaf.numberLeaf leaves-leaf.pointerLeaf leaves-leaf.textLeaf leaves-leaf.entryFrom leaves-leaf.enumLeaf leaves-leaf.leafBy leaves-leaf.leafAt steps-trace.textBytes steps-trace.tapeBytes steps-trace.eventsOf steps-trace.endOf steps-trace._then_ steps-trace.fits steps-trace.stepOf steps-trace.fitting steps-text.decodedBy de-walk.shapeAt de-walk.leafOf de-walk.checked de-walk.fieldValue de-walk.memberOf de-walk.membersFrom de-walk.membersOf de-walk.mapOf de-walk.elementItem de-walk.shapeCheck de-walk.elementCheck de-walk.elementsFrom de-walk.elementsOf de-walk.dimensionOf de-walk.arrayBy de-walk.arrayOf de-walk.shapeWalk de-walk.itemWalk de-walk.walk de-read.rootBy de-read.rootTrace de-read.checkedTrace de-read.readTrace ser-leaf-leaf.exactly ser-leaf-leaf.boolLeaf ser-leaf-leaf.realLeaf ser-leaf-leaf.integerBy ser-leaf-leaf.pointerLeaf ser-leaf-leaf.integerLeaf ser-leaf-leaf.entryBy ser-leaf-leaf.entryLeaf ser-leaf-leaf.enumLeaf ser-leaf-leaf.padded ser-leaf-leaf.textBy ser-leaf-leaf.textLeaf ser-leaf-leaf.leafBy ser-write._then_ ser-write.placed ser-write.takenBy ser-write.taken ser-write.endBy ser-write.leafEnd ser-write.leafOf ser-write.shapeAt ser-write.checked ser-write.fieldValue ser-write.foundValue ser-write.keyBy ser-write.keyOf ser-write.keysFrom ser-write.mapBy ser-write.mapOf ser-write.elementItem ser-write.shapeCheck ser-write.elementCheck ser-write.elementsFrom ser-write.elementsBy ser-write.dimensionOf ser-write.elementType ser-write.enteredBy ser-write.enteredAt ser-write.arrayBy ser-write.arrayOf ser-write.valueBy ser-write.itemWalk ser-write.walk ser-call.typeWrite ser-call.rootBy ser-call.rootWrite ser-call.bookWrite ser-call.checkedWrite ser-call.writeCall trip.zerosAfter trip.isWhole trip.entryKept trip.leafKept trip.finds trip.fieldKept trip.fieldsKept trip.elementsKept trip.dimensionKept trip.arrayKept trip.shapeKept trip.itemKept trip.walkKept trip.rootKept trip.isKept
+    ≡ false ∷ true ∷ false ∷ true ∷ false ∷ true ∷ false ∷ true ∷ false ∷ true ∷ false ∷ true ∷ false ∷ true ∷ []
+unfolding again kept bare enum struct made filled flatMap number-le.leValue number-le.leBytes integer-integer.integerReadNumbers integer-integer.integerWriteNumbers integer-integer.twosComplement integer-integer.twosBits integer-integer.bytesValue integer-integer.integerOf integer-integer.readInteger integer-integer.fitsSigned integer-integer.fitsUnsigned integer-integer.fitsId integer-integer.writeInteger integer-integer.bufferAfter integer-integer.integerBytes float-float.realReadNumbers float-float.singleOf float-float.doubleOf float-float.realOf float-float.readReal float-float.writeReal float-float.realAfter utf-8-utf8.leading utf-8-utf8.following utf-8-utf8.after utf-8-utf8.decodeFrom utf-8-utf8.noError utf-8-utf8.found utf-8-utf8.nextFrom utf-8-utf8.encoded utf-8-utf8.utf8Of windows-1252-text.endFrom windows-1252-text.decodeText windows-1252-text.digits windows-1252-text.bytesBy windows-1252-text.encodeText windows-1252-index.listed windows-1252-index.codePoint windows-1252-index.codePoints windows-1252-index.firstFrom windows-1252-index.byteOf utf-16-decode.unitAlone utf-16-decode.unitAfter utf-16-decode.decodeFrom utf-16-decode.decodeScalars utf-16-encode.utf16Of utf-16-wstring.endFrom typebook-book.sameName typebook-book.isNamed type-id-typeid.idOf type-names-text.isOneOf type-names-text.startsWith type-names-text.contains type-names-names.isPointerName type-names-names.isSubRangeName type-names-names.isPrimitiveName type-category-category.isPointer type-category-category.isReference type-category-category.isAlias type-category-category.orElse type-category-category.isUnion type-category-category.methodsCategory type-category-category.fieldsCategory type-category-category.isEmptyStruct type-category-category.bareCategory type-category-category.sizeCategory type-category-category.complexCategory type-category-category.simpleCategory type-category-category.categoryOf type-provider-find.findFrom type-provider-find.find block-form-form.sumOf block-form-form.sumRight block-form-form.every block-form-form.unusedZero block-form-form.nameForm block-form-form.namesForm block-form-form.typeForm block-form-form.flagsForm block-form-form.fieldForm block-form-form.entryForm doubles-doubles.allFrom doubles-doubles.isOther doubles-doubles.isFirst book-check-check.sizeRight book-check-check.sumAt book-check-check.placeOf book-check-check.onward book-check-check.placedFrom book-check-check.checkBlocks book-check-check.checkBook book-check-check.rootOf book-check-check.bookNumbers book-check-check.atRoot book-check-check.checkRoot resolvers-resolve.isFollowed resolvers-resolve.onward resolvers-resolve.follow resolvers-resolve.lookUp field-types-fields.fieldOf field-types-fields.fieldFound field-types-fields.resolveField field-types-fields.fieldThen field-types-fields.fieldsFrom field-types-fields.fieldsCheck named-blocks-named.namedFrom tape-record.recordBytes tape-record.recordOf tape-record.stepAt tape-text.partOf tape-text.nameIn tape-text.recordText tape-form-ranges.unused tape-form-ranges.isWidth tape-form-ranges.blockIs tape-form-ranges.textIn tape-form-ranges.onlyA tape-form-ranges.empty tape-form-ranges.names tape-form-ranges.onlyB tape-form-ranges.sized tape-form-ranges.integerFine tape-form-ranges.textual tape-form-ranges.leafBy tape-form-ranges.leafFine tape-form-form.withRecord tape-form-form.onward tape-form-form.closing tape-form-form.several tape-form-form.memberAt tape-form-form.shapeOf tape-form-form.valueBy tape-form-form.valueAt tape-form-form.endsAt tape-form-form.formed shape-array.productFrom shape-array.strideOf shape-array.isLast shape-array.bytesOf leaves-leaf.boolLeaf leaves-leaf.integerLeaf leaves-leaf.realOr leaves-leaf.numberLeaf leaves-leaf.pointerLeaf leaves-leaf.decoderOf leaves-leaf.textLeaf leaves-leaf.entryFrom leaves-leaf.unlisted leaves-leaf.enumLeaf leaves-leaf.kindLeaf leaves-leaf.leafBy leaves-leaf.leafAt steps-trace.textBytes steps-trace.tapeBytes steps-trace.eventsOf steps-trace.endOf steps-trace._then_ steps-trace.fits steps-trace.stepOf steps-trace.fitting text-decoder-text.decodedBy text-decoder-text.endBy array-elements-element.shapeAt de-walk.leafOf de-walk.checked de-walk.fieldValue de-walk.memberOf de-walk.membersFrom de-walk.membersOf de-walk.mapOf array-elements-element.elementItem array-elements-element.shapeCheck array-elements-element.elementCheck de-walk.elementsFrom de-walk.elementsOf de-walk.dimensionOf de-walk.elementBy de-walk.arrayBy de-walk.arrayOf de-walk.shapeWalk de-walk.itemWalk de-walk.walk de-read.rootBy de-read.rootTrace de-read.checkedTrace de-read.readTrace ser-leaf-leaf.exactly ser-leaf-leaf.boolLeaf ser-leaf-leaf.realLeaf ser-leaf-leaf.integerBy ser-leaf-leaf.pointerLeaf ser-leaf-leaf.integerLeaf ser-leaf-leaf.entryBy ser-leaf-leaf.entryLeaf ser-leaf-leaf.enumLeaf ser-leaf-leaf.padded ser-leaf-leaf.textBy ser-leaf-leaf.textLeaf ser-leaf-leaf.leafBy ser-write._then_ ser-write.placed ser-write.takenBy ser-write.taken ser-write.endBy ser-write.leafEnd ser-write.leafOf ser-write.shapeAt ser-write.checked ser-write.fieldValue ser-write.foundValue ser-write.keyBy ser-write.keyOf ser-write.keysFrom ser-write.mapBy ser-write.mapOf ser-write.elementItem ser-write.shapeCheck ser-write.elementCheck ser-write.elementsFrom ser-write.elementsBy ser-write.dimensionOf ser-write.elementType ser-write.enteredBy ser-write.enteredAt ser-write.arrayBy ser-write.arrayOf ser-write.valueBy ser-write.itemWalk ser-write.walk ser-call.typeWrite ser-call.rootBy ser-call.rootWrite ser-call.refusedBefore ser-call.bookWrite ser-call.checkedWrite ser-call.writeCall trip.zerosAfter trip.isWhole trip.textKept trip.entryKept trip.leafKept trip.finds trip.fieldKept trip.fieldsKept trip.elementsKept trip.dimensionKept trip.arrayKept trip.shapeKept trip.itemKept trip.walkKept trip.rootKept trip.isKept
 told = refl
-
--- their like that is kept
-given-back :
-    kept (bare 33 1) (1 ∷ [])
-    ∷ kept (bare 30 3) (0x41 ∷ 0x80 ∷ 0 ∷ [])
-    ∷ kept (bare 31 4) (0x41 ∷ 0 ∷ 0 ∷ 0 ∷ [])
-    ∷ kept (enum 0x58 0x59) (2 ∷ [])
-    ∷ kept (struct 0x41 0x42) (1 ∷ 2 ∷ [])
-    ∷ []
-    ≡ replicate 5 true
-unfolding again kept bare enum struct made filled flatMap number-le.leValue number-le.leBytes integer-integer.twosComplement integer-integer.twosBits integer-integer.bytesValue integer-integer.integerOf integer-integer.readInteger integer-integer.fitsSigned integer-integer.fitsUnsigned integer-integer.fitsId integer-integer.writeInteger integer-integer.bufferAfter integer-integer.integerBytes float-float.singleOf float-float.doubleOf float-float.realOf float-float.readReal float-float.writeReal float-float.realAfter utf-8-utf8.leading utf-8-utf8.following utf-8-utf8.after utf-8-utf8.decodeFrom utf-8-utf8.noError utf-8-utf8.found utf-8-utf8.nextFrom utf-8-utf8.encoded utf-8-utf8.utf8Of windows-1252-text.endFrom windows-1252-text.decodeText windows-1252-text.digits windows-1252-text.bytesBy windows-1252-text.encodeText windows-1252-index.listed windows-1252-index.codePoint windows-1252-index.codePoints windows-1252-index.firstFrom windows-1252-index.byteOf utf-16-decode.unitAlone utf-16-decode.unitAfter utf-16-decode.decodeFrom utf-16-decode.decodeScalars utf-16-encode.utf16Of utf-16-wstring.endFrom typebook-book.sameName typebook-book.isNamed type-id-typeid.idOf type-names-text.isOneOf type-names-text.startsWith type-names-text.contains type-names-names.isPointerName type-names-names.isSubRangeName type-names-names.isPrimitiveName type-category-category.isPointer type-category-category.isReference type-category-category.isAlias type-category-category.orElse type-category-category.isUnion type-category-category.methodsCategory type-category-category.fieldsCategory type-category-category.isEmptyStruct type-category-category.bareCategory type-category-category.sizeCategory type-category-category.complexCategory type-category-category.simpleCategory type-category-category.categoryOf type-provider-find.findFrom type-provider-find.find block-form-form.sumOf block-form-form.sumRight block-form-form.every block-form-form.unusedZero block-form-form.nameForm block-form-form.namesForm block-form-form.typeForm block-form-form.fieldForm block-form-form.entryForm doubles-doubles.allFrom doubles-doubles.isOther doubles-doubles.isFirst book-check-check.sizeRight book-check-check.sumAt book-check-check.placeOf book-check-check.onward book-check-check.placedFrom book-check-check.checkBlocks book-check-check.checkBook book-check-check.rootOf book-check-check.checkRoot resolvers-resolve.isFollowed resolvers-resolve.onward resolvers-resolve.follow resolvers-resolve.lookUp field-types-fields.fieldOf field-types-fields.fieldFound field-types-fields.resolveField field-types-fields.fieldThen field-types-fields.fieldsFrom field-types-fields.fieldsCheck named-blocks-named.namedFrom tape-record.recordBytes tape-record.recordOf tape-record.stepAt tape-text.partOf tape-text.nameIn tape-text.recordText tape-form-ranges.unused tape-form-ranges.isWidth tape-form-ranges.blockIs tape-form-ranges.textIn tape-form-ranges.onlyA tape-form-ranges.empty tape-form-ranges.names tape-form-ranges.onlyB tape-form-ranges.sized tape-form-ranges.integerFine tape-form-ranges.textual tape-form-ranges.leafBy tape-form-ranges.leafFine tape-form-form.withRecord tape-form-form.onward tape-form-form.closing tape-form-form.several tape-form-form.memberAt tape-form-form.shapeOf tape-form-form.valueBy tape-form-form.valueAt tape-form-form.endsAt tape-form-form.formed shape-array.productFrom shape-array.strideOf shape-array.isLast shape-array.bytesOf leaves-leaf.boolLeaf leaves-leaf.numberLeaf leaves-leaf.pointerLeaf leaves-leaf.textLeaf leaves-leaf.entryFrom leaves-leaf.enumLeaf leaves-leaf.leafBy leaves-leaf.leafAt steps-trace.textBytes steps-trace.tapeBytes steps-trace.eventsOf steps-trace.endOf steps-trace._then_ steps-trace.fits steps-trace.stepOf steps-trace.fitting steps-text.decodedBy de-walk.shapeAt de-walk.leafOf de-walk.checked de-walk.fieldValue de-walk.memberOf de-walk.membersFrom de-walk.membersOf de-walk.mapOf de-walk.elementItem de-walk.shapeCheck de-walk.elementCheck de-walk.elementsFrom de-walk.elementsOf de-walk.dimensionOf de-walk.arrayBy de-walk.arrayOf de-walk.shapeWalk de-walk.itemWalk de-walk.walk de-read.rootBy de-read.rootTrace de-read.checkedTrace de-read.readTrace ser-leaf-leaf.exactly ser-leaf-leaf.boolLeaf ser-leaf-leaf.realLeaf ser-leaf-leaf.integerBy ser-leaf-leaf.pointerLeaf ser-leaf-leaf.integerLeaf ser-leaf-leaf.entryBy ser-leaf-leaf.entryLeaf ser-leaf-leaf.enumLeaf ser-leaf-leaf.padded ser-leaf-leaf.textBy ser-leaf-leaf.textLeaf ser-leaf-leaf.leafBy ser-write._then_ ser-write.placed ser-write.takenBy ser-write.taken ser-write.endBy ser-write.leafEnd ser-write.leafOf ser-write.shapeAt ser-write.checked ser-write.fieldValue ser-write.foundValue ser-write.keyBy ser-write.keyOf ser-write.keysFrom ser-write.mapBy ser-write.mapOf ser-write.elementItem ser-write.shapeCheck ser-write.elementCheck ser-write.elementsFrom ser-write.elementsBy ser-write.dimensionOf ser-write.elementType ser-write.enteredBy ser-write.enteredAt ser-write.arrayBy ser-write.arrayOf ser-write.valueBy ser-write.itemWalk ser-write.walk ser-call.typeWrite ser-call.rootBy ser-call.rootWrite ser-call.bookWrite ser-call.checkedWrite ser-call.writeCall trip.zerosAfter trip.isWhole trip.entryKept trip.leafKept trip.finds trip.fieldKept trip.fieldsKept trip.elementsKept trip.dimensionKept trip.arrayKept trip.shapeKept trip.itemKept trip.walkKept trip.rootKept trip.isKept
-given-back = refl

@@ -31,7 +31,9 @@ use Rattle.steps.specs.declared.ReadAnswer.{ReadAnswer}
 use Rattle.steps.specs.declared.ReadAnswer.the-variants as reading
 use Rattle.steps.specs.Trace.{Event, Trace, done, stop, textBytes, tapeBytes, eventsOf, endOf, fits, stepOf, refuse}
 use Rattle.steps.specs.Answer.{answerOf, bufferAfter, ReadIs}
-use Rattle.de.specs.Walk.{ctx, whole}
+use Rattle.steps.proofs.Numbers.{read-is}
+use Rattle.array_elements.specs.Element.{whole}
+use Rattle.de.specs.Walk.{ctx, typedOf}
 use Rattle.de.specs.Read.{rootBy, rootTrace, checkedTrace, readTrace}
 use Rattle.write_laws.specs.Laws.{ReadIsFormed}
 use Rattle.write_laws.proofs.Plain.{different, and-right}
@@ -46,19 +48,19 @@ record Reads (book : List ℕ) (t : Trace) : Type 0 where
 reads-refused : (book : List ℕ) (n b : ℕ) → Reads book (refuse n b)
 reads-refused book n b = record { forms = λ buffer l. record { emits = tt } }
 
-by-root : (book : List ℕ) (width : ℕ) (mem : List ℕ) → ValidBook book → Bytes book → Bytes mem → (r : Resolved)
-    → ((u : ℕ) → r ≡ resolved.Base u → isType book u ≡ true) → Reads book (rootBy (ctx book width) mem r)
+by-root : (book : List ℕ) (width n : ℕ) (mem : List ℕ) → ValidBook book → Bytes book → Bytes mem → (r : Resolved)
+    → ((u : ℕ) → r ≡ resolved.Base u → isType book u ≡ true) → Reads book (rootBy (ctx book width) n mem r)
 unfolding rootBy
-by-root book width mem v p b (resolved.Base t) h = record { forms = λ buffer l. walk-emits book buffer l v p width 64 (whole t) mem (h t refl) b }
-by-root book width mem v p b (resolved.Lacks n) h = reads-refused book 7 n
-by-root book width mem v p b resolved.Endless h = reads-refused book 8 0
+by-root book width n mem v p b (resolved.Base t) h = record { forms = λ buffer l. walk-emits book buffer l v p width 64 (whole (typedOf (ctx book width) n t)) mem (h t refl) b }
+by-root book width n mem v p b (resolved.Lacks k) h = reads-refused book 7 k
+by-root book width n mem v p b resolved.TooLong h = reads-refused book 8 0
 
 by-check : (buffer : List ℕ) (len width n : ℕ) (mem : List ℕ) → Bytes buffer → Bytes mem → (k : RootCheck) → checkRoot buffer len n ≡ k
     → Reads (take len buffer) (checkedTrace (take len buffer) width mem k)
 unfolding checkedTrace rootTrace
 by-check buffer len width n mem p b (root.Root m) e =
     let v = root-valid buffer len n m e in
-    by-root (take len buffer) width mem (v .valid) (bytes-take len buffer p) b (resolveAlias (take len buffer) width m)
+    by-root (take len buffer) width m mem (v .valid) (bytes-take len buffer p) b (resolveAlias (take len buffer) width m)
     (base-typed (take len buffer) width m (v .kind))
 by-check buffer len width n mem p b (root.Refused k) e = reads-refused (take len buffer) k 0
 
@@ -136,7 +138,7 @@ module _ (tape txt tape′ txt′ : List ℕ) (k m : ℕ) where
 
   told : (t : Trace) (r : ReadAnswer) → ReadIs t tape txt r tape′ txt′ → r ≡ reading.Done k m → Told t tape txt tape′ txt′ k m
   unfolding stepOf
-  told t r h e = told-by t (fits (eventsOf t) 0 0 (length tape) (length txt)) refl (sym e ∙ h .answer) (h .tape-is) (h .text-is)
+  told t r h e = told-by t (fits (eventsOf t) 0 0 (length tape) (length txt)) refl (sym e ∙ read-is _ _ (h .answer)) (h .tape-is) (h .text-is)
 
   -- the events of an accepted read, as they stand in the two buffers
   pub record Standing (t : Trace) (room : ℕ) : Type 0 where

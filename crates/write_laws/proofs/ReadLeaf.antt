@@ -15,13 +15,13 @@ use Rattle.number.proofs.ByteOrder.{leValue-below, pow-bytes}
 use Rattle.type_id.specs.TypeId.{idOf, idWidth, idSigned}
 use Rattle.type_id.specs.declared.AdsTypeId.{AdsTypeId}
 use Rattle.type_id.specs.declared.AdsTypeId.the-variants.{Void, Int16, Int32, Real32, Real64, Int8, UInt8, UInt16, UInt32, Int64, UInt64, String, WString, Real80, Bit, MaxTypes, BigType, Unknown}
-use Rattle.integer.specs.Integer.{twosComplement, twosBits, bytesValue, integerOf, readInteger, fitsSigned}
+use Rattle.integer.specs.Integer.{twosComplement, twosBits, bytesValue, integerOf, integerReadNumbers, readInteger, fitsSigned}
 use Rattle.integer.specs.declared.Integer.the-variants as integer
 use Rattle.integer.specs.declared.IntegerRead.{IntegerRead}
 use Rattle.integer.specs.declared.IntegerRead.the-variants as read
 use Rattle.integer.proofs.TwosComplement.{twos-fits}
 use Rattle.integer.proofs.Integers.{width-small}
-use Rattle.float.specs.Float.{realWidth, singleOf, doubleOf, realOf, realBits, readReal}
+use Rattle.float.specs.Float.{realWidth, singleOf, doubleOf, realOf, realBits, realReadNumbers, readReal}
 use Rattle.float.specs.declared.Real.the-variants as real
 use Rattle.float.specs.declared.RealRead.the-variants as realRead
 use Rattle.float.proofs.Reals.{single-back, double-back}
@@ -39,8 +39,10 @@ use Rattle.leaves.specs.declared.leaf.LeafValue.{LeafValue}
 use Rattle.leaves.specs.declared.leaf.LeafValue.the-variants as leaf
 use Rattle.leaves.specs.declared.leaf.LeafKind.{LeafKind}
 use Rattle.leaves.specs.declared.leaf.LeafKind.the-variants as kind
-use Rattle.leaves.specs.Leaf.{kindOfLeaf, boolLeaf, realLeaf, valueLeaf, integerLeaf, realOr, numberLeaf, pointerLeaf, textLeaf, entryFrom, unlisted, entryOr, enumLeaf, leafBy, leafAt}
-use Rattle.steps.specs.Text.{decodedBy}
+use Rattle.leaves.specs.Leaf.{kindOfLeaf, boolLeaf, realLeaf, valueLeaf, integerLeaf, realOr, numberLeaf, pointerLeaf, textLeaf, entryFrom, unlisted, entryOr, enumLeaf, kindLeaf, leafBy, leafAt}
+use Rattle.text_decoder.specs.Text.{decodedBy}
+use Rattle.text_decoder.specs.declared.Decoder.{Decoder}
+use Rattle.text_decoder.specs.declared.Decoder.the-variants as decoder
 use Rattle.tape_form.specs.Ranges.{isWidth}
 
 -- ---- the ranges of a value
@@ -72,8 +74,7 @@ FineBy book (leaf.Single x) = toBits binary32 x < 2 ^ 32
 FineBy book (leaf.Double x) = toBits binary64 x < 2 ^ 64
 FineBy book (leaf.NanSingle n) = n < 2 ^ 32
 FineBy book (leaf.NanDouble n) = n < 2 ^ 64
-FineBy book (leaf.Text n) = Unit {0}
-FineBy book (leaf.WideText n) = Unit {0}
+FineBy book (leaf.Text d e) = Unit {0}
 FineBy book (leaf.Entry n) = EntryFine book n
 FineBy book leaf.Unit = Unit {0}
 FineBy book (leaf.Refused k) = Unit {0}
@@ -142,7 +143,7 @@ module _ (book : List ℕ) (mem : List ℕ) (b : Bytes mem) where
         by false = record { fine = record { width = width-is t h; most = width-small t; small = bytes-small (idWidth t) mem b l } }
 
     pub read-fine : FineValue book (integerLeaf (readInteger t mem))
-    unfolding readInteger
+    unfolding readInteger integerReadNumbers integerLeaf
     read-fine = by (eqb (idWidth t) 0) refl (eqb (length mem) (idWidth t)) refl
       where
         by : (x : Bool) → eqb (idWidth t) 0 ≡ x → (y : Bool) → eqb (length mem) (idWidth t) ≡ y
@@ -177,7 +178,7 @@ module _ (book : List ℕ) (mem : List ℕ) (b : Bytes mem) where
   real-fine false h = single-fine (leValue mem % 2 ^ 32) (mod-lt (leValue mem) (omega arith))
 
   real-or : (t : AdsTypeId) (other : LeafValue) → FineValue book other → FineValue book (realOr (readReal t mem) other)
-  unfolding readReal
+  unfolding readReal realReadNumbers realOr
   real-or t other p = by (eqb (realWidth t) 0) (eqb (length mem) (realWidth t)) refl
     where
       by : (x y : Bool) → eqb (length mem) (realWidth t) ≡ y
@@ -205,10 +206,10 @@ module _ (book : List ℕ) (mem : List ℕ) (b : Bytes mem) where
   text-fine : (t : ℕ) → FineValue book (textLeaf book t mem)
   unfolding textLeaf
   text-fine t =
-      fine-cond book (eqb (length mem) (sizeOf book t)) _ _
-      (fine-cond book (eqb (typeIdOf book t) 31) _ _ (record { fine = tt }) (record { fine = tt })) (fine-refused book 10)
+      fine-cond book (eqb (length mem) (sizeOf book t)) _ _ (record { fine = tt }) (fine-refused book 10)
 
   unlisted-fine : (r : IntegerRead) → FineValue book (unlisted r)
+  unfolding unlisted integerReadNumbers
   unlisted-fine (read.Value v) = fine-refused book 12
   unlisted-fine read.Size = fine-refused book 10
   unlisted-fine read.Unsupported = fine-refused book 11
@@ -234,8 +235,8 @@ module _ (book : List ℕ) (mem : List ℕ) (b : Bytes mem) where
         (λ j l. let e = d .entries j l .kind in record { inside = valid-below book valid (t + 1 + fieldsOf book t + j) 2 e; entry = e }))
         (fine-refused book 10)
 
-    leaf-by-fine : (k : LeafKind) → FineValue book (leafBy book width t mem k)
-    unfolding leafBy
+    leaf-by-fine : (k : LeafKind) → FineValue book (kindLeaf book width t mem k)
+    unfolding kindLeaf
     leaf-by-fine kind.Number = number-fine t
     leaf-by-fine kind.Text = text-fine t
     leaf-by-fine kind.Enum = enum-fine
@@ -245,7 +246,7 @@ module _ (book : List ℕ) (mem : List ℕ) (b : Bytes mem) where
 
     -- what a leaf of a valid book's type is read as
     pub leaf-fine : FineValue book (leafAt book width t mem)
-    unfolding leafAt
+    unfolding leafAt leafBy
     leaf-fine = leaf-by-fine (kindOfLeaf (categoryOf book width t))
 
 -- ---- a decoded text is UTF-8
@@ -264,7 +265,7 @@ unfolding flatMap
 bytes-formed [] = none-formed
 bytes-formed (x ∷ bs) = formed-utf8 (codePoint x) (flatMap windows1252.decodeByte bs) ∙ bytes-formed bs
 
-pub decoded-formed : (wide : Bool) (bytes : List ℕ) → wellFormed (decodedBy wide bytes) ≡ true
+pub decoded-formed : (d : Decoder) (bytes : List ℕ) → wellFormed (decodedBy d bytes) ≡ true
 unfolding decodedBy windows1252.decodeText
-decoded-formed true bytes = scalars-formed (utf16.decodeScalars bytes)
-decoded-formed false bytes = bytes-formed bytes
+decoded-formed decoder.Utf16 bytes = scalars-formed (utf16.decodeScalars bytes)
+decoded-formed decoder.Windows1252 bytes = bytes-formed bytes

@@ -18,10 +18,10 @@ use Rattle.type_provider.specs.declared.Found.the-variants as found
 use Rattle.type_provider.specs.Find.{find}
 use Rattle.book_check.specs.Check.{ValidBook}
 use Rattle.book_check.proofs.Valid.{valid-size, valid-below, valid-type}
-use Rattle.resolvers.specs.Resolve.{resolveAlias, lookUp, isFollowed}
+use Rattle.resolvers.specs.Resolve.{resolveAlias, isFollowed}
 use Rattle.resolvers.specs.declared.Resolved.{Resolved}
 use Rattle.resolvers.specs.declared.Resolved.the-variants as resolved
-use Rattle.resolvers.proofs.Chains.{found-type, follow-ends, look-typed}
+use Rattle.resolvers.proofs.Chains.{found-type, follow-ends}
 use Rattle.field_types.specs.Fields.{fieldOf, fieldFound, resolveField, fieldsCheck}
 use Rattle.field_types.specs.declared.FieldAnswer.{FieldAnswer}
 use Rattle.field_types.specs.declared.FieldAnswer.the-variants as answer
@@ -31,15 +31,17 @@ use Rattle.shape.specs.declared.Shape.{Shape}
 use Rattle.shape.specs.declared.Shape.the-variants as shape
 use Rattle.shape.specs.Array.{strideOf, isLast, bytesOf}
 use Rattle.tape.specs.declared.record.Record.{Record}
-use Rattle.tape.specs.Record.{recordBytes}
+use Rattle.tape.specs.Record.{newRecord, recordBytes}
 use Rattle.leaves.specs.declared.leaf.LeafValue.{LeafValue}
 use Rattle.leaves.specs.declared.leaf.LeafValue.the-variants as value
 use Rattle.leaves.specs.Leaf.{leafAt}
-use Rattle.leaf_steps.specs.Leaves.{traceOf}
-use Rattle.steps.specs.Text.{decodedBy}
+use Rattle.leaf_steps.specs.Leaves.{endsAt, traceOf}
+use Rattle.text_decoder.specs.Text.{decodedBy}
 use Rattle.steps.specs.Trace.{Event, rec, text, Trace, done, stop, textBytes, tapeBytes, one, refuse, _then_}
 use Rattle.steps.proofs.Runs.{text-then, tape-then}
-use Rattle.de.specs.Walk.{Ctx, ctx, Item, whole, further, Child, shapeAt, leafOf, checked, fieldValue, memberOf, membersFrom, membersOf, mapOf, elementItem, elementCheck, elementsFrom, elementsOf, dimensionOf, arrayBy, arrayOf, shapeWalk, itemWalk, walk}
+use Rattle.array_elements.specs.Element.{Item, whole, further, shapeAt, elementItem, elementCheck}
+use Rattle.de.specs.declared.reading.Typed.{Typed}
+use Rattle.de.specs.Walk.{Ctx, ctx, typedOf, Child, leafOf, checked, fieldValue, memberOf, membersFrom, membersOf, mapOf, elementsFrom, elementsOf, dimensionOf, elementBy, arrayBy, arrayOf, shapeWalk, itemWalk, walk}
 use Rattle.tape_form.specs.Tree.{Tree, leaf, array, map, Elements, none, element, Members, no-keys, member, count, keys, with-A, records, elementRecords, memberRecords, depth, elementsDepth, membersDepth, Leaf, FineLeaf, FineKey, Fine, FineElements, FineMembers}
 use Rattle.tape_form.specs.Tree as trees
 use Rattle.write_laws.proofs.ReadLeaf.{FineValue, leaf-fine, bits-small, decoded-formed}
@@ -69,7 +71,7 @@ pow-most w h = pow-mono {i = 8 * w} {j = 64} (omega arith)
 abbrev TypedBy : List ℕ → FieldAnswer → Type 0
 TypedBy book (answer.Field f) = isType book (f .resolved) ≡ true
 TypedBy book (answer.Lacks b) = Unit {0}
-TypedBy book answer.Endless = Unit {0}
+TypedBy book answer.TooLong = Unit {0}
 
 pub record TypedField (book : List ℕ) (a : FieldAnswer) : Type 0 where
   pub typed : TypedBy book a
@@ -78,7 +80,7 @@ of-typed : (book : List ℕ) (f n : ℕ) (r : Resolved) → ((u : ℕ) → r ≡
 unfolding fieldOf
 of-typed book f n (resolved.Base u) h = record { typed = h u refl }
 of-typed book f n (resolved.Lacks b) h = record { typed = tt }
-of-typed book f n resolved.Endless h = record { typed = tt }
+of-typed book f n resolved.TooLong h = record { typed = tt }
 
 -- where aliases lead from a type block
 pub base-typed : (book : List ℕ) (width n : ℕ) → isType book n ≡ true → (u : ℕ) → resolveAlias book width n ≡ resolved.Base u → isType book u ≡ true
@@ -172,7 +174,7 @@ module _ (book buffer : List ℕ) where
   unfolding checked
   emits-checked P check.Fine t p = p
   emits-checked P (check.Lacks b) t p = emits-refused P 7 b
-  emits-checked P check.Endless t p = emits-refused P 8 0
+  emits-checked P check.TooLong t p = emits-refused P 8 0
 
   -- one trace after another
   pub emits-then : (P Q R : ℕ → List Event → Type 0) (t u : Trace) → Emits P t → Emits Q u
@@ -190,10 +192,10 @@ module _ (book buffer : List ℕ) where
 
   -- one record before a trace
   pub emits-after : (Q R : ℕ → List Event → Type 0) (k w a b : ℕ) (u : Trace) → Emits Q u
-      → ((from : ℕ) (fs : List Event) → Q from fs → R from (rec k w a b ∷ fs)) → Emits R (one (rec k w a b) then u)
+      → ((from : ℕ) (fs : List Event) → Q from fs → R from (rec (newRecord k w a b) ∷ fs)) → Emits R (one (rec (newRecord k w a b)) then u)
   unfolding textBytes
   emits-after Q R k w a b u q f =
-      emits-then (λ from es. es ≡ rec k w a b ∷ []) Q R (one (rec k w a b)) u (record { emits = λ from s. refl }) q
+      emits-then (λ from es. es ≡ rec (newRecord k w a b) ∷ []) Q R (one (rec (newRecord k w a b))) u (record { emits = λ from s. refl }) q
       (λ from es fs e x. rw e (f from fs (let z : length (textBytes es) ≡ 0 = rw e in let y : from + length (textBytes es) ≡ from = omega (arith, z) in rw y at x)))
 
   -- ---- leaves
@@ -201,7 +203,7 @@ module _ (book buffer : List ℕ) where
   module _ (small : length buffer < 2 ^ 64) where
     -- a record that is a value by itself
     alone : (left k w a b : ℕ) → FineLeaf book buffer (record { kind = k; width = w; spare = 0; declared = 0; a = a; b = b })
-        → Emits (Value (suc left)) (one (rec k w a b))
+        → Emits (Value (suc left)) (one (rec (newRecord k w a b)))
     unfolding textBytes tapeBytes depth Fine records trees.bytesOf
     alone left k w a b f =
         record {
@@ -231,7 +233,7 @@ module _ (book buffer : List ℕ) where
         let l = s .inside in
         fine-record 11 0 from (length xs) (omega arith) (omega arith) (omega arith) (omega arith) (trees.text refl refl l (rw e h))
 
-    text-alone : (left : ℕ) (xs : List ℕ) → wellFormed xs ≡ true → Emits (Value (suc left)) (one (text xs))
+    text-alone : (left : ℕ) (xs : List ℕ) → wellFormed xs ≡ true → Emits (Value (suc left)) (one (text 0 0 xs))
     unfolding textBytes tapeBytes depth Fine records trees.bytesOf
     text-alone left xs h =
         record {
@@ -243,10 +245,10 @@ module _ (book buffer : List ℕ) where
           };
         }
 
-    single-emits : (left n : ℕ) → n < 2 ^ 32 → Emits (Value (suc left)) (one (rec 9 0 0 n))
+    single-emits : (left n : ℕ) → n < 2 ^ 32 → Emits (Value (suc left)) (one (rec (newRecord 9 0 0 n)))
     single-emits left n l = alone left 9 0 0 n (fine-record 9 0 0 n (omega arith) (omega arith) (omega arith) (omega arith) (trees.real32 refl refl refl l))
 
-    double-emits : (left n : ℕ) → n < 2 ^ 64 → Emits (Value (suc left)) (one (rec 10 0 0 n))
+    double-emits : (left n : ℕ) → n < 2 ^ 64 → Emits (Value (suc left)) (one (rec (newRecord 10 0 0 n)))
     double-emits left n l = alone left 10 0 0 n (fine-record 10 0 0 n (omega arith) (omega arith) (omega arith) (omega arith) (trees.real64 refl refl refl l))
 
     -- a leaf's value, by what it is
@@ -267,8 +269,7 @@ module _ (book buffer : List ℕ) where
     value-emits left (value.Double x) mem few f = double-emits left _ (f .fine)
     value-emits left (value.NanSingle n) mem few f = single-emits left n (f .fine)
     value-emits left (value.NanDouble n) mem few f = double-emits left n (f .fine)
-    value-emits left (value.Text n) mem few f = text-alone left (decodedBy false (take n mem)) (decoded-formed false (take n mem))
-    value-emits left (value.WideText n) mem few f = text-alone left (decodedBy true (take n mem)) (decoded-formed true (take n mem))
+    value-emits left (value.Text d e) mem few f = text-alone left (decodedBy d (take (endsAt e) mem)) (decoded-formed d (take (endsAt e) mem))
     value-emits left (value.Entry n) mem few f =
         let x = f .fine in
         let l = x .inside in
@@ -286,23 +287,23 @@ module _ (book buffer : List ℕ) where
       few = valid-size book valid .few
 
       -- a value's type, and an array's element type, are type blocks
-      abbrev Good : Item → Type 0
-      Good (whole t) = isType book t ≡ true
-      Good (further d t e) = isType book e ≡ true
+      abbrev Good : Item Typed → Type 0
+      Good (whole x) = isType book (x .resolved) ≡ true
+      Good (further d t e) = isType book (e .resolved) ≡ true
 
       abbrev Children : ℕ → Child → Type 0
-      Children left child = (i : Item) (mem : List ℕ) → Good i → Bytes mem → Emits (Value left) (child i mem)
+      Children left child = (i : Item Typed) (mem : List ℕ) → Good i → Bytes mem → Emits (Value left) (child i mem)
 
       module _ (left : ℕ) (child : Child) (ih : Children left child) where
         -- ---- a map
 
-        field-emits : (mem : List ℕ) → Bytes mem → (a : FieldAnswer) → TypedField book a → Emits (Value left) (fieldValue child mem a)
+        field-emits : (mem : List ℕ) → Bytes mem → (a : FieldAnswer) → TypedField book a → Emits (Value left) (fieldValue child c mem a)
         unfolding fieldValue
         field-emits mem b (answer.Field f) y =
             emits-if (Value left) (leb (f .offset + f .size) (length mem)) _ 10 0
-            (ih (whole (f .resolved)) _ (y .typed) (bytes-take (f .size) (drop (f .offset) mem) (bytes-drop (f .offset) mem b)))
+            (ih (whole (typedOf c (f .named) (f .resolved))) _ (y .typed) (bytes-take (f .size) (drop (f .offset) mem) (bytes-drop (f .offset) mem b)))
         field-emits mem b (answer.Lacks n) y = emits-refused (Value left) 7 n
-        field-emits mem b answer.Endless y = emits-refused (Value left) 8 0
+        field-emits mem b answer.TooLong y = emits-refused (Value left) 8 0
 
         member-emits : (mem : List ℕ) → Bytes mem → (f : ℕ) → Emits (OneKey left f) (memberOf child c mem f)
         unfolding memberOf tapeBytes
@@ -331,9 +332,10 @@ module _ (book buffer : List ℕ) where
                   (append-assoc (recordBytes (with-A 4 f)) (trees.bytesOf (records (v .tree))) (trees.bytesOf (memberRecords (r .all))));
             })
 
-        map-emits : (t : ℕ) → isType book t ≡ true → (mem : List ℕ) → Bytes mem → Emits (Value (suc left)) (mapOf child c t mem)
+        map-emits : (x : Typed) → isType book (x .resolved) ≡ true → (mem : List ℕ) → Bytes mem → Emits (Value (suc left)) (mapOf child c x mem)
         unfolding mapOf membersOf tapeBytes depth Fine records trees.bytesOf
-        map-emits t y mem b =
+        map-emits x y mem b =
+            let t : ℕ = x .resolved in
             let d = valid-type book valid t y in
             emits-if (Value (suc left)) (eqb (length mem) (sizeOf book t)) _ 10 0
             (emits-checked (Value (suc left)) (fieldsCheck book width t) _
@@ -355,7 +357,7 @@ module _ (book buffer : List ℕ) where
 
         -- ---- an array
 
-        elements-emit : (item : Item) → Good item → (stride : ℕ) (mem : List ℕ) → Bytes mem → (from k : ℕ) → Emits (Several left k) (elementsFrom child item stride mem from k)
+        elements-emit : (item : Item Typed) → Good item → (stride : ℕ) (mem : List ℕ) → Bytes mem → (from k : ℕ) → Emits (Several left k) (elementsFrom child item stride mem from k)
         unfolding elementsFrom tapeBytes textBytes count elementsDepth FineElements elementRecords trees.bytesOf
         elements-emit item g stride mem b at zero =
             record { emits = λ from s. record { all = none; many = refl; levels = omega arith; fine = tt; bytes = refl } }
@@ -374,7 +376,7 @@ module _ (book buffer : List ℕ) where
               bytes = tape-then from es fs ∙ rw (v .bytes, r .bytes, bytes-append (records (v .tree)) (elementRecords (r .all)));
             })
 
-        element-good : (d t e : ℕ) → isType book e ≡ true → Good (elementItem c d t e)
+        element-good : (d t : ℕ) (e : Typed) → isType book (e .resolved) ≡ true → Good (elementItem book d t e)
         unfolding elementItem
         element-good d t e y = by (isLast book d t)
           where
@@ -382,12 +384,12 @@ module _ (book buffer : List ℕ) where
             by true = y
             by false = y
 
-        dimension-emits : (d t e : ℕ) → isType book e ≡ true → (mem : List ℕ) → Bytes mem → Emits (Value (suc left)) (dimensionOf child c d t e mem)
+        dimension-emits : (d t : ℕ) (e : Typed) → isType book (e .resolved) ≡ true → (mem : List ℕ) → Bytes mem → Emits (Value (suc left)) (dimensionOf child c d t e mem)
         unfolding dimensionOf elementsOf tapeBytes depth Fine records trees.bytesOf
         dimension-emits d t e y mem b =
-            emits-checked (Value (suc left)) (elementCheck c d t e) _
+            emits-checked (Value (suc left)) (elementCheck book width d t (e .resolved)) _
             (emits-after (Several left (countOf book t d)) (Value (suc left)) 1 0 (countOf book t d) 0 _
-            (elements-emit (elementItem c d t e) (element-good d t e y) (strideOf book d t e) mem b 0 (countOf book t d))
+            (elements-emit (elementItem book d t e) (element-good d t e y) (strideOf book d t (e .resolved)) mem b 0 (countOf book t d))
             (λ from fs r.
             let n = r .levels in
             let q = r .many in
@@ -399,17 +401,23 @@ module _ (book buffer : List ℕ) where
               bytes = rw (← q) (ap (λ (x : List ℕ). recordBytes (with-A 1 (count (r .all))) ++ x) (r .bytes));
             }))
 
-        array-by : (t : ℕ) (mem : List ℕ) → Bytes mem → (r : Resolved) → ((u : ℕ) → r ≡ resolved.Base u → isType book u ≡ true) → Emits (Value (suc left)) (arrayBy child c t mem r)
-        unfolding arrayBy
-        array-by t mem b (resolved.Base e) h =
-            emits-if (Value (suc left)) (eqb (bytesOf book t e) (length mem)) _ 10 0 (dimension-emits 0 t e (h e refl) mem b)
-        array-by t mem b (resolved.Lacks n) h = emits-refused (Value (suc left)) 7 n
-        array-by t mem b resolved.Endless h = emits-refused (Value (suc left)) 8 0
+        element-by : (t n : ℕ) (mem : List ℕ) → Bytes mem → (r : Resolved) → ((u : ℕ) → r ≡ resolved.Base u → isType book u ≡ true)
+            → Emits (Value (suc left)) (elementBy child c t n mem r)
+        unfolding elementBy
+        element-by t n mem b (resolved.Base e) h =
+            emits-if (Value (suc left)) (eqb (bytesOf book t e) (length mem)) _ 10 0 (dimension-emits 0 t (typedOf c n e) (h e refl) mem b)
+        element-by t n mem b (resolved.Lacks k) h = emits-refused (Value (suc left)) 7 k
+        element-by t n mem b resolved.TooLong h = emits-refused (Value (suc left)) 8 0
 
-        array-emits : (t : ℕ) (mem : List ℕ) → Bytes mem → Emits (Value (suc left)) (arrayOf child c t mem)
+        array-by : (t : ℕ) (mem : List ℕ) → Bytes mem → (f : Found) → find book (typeNameOf book t) ≡ f → Emits (Value (suc left)) (arrayBy child c t mem f)
+        unfolding arrayBy
+        array-by t mem b (found.At n) e = element-by t n mem b (resolveAlias book width n) (base-typed book width n (found-type book (typeNameOf book t) n e))
+        array-by t mem b found.Nothing e = emits-refused (Value (suc left)) 7 t
+
+        array-emits : (x : Typed) (mem : List ℕ) → Bytes mem → Emits (Value (suc left)) (arrayOf child c x mem)
         unfolding arrayOf
-        array-emits t mem b =
-            emits-if (Value (suc left)) (eqb (length mem) (sizeOf book t)) _ 10 0 (array-by t mem b (lookUp book width t) (look-typed book width t))
+        array-emits x mem b =
+            emits-if (Value (suc left)) (eqb (length mem) (sizeOf book (x .resolved))) _ 10 0 (array-by (x .resolved) mem b (find book (typeNameOf book (x .resolved))) refl)
 
         -- ---- a value
 
@@ -417,15 +425,15 @@ module _ (book buffer : List ℕ) where
         unfolding leafOf
         leaf-emits t y mem b = value-emits left (leafAt book width t mem) mem few (leaf-fine book mem b valid width t y)
 
-        shape-emits : (t : ℕ) → isType book t ≡ true → (mem : List ℕ) → Bytes mem → (s : Shape) → Emits (Value (suc left)) (shapeWalk child c t mem s)
+        shape-emits : (x : Typed) → isType book (x .resolved) ≡ true → (mem : List ℕ) → Bytes mem → (s : Shape) → Emits (Value (suc left)) (shapeWalk child c x mem s)
         unfolding shapeWalk
-        shape-emits t y mem b shape.Map = map-emits t y mem b
-        shape-emits t y mem b shape.Array = array-emits t mem b
-        shape-emits t y mem b shape.Leaf = leaf-emits t y mem b
+        shape-emits x y mem b shape.Map = map-emits x y mem b
+        shape-emits x y mem b shape.Array = array-emits x mem b
+        shape-emits x y mem b shape.Leaf = leaf-emits (x .resolved) y mem b
 
         item-emits : Children (suc left) (itemWalk child c)
         unfolding itemWalk
-        item-emits (whole t) mem g b = shape-emits t g mem b (shapeAt c t)
+        item-emits (whole x) mem g b = shape-emits x g mem b (shapeAt book width (x .resolved))
         item-emits (further d t e) mem g b = dimension-emits d t e g mem b
 
       pub walk-emits : (left : ℕ) → Children left (walk c left)

@@ -17,9 +17,11 @@ use Rattle.resolvers.specs.declared.Resolved.the-variants as resolved
 use Rattle.tape.specs.declared.cursor.Cursor.{Cursor}
 use Rattle.tape_form.specs.Form.{formed}
 use Rattle.steps.specs.Trace.{Event, done, textBytes, tapeBytes}
+use Rattle.array_elements.specs.Element.{whole}
 use Rattle.de.specs.Walk as de
 use Rattle.de.specs.Read as reading
 use Rattle.ser.specs.declared.WriteAnswer.{WriteAnswer}
+use Rattle.ser.proofs.Numbers.{write-is}
 use Rattle.ser.specs.Write as ser
 use Rattle.ser.specs.Write.{Outcome, went}
 use Rattle.ser.specs.Call.{typeWrite, rootBy, rootWrite, bookWrite, checkedWrite, writeCall, Wrote}
@@ -37,26 +39,26 @@ record Same (o : Outcome) (mem : List ℕ) : Type 0 where
 
 module _ (book buffer tape : List ℕ) (small : length buffer < 2 ^ 64) (width : ℕ) (mem : List ℕ) (b : Bytes mem) (es : List Event)
     (records : tape ≡ tapeBytes 0 es) (texts : Stands buffer 0 (textBytes es)) where
-  by-type : ValidBook book → Bytes book → (t : ℕ) → isType book t ≡ true → trip.walkKept (de.ctx book width) 64 (de.whole t) mem ≡ true
-      → de.walk (de.ctx book width) 64 (de.whole t) mem ≡ done es → Same (typeWrite (ser.ctx book width tape buffer) t mem) mem
+  by-type : ValidBook book → Bytes book → (n t : ℕ) → isType book t ≡ true → trip.walkKept (de.ctx book width) 64 (whole t) mem ≡ true
+      → de.walk (de.ctx book width) 64 (whole (de.typedOf (de.ctx book width) n t)) mem ≡ done es → Same (typeWrite (ser.ctx book width tape buffer) t mem) mem
   unfolding typeWrite
-  by-type v p t y h e =
+  by-type v p n t y h e =
       let g : Emits book buffer (Back book buffer tape (ser.walk (ser.ctx book width tape buffer) 64 (ser.whole t)) mem) (done es) =
-      rw e at (walk-back book buffer tape small v p width 64 (de.whole t) mem y b h) in
+      rw e at (walk-back book buffer tape small v p width 64 (whole (de.typedOf (de.ctx book width) n t)) mem y b h) in
       record { at = _; is = g .emits 0 texts .back 0 [] (records ∙ sym (append-nil (tapeBytes 0 es))) }
 
-  by-root : ValidBook book → Bytes book → (r : Resolved) → ((u : ℕ) → r ≡ resolved.Base u → isType book u ≡ true) → trip.rootKept (de.ctx book width) mem r ≡ true
-      → reading.rootBy (de.ctx book width) mem r ≡ done es → Same (rootBy (ser.ctx book width tape buffer) mem r) mem
+  by-root : ValidBook book → Bytes book → (n : ℕ) → (r : Resolved) → ((u : ℕ) → r ≡ resolved.Base u → isType book u ≡ true) → trip.rootKept (de.ctx book width) mem r ≡ true
+      → reading.rootBy (de.ctx book width) n mem r ≡ done es → Same (rootBy (ser.ctx book width tape buffer) mem r) mem
   unfolding reading.rootBy rootBy trip.rootKept
-  by-root v p (resolved.Base t) y h e = by-type v p t (y t refl) h e
-  by-root v p (resolved.Lacks n) y h e = different cc
-  by-root v p resolved.Endless y h e = different cc
+  by-root v p n (resolved.Base t) y h e = by-type v p n t (y t refl) h e
+  by-root v p n (resolved.Lacks k) y h e = different cc
+  by-root v p n resolved.TooLong y h e = different cc
 
   book-same : ValidBook book → Bytes book → (n : ℕ) → isType book n ≡ true → trip.isKept (de.ctx book width) n mem ≡ true → reading.rootTrace (de.ctx book width) n mem ≡ done es
       → formed book tape buffer ≡ true → Same (bookWrite (ser.ctx book width tape buffer) n (length mem) mem) mem
   unfolding bookWrite rootWrite reading.rootTrace trip.isKept
   book-same v p n y h e f =
-      let s = by-root v p (resolveAlias book width n) (base-typed book width n y) h e in
+      let s = by-root v p n (resolveAlias book width n) (base-typed book width n y) h e in
       record { at = s .at; is = rw (eq-eqb (length mem) (length mem) refl, f) (s .is) }
 
 call-same : (buffer : List ℕ) (len width n : ℕ) (mem tape text : List ℕ) → Bytes buffer → Bytes mem → length text < 2 ^ 64 → (es : List Event) → tape ≡ tapeBytes 0 es → Stands text 0 (textBytes es)
@@ -74,7 +76,7 @@ call-same buffer len width n mem tape text p b small es records texts h f (root.
 given : (o : Outcome) (mem output : List ℕ) (w : WriteAnswer) (new : List ℕ) → Same o mem → length output ≡ length mem → Wrote o mem output w new → GivenBack w mem new
 given o mem output w new s l x =
     record {
-      done = x .answer ∙ rw (s .is);
+      done = write-is _ _ (x .answer) ∙ rw (s .is);
       same = x .output-is ∙ rw (s .is, eq-eqb (length output) (length mem) l);
     }
 

@@ -14,7 +14,7 @@ use Rattle.type_id.specs.declared.AdsTypeId.the-variants.{UInt16, UInt32, UInt6
 use Rattle.type_provider.specs.declared.Found.{Found}
 use Rattle.type_provider.specs.declared.Found.the-variants.{At, Nothing}
 use Rattle.type_id.specs.TypeId.{idWidth}
-use Rattle.integer.specs.Integer.{integerValue, fitsId, writeInteger, integerBytes}
+use Rattle.integer.specs.Integer.{integerWriteNumbers, integerValue, fitsId, writeInteger, integerBytes}
 use Rattle.integer.specs.declared.Integer.{Integer}
 use Rattle.integer.specs.declared.IntegerWrite.the-variants as write
 use Rattle.named_blocks.specs.Named.{entryNamed}
@@ -50,6 +50,7 @@ module _ (old : List ℕ) where
 
   integer-end : (b c d : Bool) (bs : List ℕ) → (d ≡ true → length bs ≡ length old)
       → Sized old (integerEnd (cond b write.Unsupported (cond c (cond d write.Done write.Size) write.OutOfRange)) bs)
+  unfolding integerWriteNumbers
   integer-end true c d bs h = sized-refused old 17
   integer-end false true true bs h = record { sized = h refl }
   integer-end false true false bs h = sized-refused old 10

@@ -15,15 +15,16 @@ use Rattle.number.specs.Le.{Bytes, leValue, leBytes}
 use Rattle.number.proofs.ByteOrder.{leValue-below, leBytes-leValue}
 use Rattle.type_id.specs.TypeId.{idOf}
 use Rattle.type_id.specs.declared.AdsTypeId.{AdsTypeId}
-use Rattle.type_id.specs.declared.AdsTypeId.the-variants.{Real32, Real64, UInt16, UInt32, UInt64, String}
-use Rattle.integer.specs.Integer.{readInteger, writeInteger, integerBytes, bufferAfter}
+use Rattle.type_id.specs.declared.AdsTypeId.the-variants.{Real32, Real64, UInt16, UInt32, UInt64}
+use Rattle.integer.proofs.Numbers.{integer-write-is}
+use Rattle.integer.specs.Integer.{integerReadNumbers, readInteger, writeInteger, integerBytes, bufferAfter}
 use Rattle.integer.specs.declared.Integer.{Integer}
 use Rattle.integer.specs.declared.Integer.the-variants as integer
 use Rattle.integer.specs.declared.IntegerRead.{IntegerRead}
 use Rattle.integer.specs.declared.IntegerRead.the-variants as read
 use Rattle.integer.specs.declared.IntegerWrite.the-variants as write
 use Rattle.integer.proofs.Integers.{integer-back}
-use Rattle.float.specs.Float.{realWidth, singleOf, doubleOf, realOf, realBits, readReal}
+use Rattle.float.specs.Float.{realWidth, singleOf, doubleOf, realOf, realBits, realReadNumbers, readReal}
 use Rattle.float.specs.declared.Real.the-variants as real
 use Rattle.float.specs.declared.RealRead.the-variants as realRead
 use Rattle.float.proofs.Reals.{single-back, double-back}
@@ -45,13 +46,15 @@ use Rattle.leaves.specs.declared.leaf.LeafValue.{LeafValue}
 use Rattle.leaves.specs.declared.leaf.LeafValue.the-variants as value
 use Rattle.leaves.specs.Leaf as leaves
 use Rattle.leaves.specs.Leaf.{kindOfLeaf, entryFrom, unlisted, entryOr, leafAt}
-use Rattle.leaf_steps.specs.Leaves.{traceOf}
-use Rattle.steps.specs.Text.{decodedBy}
+use Rattle.leaf_steps.specs.Leaves.{endsAt, traceOf}
+use Rattle.utf_8.specs.declared.TextEnd.{TextEnd}
+use Rattle.text_decoder.specs.Text.{decodedBy}
+use Rattle.text_decoder.specs.declared.Decoder.the-variants as decoder
 use Rattle.steps.specs.Trace.{Event, rec, text, textBytes, tapeBytes, one}
 use Rattle.ser_leaf.specs.declared.Target.{Target}
 use Rattle.ser_leaf.specs.declared.Target.the-variants as target
 use Rattle.ser_leaf.specs.Leaf.{holds, exactly, boolLeaf, realId, realBytes, realLeaf, integerBy, pointerLeaf, targetOf, integerLeaf, entryBy, entryLeaf, enumLeaf, padded, textBy, textLeaf, leafBy}
-use Rattle.write_laws.specs.Trip.{zerosAfter, isWhole, entryKept, leafKept}
+use Rattle.write_laws.specs.Trip.{zerosAfter, isWhole, textKept, entryKept, leafKept}
 use Rattle.write_laws.proofs.Plain.{different, and-left, and-right}
 use Rattle.write_laws.proofs.ReadLeaf.{FineValue, read-fine, enum-fine, bits-small}
 use Rattle.write_laws.proofs.WideTrip.{wide-again}
@@ -114,7 +117,7 @@ module _ (book buffer : List ℕ) (width t : ℕ) (mem : List ℕ) (b : Bytes me
 
   -- one record
   goes-one : (kind w a n : ℕ) → Held (rec-of kind w a n) → (kind ≡ 1 → ⊥) → (kind ≡ 3 → ⊥) → leafBy book width t k (rec-of kind w a n) buffer mem ≡ holds mem
-      → Emits book buffer LeafBack (one (rec kind w a n))
+      → Emits book buffer LeafBack (one (rec (rec-of kind w a n)))
   unfolding tapeBytes
   goes-one kind w a n h p q e =
       record { emits = λ from s. record { r = rec-of kind w a n; held = h; bytes = append-nil (recordBytes (rec-of kind w a n)); no-array = p; no-map = q; writes = e } }
@@ -126,12 +129,12 @@ module _ (book buffer : List ℕ) (width t : ℕ) (mem : List ℕ) (b : Bytes me
     unfolding integerBy bufferAfter
     integer-writes v e =
         let w = integer-back id mem b v e mem refl in
-        let d : writeInteger id v mem ≡ write.Done = sym (w .answer) in
+        let d : writeInteger id v mem ≡ write.Done = sym (integer-write-is _ _ (w .answer)) in
         let q : mem ≡ integerBytes id v = rw d at (w .buffer) in
         same v ∙ rw d (ap holds (sym q))
 
     goes-integer : Goes (leaves.integerLeaf (readInteger id mem))
-    unfolding leafBy
+    unfolding leafBy leaves.integerLeaf integerReadNumbers
     goes-integer = by (readInteger id mem) refl (read-fine book mem b id)
       where
         by : (r : IntegerRead) → r ≡ readInteger id mem → FineValue book (leaves.integerLeaf r) → Goes (leaves.integerLeaf r)
@@ -157,7 +160,7 @@ module _ (book buffer : List ℕ) (width t : ℕ) (mem : List ℕ) (b : Bytes me
       rw (eq-eqb (typeIdOf book t) (realId d) e) (exactly-back (leBytes (realBytes d) n) mem z)
 
   module _ (d : typeIdOf book t ≡ 4) (l : length mem ≡ 4) where
-    single-goes : (n : ℕ) → n ≡ leValue mem → n < 2 ^ 32 → Emits book buffer LeafBack (one (rec 9 0 0 n))
+    single-goes : (n : ℕ) → n ≡ leValue mem → n < 2 ^ 32 → Emits book buffer LeafBack (one (rec (rec-of 9 0 0 n)))
     unfolding leafBy
     single-goes n q s = goes-one 9 0 0 n (held-of 9 0 0 n (omega arith) (omega arith) (omega arith) (omega arith)) (λ z. omega arith) (λ z. omega arith) (real-writes false n d q l)
 
@@ -177,7 +180,7 @@ module _ (book buffer : List ℕ) (width t : ℕ) (mem : List ℕ) (b : Bytes me
         by false e = record { goes = λ h. single-goes _ (e ∙ small) (rw (e, small) s) }
 
   module _ (d : typeIdOf book t ≡ 5) (l : length mem ≡ 8) where
-    double-goes : (n : ℕ) → n ≡ leValue mem → n < 2 ^ 64 → Emits book buffer LeafBack (one (rec 10 0 0 n))
+    double-goes : (n : ℕ) → n ≡ leValue mem → n < 2 ^ 64 → Emits book buffer LeafBack (one (rec (rec-of 10 0 0 n)))
     unfolding leafBy
     double-goes n q s = goes-one 10 0 0 n (held-of 10 0 0 n (omega arith) (omega arith) (omega arith) (omega arith)) (λ z. omega arith) (λ z. omega arith) (real-writes true n d q l)
 
@@ -194,7 +197,7 @@ module _ (book buffer : List ℕ) (width t : ℕ) (mem : List ℕ) (b : Bytes me
         by false e = record { goes = λ h. double-goes _ e (rw e s) }
 
   goes-real : (other : LeafValue) → Goes other → Goes (leaves.realOr (readReal (idOf (typeIdOf book t)) mem) other)
-  unfolding readReal
+  unfolding readReal leaves.realOr realReadNumbers
   goes-real other p = four (eqb (typeIdOf book t) 4) refl
     where
       single : typeIdOf book t ≡ 4 → (x : Bool) → eqb (length mem) 4 ≡ x → Goes (leaves.realOr (cond x (realRead.Value (realOf false (leValue mem))) realRead.Size) other)
@@ -257,7 +260,7 @@ module _ (book buffer : List ℕ) (width t : ℕ) (mem : List ℕ) (b : Bytes me
     record-text from xs s =
         rw (le-leb (from + length xs) (length buffer) (s .inside)) (ap (take (length xs)) (s .is) ∙ take-append-seam xs (s .rest))
 
-    goes-one-text : (xs : List ℕ) → textBy (typeIdOf book t) xs mem ≡ holds mem → Emits book buffer LeafBack (one (text xs))
+    goes-one-text : (xs : List ℕ) → textBy (typeIdOf book t) xs mem ≡ holds mem → Emits book buffer LeafBack (one (text 0 0 xs))
     unfolding tapeBytes textBytes leafBy textLeaf
     goes-one-text xs e =
         record {
@@ -274,25 +277,29 @@ module _ (book buffer : List ℕ) (width t : ℕ) (mem : List ℕ) (b : Bytes me
               };
         }
 
-    narrow-back : (n : ℕ) → typeIdOf book t ≡ 30 → zerosAfter n 1 mem ≡ true → textBy (typeIdOf book t) (decodedBy false (take n mem)) mem ≡ holds mem
+    narrow-back : (n : ℕ) → typeIdOf book t ≡ 30 → zerosAfter n 1 mem ≡ true → textBy (typeIdOf book t) (decodedBy decoder.Windows1252 (take n mem)) mem ≡ holds mem
     unfolding textBy decodedBy
     narrow-back n e h = rw e (padded-back _ n 1 (encode-decode (take n mem) (record { each = bytes-take n mem b })) h)
 
     wide-back : (n : ℕ) → typeIdOf book t ≡ 31 → zerosAfter n 2 mem ≡ true → isWhole (take n mem) ≡ true
-        → textBy (typeIdOf book t) (decodedBy true (take n mem)) mem ≡ holds mem
+        → textBy (typeIdOf book t) (decodedBy decoder.Utf16 (take n mem)) mem ≡ holds mem
     unfolding textBy decodedBy isWhole
     wide-back n e h q = rw e (padded-back _ n 2 (wide-again (take n mem) (bytes-take n mem b) q) h)
 
-    goes-narrow : (n : ℕ) → typeIdOf book t ≡ 30 → Goes (value.Text n)
-    unfolding leafKept
-    goes-narrow n e = record { goes = λ h. goes-one-text _ (narrow-back n e h) }
+    goes-narrow : (end : TextEnd) → typeIdOf book t ≡ 30 → Goes (value.Text decoder.Windows1252 end)
+    unfolding leafKept textKept
+    goes-narrow end e = record { goes = λ h. goes-one-text _ (narrow-back (endsAt end) e h) }
 
-    goes-wide : (n : ℕ) → typeIdOf book t ≡ 31 → Goes (value.WideText n)
-    unfolding leafKept
-    goes-wide n e = record { goes = λ h. goes-one-text _ (wide-back n e (and-left (zerosAfter n 2 mem) _ h) (and-right (zerosAfter n 2 mem) _ h)) }
+    goes-wide : (end : TextEnd) → typeIdOf book t ≡ 31 → Goes (value.Text decoder.Utf16 end)
+    unfolding leafKept textKept
+    goes-wide end e =
+        record {
+          goes = λ h.
+              goes-one-text _ (wide-back (endsAt end) e (and-left (zerosAfter (endsAt end) 2 mem) _ h) (and-right (zerosAfter (endsAt end) 2 mem) _ h));
+        }
 
     goes-text : (typeIdOf book t ≡ 30) ⊎ (typeIdOf book t ≡ 31) → Goes (leaves.textLeaf book t mem)
-    unfolding leaves.textLeaf
+    unfolding leaves.textLeaf leaves.decoderOf
     goes-text h =
         goes-cond (eqb (length mem) (sizeOf book t)) _ _
         (λ l. ⊎-elim
@@ -327,6 +334,7 @@ module _ (book buffer : List ℕ) (width t : ℕ) (mem : List ℕ) (b : Bytes me
     goes-found Nothing other x p = p
 
   goes-unlisted : (r : IntegerRead) → Goes (unlisted r)
+  unfolding unlisted integerReadNumbers
   goes-unlisted (read.Value v) = goes-refused 12
   goes-unlisted read.Size = goes-refused 10
   goes-unlisted read.Unsupported = goes-refused 11
@@ -362,14 +370,14 @@ module _ (book buffer : List ℕ) (width t : ℕ) (mem : List ℕ) (b : Bytes me
 
 module _ (book buffer : List ℕ) (small : length buffer < 2 ^ 64) (valid : ValidBook book) (width t : ℕ) (y : isType book t ≡ true) (mem : List ℕ) (b : Bytes mem) where
   abbrev GoesAs : AdsTypeCategory → Type 0
-  GoesAs c = Goes book buffer width t mem b (targetOf c) (leaves.leafBy book width t mem (kindOfLeaf c))
+  GoesAs c = Goes book buffer width t mem b (targetOf c) (leaves.kindLeaf book width t mem (kindOfLeaf c))
 
   unit-goes : (k : Target) → Goes book buffer width t mem b k value.Unit
   unfolding leafKept
   unit-goes k = record { goes = λ h. different cc }
 
   by-category : (c : AdsTypeCategory) → categoryOf book width t ≡ c → GoesAs c
-  unfolding leaves.leafBy
+  unfolding leaves.kindLeaf
   by-category category.None e = unit-goes _
   by-category category.Primitive e = goes-number book buffer width t mem b _ refl
   by-category category.Alias e = goes-refused book buffer width t mem b _ 11
@@ -389,5 +397,5 @@ module _ (book buffer : List ℕ) (small : length buffer < 2 ^ 64) (valid : Vali
 
   pub leaf-back : leafKept book t mem (leafAt book width t mem) ≡ true
       → Emits book buffer (LeafBack book buffer width t mem b (targetOf (categoryOf book width t))) (traceOf (leafAt book width t mem) mem)
-  unfolding leafAt
+  unfolding leafAt leaves.leafBy
   leaf-back h = by-category (categoryOf book width t) refl .goes h

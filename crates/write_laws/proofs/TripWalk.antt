@@ -10,13 +10,14 @@ use lib.Seq.{drop-drop, drop-append-seam}
 use lib.Dec.{leb, eqb}
 use Rattle.number.specs.Le.{Bytes}
 use Rattle.number.proofs.ByteOrder.{bytes-drop}
-use Rattle.typebook.specs.Book.{blocks, isType, sizeOf, fieldsOf, countOf, nameOf}
+use Rattle.typebook.specs.Book.{blocks, isType, sizeOf, fieldsOf, countOf, nameOf, typeNameOf}
+use Rattle.type_provider.specs.Find.{find}
 use Rattle.type_provider.specs.declared.Found.{Found}
 use Rattle.type_provider.specs.declared.Found.the-variants as found
 use Rattle.type_category.specs.Category.{categoryOf}
 use Rattle.book_check.specs.Check.{ValidBook}
 use Rattle.book_check.proofs.Valid.{valid-size, valid-below, valid-type}
-use Rattle.resolvers.specs.Resolve.{lookUp}
+use Rattle.resolvers.specs.Resolve.{resolveAlias, onward, lookUp}
 use Rattle.resolvers.specs.declared.Resolved.{Resolved}
 use Rattle.resolvers.specs.declared.Resolved.the-variants as resolved
 use Rattle.resolvers.proofs.Chains.{look-typed}
@@ -37,8 +38,10 @@ use Rattle.tape.specs.Record.{recordBytes, stepAt, Held}
 use Rattle.tape.specs.Text.{nameIn, recordText}
 use Rattle.tape.proofs.Records.{record-back, length-record}
 use Rattle.leaves.specs.Leaf.{leafAt}
-use Rattle.steps.specs.Trace.{Event, rec, Trace, done, stop, textBytes, tapeBytes, one, refuse, _then_}
+use Rattle.steps.specs.Trace.{Event, rec, Trace, done, stop, textBytes, tapeBytes, one, refuse}
 use Rattle.steps.proofs.Runs.{tape-then}
+use Rattle.array_elements.specs.Element.{Item, whole, further, shapeAt, shapeCheck, elementItem, elementCheck}
+use Rattle.de.specs.declared.reading.Typed.{Typed}
 use Rattle.de.specs.Walk as de
 use Rattle.ser_leaf.specs.Leaf.{targetOf}
 use Rattle.ser.specs.Write as ser
@@ -54,9 +57,14 @@ put-back : (from size : ℕ) (bytes : List ℕ) → ser.putIn from size bytes (s
 put-back from size bytes = ap (λ (x : List ℕ). take from bytes ++ x) (take-append-drop size (drop from bytes)) ∙ take-append-drop from bytes
 
 -- the same item for the writer
-abbrev pub toWrite : de.Item → ser.Item
-toWrite (de.whole t) = ser.whole t
-toWrite (de.further d t e) = ser.further d t e
+abbrev pub toWrite : Item Typed → ser.Item
+toWrite (whole x) = ser.whole (x .resolved)
+toWrite (further d t e) = ser.further d t (e .resolved)
+
+-- and for what is kept
+abbrev pub toKeep : Item Typed → Item ℕ
+toKeep (whole x) = whole (x .resolved)
+toKeep (further d t e) = further d t (e .resolved)
 
 abbrev pub place : ℕ → Cursor
 place n = record { at = n }
@@ -139,15 +147,15 @@ module _ (book buffer tape : List ℕ) where
   unfolding de.checked
   emits-fine P check.Fine t p = p refl
   emits-fine P (check.Lacks b) t p = emits-refused book buffer P 7 b
-  emits-fine P check.Endless t p = emits-refused book buffer P 8 0
+  emits-fine P check.TooLong t p = emits-refused book buffer P 8 0
 
   -- the end record of a kind
-  end-back : (k : ℕ) → k < 256 → (mem : List ℕ) → Emits book buffer (Back (λ at bytes. ser.taken tape at bytes (ser.endBy k bytes)) mem) (one (rec k 0 0 0))
+  end-back : (k : ℕ) → k < 256 → (mem : List ℕ) → Emits book buffer (Back (λ at bytes. ser.taken tape at bytes (ser.endBy k bytes)) mem) (one (rec (rec-of k 0 0 0)))
   unfolding tapeBytes ser.taken ser.takenBy ser.endBy
   end-back k l mem =
       record {
         emits = λ from s.
-            back-last (rec-of k 0 0 0) (held-of k 0 0 0 l (omega arith) (omega arith) (omega arith)) _ mem (λ at e. rw (e, eq-eqb k k refl)) from (rec k 0 0 0 ∷ [])
+            back-last (rec-of k 0 0 0) (held-of k 0 0 0 l (omega arith) (omega arith) (omega arith)) _ mem (λ at e. rw (e, eq-eqb k k refl)) from (rec (rec-of k 0 0 0) ∷ [])
             (append-nil (recordBytes (rec-of k 0 0 0)));
       }
 
@@ -164,27 +172,27 @@ module _ (book buffer tape : List ℕ) where
     few = valid-size book valid .few
 
     -- a value's type, and an array's element type, are type blocks
-    abbrev Good : de.Item → Type 0
-    Good (de.whole t) = isType book t ≡ true
-    Good (de.further d t e) = isType book e ≡ true
+    abbrev Good : Item Typed → Type 0
+    Good (whole x) = isType book (x .resolved) ≡ true
+    Good (further d t e) = isType book (e .resolved) ≡ true
 
     abbrev Children : de.Child → ser.Child → trip.Child → Type 0
     Children child write kept =
-        (i : de.Item) (mem : List ℕ) → Good i → Bytes mem → kept i mem ≡ true → Emits book buffer (Back (write (toWrite i)) mem) (child i mem)
+        (i : Item Typed) (mem : List ℕ) → Good i → Bytes mem → kept (toKeep i) mem ≡ true → Emits book buffer (Back (write (toWrite i)) mem) (child i mem)
 
     module _ (child : de.Child) (write : ser.Child) (kept : trip.Child) (ih : Children child write kept) where
       -- ---- a map
 
       field-back : (mem : List ℕ) → Bytes mem → (a : FieldAnswer) → TypedField book a → trip.fieldKept kept mem a ≡ true
-          → Emits book buffer (Back (λ at bytes. ser.fieldValue write at bytes a) mem) (de.fieldValue child mem a)
+          → Emits book buffer (Back (λ at bytes. ser.fieldValue write at bytes a) mem) (de.fieldValue child rc mem a)
       unfolding de.fieldValue ser.fieldValue trip.fieldKept
       field-back mem b (answer.Field f) y h =
           emits-where _ (leb (f .offset + f .size) (length mem)) _ 10 0 (λ q.
           emits-map (Back (write (ser.whole (f .resolved))) (ser.cut (f .offset) (f .size) mem)) _ _
           (λ from es x. back-as _ _ mem (λ at. rw q) from es (back-placed _ (f .offset) (f .size) mem from es x))
-          (ih (de.whole (f .resolved)) _ (y .typed) (bytes-take (f .size) (drop (f .offset) mem) (bytes-drop (f .offset) mem b)) h))
+          (ih (whole (de.typedOf rc (f .named) (f .resolved))) _ (y .typed) (bytes-take (f .size) (drop (f .offset) mem) (bytes-drop (f .offset) mem b)) h))
       field-back mem b (answer.Lacks n) y h = emits-refused book buffer _ 7 n
-      field-back mem b answer.Endless y h = emits-refused book buffer _ 8 0
+      field-back mem b answer.TooLong y h = emits-refused book buffer _ 8 0
 
       finds-is : (f : ℕ) (x : Found) → trip.finds f x ≡ true → x ≡ found.At f
       unfolding trip.finds
@@ -203,7 +211,7 @@ module _ (book buffer tape : List ℕ) where
           (field-back mem b (resolveField book width f) (field-typed book width f) v)
           (λ from fs x.
           back-record (rec-of 4 0 f 0) (held-of 4 0 f 0 (omega arith) (omega arith) (omega (arith, l, few)) (omega arith)) _ _ mem
-          (λ at e. rw (e, key-name f l, finds-is f _ h)) from (rec 4 0 f 0 ∷ fs) fs refl x)
+          (λ at e. rw (e, key-name f l, finds-is f _ h)) from (rec (rec-of 4 0 f 0) ∷ fs) fs refl x)
 
       members-back : (t : ℕ) (mem : List ℕ) → Bytes mem → (f k : ℕ) → ((j : ℕ) → j < k → f + j < blocks book) → trip.fieldsKept kept rc t mem f k ≡ true
           → Emits book buffer (Back (ser.keysFrom write sc t k) mem) (de.membersFrom child rc mem f k)
@@ -219,10 +227,12 @@ module _ (book buffer tape : List ℕ) where
           (members-back t mem b (f + 1) k (λ j m. let e : f + suc j ≡ f + 1 + j = omega arith in rw e at (l (suc j) (omega arith))) (and-right rest _ g))
           (λ from es fs x y. back-then (ser.keyOf write sc t) (ser.keysFrom write sc t k) mem from es fs x y)
 
-      map-back : (t : ℕ) → isType book t ≡ true → shapeOf (categoryOf book width t) ≡ shape.Map → (mem : List ℕ) → Bytes mem
-          → trip.fieldsKept kept rc t mem (t + 1) (fieldsOf book t) ≡ true → Emits book buffer (Back (ser.itemWalk write sc (ser.whole t)) mem) (de.mapOf child rc t mem)
+      map-back : (x : Typed) → isType book (x .resolved) ≡ true → shapeOf (categoryOf book width (x .resolved)) ≡ shape.Map → (mem : List ℕ) → Bytes mem
+          → trip.fieldsKept kept rc (x .resolved) mem (x .resolved + 1) (fieldsOf book (x .resolved)) ≡ true
+          → Emits book buffer (Back (ser.itemWalk write sc (ser.whole (x .resolved))) mem) (de.mapOf child rc x mem)
       unfolding de.mapOf de.membersOf ser.itemWalk ser.taken ser.takenBy ser.valueBy ser.mapOf ser.mapBy ser.shapeAt ser.checked tapeBytes
-      map-back t y s mem b h =
+      map-back x y s mem b h =
+          let t : ℕ = x .resolved in
           let d = valid-type book valid t y in
           let small-count : fieldsOf book t < 2 ^ 32 = u32-small book plain t 12 in
           emits-where _ (eqb (length mem) (sizeOf book t)) _ 10 0 (λ q.
@@ -231,18 +241,18 @@ module _ (book buffer tape : List ℕ) where
           (members-back t mem b (t + 1) (fieldsOf book t) (λ j l. valid-below book valid (t + 1 + j) 1 (d .fields j l .kind)) h)
           (λ from fs x.
           back-record (rec-of 3 0 (fieldsOf book t) 0) (held-of 3 0 (fieldsOf book t) 0 (omega arith) (omega arith) (omega arith) (omega arith)) _ _ mem
-          (λ at e. rw (e, s, q, c)) from (rec 3 0 (fieldsOf book t) 0 ∷ fs) fs refl x)))
+          (λ at e. rw (e, s, q, c)) from (rec (rec-of 3 0 (fieldsOf book t) 0) ∷ fs) fs refl x)))
 
       -- ---- an array
 
-      elements-back : (i : de.Item) → Good i → (stride n : ℕ) (mem : List ℕ) → Bytes mem → (index at k : ℕ) → index + k ≡ n → trip.elementsKept kept i stride mem at k ≡ true
+      elements-back : (i : Item Typed) → Good i → (stride n : ℕ) (mem : List ℕ) → Bytes mem → (index at k : ℕ) → index + k ≡ n → trip.elementsKept kept (toKeep i) stride mem at k ≡ true
           → Emits book buffer (Back (ser.elementsFrom write sc (toWrite i) stride n index at k) mem) (de.elementsFrom child i stride mem at k)
       unfolding de.elementsFrom ser.elementsFrom trip.elementsKept
       elements-back i g stride n mem b index at zero e h =
           emits-map (Back (λ cur bytes. ser.taken tape cur bytes (ser.endBy 2 bytes)) mem) _ _
           (λ from es x. back-as _ _ mem (λ cur. rw (le-ltb index n (omega (arith, e)))) from es x) (end-back 2 (omega arith) mem)
       elements-back i g stride n mem b index at (suc k) e h =
-          let first : Bool = kept i (de.cut at stride mem) in
+          let first : Bool = kept (toKeep i) (ser.cut at stride mem) in
           emits-then book buffer (Back (λ cur bytes. ser.placed at stride bytes (write (toWrite i) cur (ser.cut at stride bytes))) mem)
           (Back (ser.elementsFrom write sc (toWrite i) stride n (index + 1) (at + stride) k) mem) _ _ _
           (emits-map (Back (write (toWrite i)) (ser.cut at stride mem)) _ _ (λ from es x. back-placed (write (toWrite i)) at stride mem from es x)
@@ -250,60 +260,85 @@ module _ (book buffer tape : List ℕ) where
           (elements-back i g stride n mem b (index + 1) (at + stride) k (omega (arith, e)) (and-right first _ h))
           (λ from es fs x y. back-as _ _ mem (λ cur. rw (lt-ltb index n (omega (arith, e)))) from (es ++ fs) (back-then _ _ mem from es fs x y))
 
-      element-good : (d t e : ℕ) → isType book e ≡ true → Good (de.elementItem rc d t e)
-      unfolding de.elementItem
+      element-good : (d t : ℕ) (e : Typed) → isType book (e .resolved) ≡ true → Good (elementItem book d t e)
+      unfolding elementItem
       element-good d t e y = by (isLast book d t)
         where
-          by : (x : Bool) → Good (cond x (de.whole e) (de.further (d + 1) t e))
+          by : (x : Bool) → Good (cond x (whole e) (further (d + 1) t e))
           by true = y
           by false = y
 
-      same-item : (d t e : ℕ) → toWrite (de.elementItem rc d t e) ≡ ser.elementItem sc d t e
-      unfolding de.elementItem ser.elementItem
+      same-item : (d t : ℕ) (e : Typed) → toWrite (elementItem book d t e) ≡ ser.elementItem sc d t (e .resolved)
+      unfolding elementItem ser.elementItem
       same-item d t e = by (isLast book d t)
         where
-          by : (x : Bool) → toWrite (cond x (de.whole e) (de.further (d + 1) t e)) ≡ cond x (ser.whole e) (ser.further (d + 1) t e)
+          by : (x : Bool) → toWrite (cond x (whole e) (further (d + 1) t e)) ≡ cond x (ser.whole (e .resolved)) (ser.further (d + 1) t (e .resolved))
           by true = refl
           by false = refl
 
-      same-check : (d t e : ℕ) → de.elementCheck rc d t e ≡ ser.elementCheck book width d t e
-      unfolding de.elementCheck ser.elementCheck de.shapeAt de.shapeCheck ser.shapeCheck
+      kept-item : (d t : ℕ) (e : Typed) → toKeep (elementItem book d t e) ≡ elementItem book d t (e .resolved)
+      unfolding elementItem
+      kept-item d t e = by (isLast book d t)
+        where
+          by : (x : Bool) → toKeep (cond x (whole e) (further (d + 1) t e)) ≡ cond x (whole (e .resolved)) (further (d + 1) t (e .resolved))
+          by true = refl
+          by false = refl
+
+      same-check : (d t e : ℕ) → elementCheck book width d t e ≡ ser.elementCheck book width d t e
+      unfolding elementCheck ser.elementCheck shapeAt shapeCheck ser.shapeCheck
       same-check d t e = ap (λ (x : FieldsCheck). cond (isLast book d t) x check.Fine) (by (shapeOf (categoryOf book width e)) (fieldsCheck book width e))
         where
-          by : (s : Shape) (f : FieldsCheck) → de.shapeCheck s f ≡ ser.shapeCheck s f
+          by : (s : Shape) (f : FieldsCheck) → shapeCheck s f ≡ ser.shapeCheck s f
           by shape.Map f = refl
           by shape.Array f = refl
           by shape.Leaf f = refl
 
       -- a dimension, for what is the same as its walk where there is an array's record
-      dimension-back : (d t e : ℕ) → isType book e ≡ true → (mem : List ℕ) → Bytes mem → trip.dimensionKept kept rc d t e mem ≡ true → (o : Cursor → List ℕ → Outcome)
-          → ((at : ℕ) → stepAt tape at ≡ step.Record (rec-of 1 0 (countOf book t d) 0) (place (at + 24)) → o (place at) mem ≡ ser.dimensionOf write sc d t e (place at) mem)
+      dimension-back : (d t : ℕ) (e : Typed) → isType book (e .resolved) ≡ true → (mem : List ℕ) → Bytes mem → trip.dimensionKept kept rc d t (e .resolved) mem ≡ true → (o : Cursor → List ℕ → Outcome)
+          → ((at : ℕ) → stepAt tape at ≡ step.Record (rec-of 1 0 (countOf book t d) 0) (place (at + 24)) → o (place at) mem ≡ ser.dimensionOf write sc d t (e .resolved) (place at) mem)
           → Emits book buffer (Back o mem) (de.dimensionOf child rc d t e mem)
       unfolding de.dimensionOf de.elementsOf ser.dimensionOf ser.checked ser.taken ser.takenBy ser.elementsBy trip.dimensionKept tapeBytes
       dimension-back d t e y mem b h o same =
           let small-count : countOf book t d < 2 ^ 32 = u32-small book plain t (20 + 4 * d) in
-          emits-fine _ (de.elementCheck rc d t e) _ (λ c.
-          let c′ : ser.elementCheck book width d t e ≡ check.Fine = sym (same-check d t e) ∙ c in
-          emits-after book buffer (Back (ser.elementsFrom write sc (toWrite (de.elementItem rc d t e)) (strideOf book d t e) (countOf book t d) 0 0 (countOf book t d)) mem) _
+          emits-fine _ (elementCheck book width d t (e .resolved)) _ (λ c.
+          let c′ : ser.elementCheck book width d t (e .resolved) ≡ check.Fine = sym (same-check d t (e .resolved)) ∙ c in
+          emits-after book buffer (Back (ser.elementsFrom write sc (toWrite (elementItem book d t e)) (strideOf book d t (e .resolved)) (countOf book t d) 0 0 (countOf book t d)) mem) _
           1 0 (countOf book t d) 0 _
-          (elements-back (de.elementItem rc d t e) (element-good d t e y) (strideOf book d t e) (countOf book t d) mem b 0 0 (countOf book t d) (omega arith) h)
+          (elements-back (elementItem book d t e) (element-good d t e y) (strideOf book d t (e .resolved)) (countOf book t d) mem b 0 0 (countOf book t d) (omega arith) (rw (kept-item d t e) h))
           (λ from fs x.
           back-record (rec-of 1 0 (countOf book t d) 0) (held-of 1 0 (countOf book t d) 0 (omega arith) (omega arith) (omega arith) (omega arith)) _ _ mem
-          (λ at q. same at q ∙ rw (c′, q, same-item d t e)) from (rec 1 0 (countOf book t d) 0 ∷ fs) fs refl x))
+          (λ at q. same at q ∙ rw (c′, q, same-item d t e)) from (rec (rec-of 1 0 (countOf book t d) 0) ∷ fs) fs refl x))
+
+      element-by : (t : ℕ) → shapeOf (categoryOf book width t) ≡ shape.Array → (mem : List ℕ) → Bytes mem → eqb (length mem) (sizeOf book t) ≡ true → (n : ℕ)
+          → (r : Resolved) → lookUp book width t ≡ r → trip.arrayKept kept rc t mem r ≡ true → Emits book buffer (Back (ser.itemWalk write sc (ser.whole t)) mem) (de.elementBy child rc t n mem r)
+      unfolding de.elementBy trip.arrayKept ser.itemWalk ser.taken ser.takenBy ser.valueBy ser.arrayOf ser.enteredAt ser.enteredBy ser.elementType ser.arrayBy
+      element-by t s mem b q n (resolved.Base e) l h =
+          emits-where _ (eqb (bytesOf book t e) (length mem)) _ 10 0 (λ z.
+          dimension-back 0 t (de.typedOf rc n e) (look-typed book width t e l) mem b h (ser.itemWalk write sc (ser.whole t)) (λ at x. rw (x, s, q, l, z)))
+      element-by t s mem b q n (resolved.Lacks k) l h = emits-refused book buffer _ 7 k
+      element-by t s mem b q n resolved.TooLong l h = emits-refused book buffer _ 8 0
+
+      -- a name that is found leads where its aliases do
+      look-found : (t n : ℕ) → find book (typeNameOf book t) ≡ found.At n → lookUp book width t ≡ resolveAlias book width n
+      unfolding lookUp onward
+      look-found t n e = rw e
 
       array-by : (t : ℕ) → shapeOf (categoryOf book width t) ≡ shape.Array → (mem : List ℕ) → Bytes mem → eqb (length mem) (sizeOf book t) ≡ true
-          → (r : Resolved) → lookUp book width t ≡ r → trip.arrayKept kept rc t mem r ≡ true → Emits book buffer (Back (ser.itemWalk write sc (ser.whole t)) mem) (de.arrayBy child rc t mem r)
-      unfolding de.arrayBy trip.arrayKept ser.itemWalk ser.taken ser.takenBy ser.valueBy ser.arrayOf ser.enteredAt ser.enteredBy ser.elementType ser.arrayBy
-      array-by t s mem b q (resolved.Base e) l h =
-          emits-where _ (eqb (bytesOf book t e) (length mem)) _ 10 0 (λ z.
-          dimension-back 0 t e (look-typed book width t e l) mem b h (ser.itemWalk write sc (ser.whole t)) (λ at x. rw (x, s, q, l, z)))
-      array-by t s mem b q (resolved.Lacks n) l h = emits-refused book buffer _ 7 n
-      array-by t s mem b q resolved.Endless l h = emits-refused book buffer _ 8 0
+          → trip.arrayKept kept rc t mem (lookUp book width t) ≡ true → (f : Found) → find book (typeNameOf book t) ≡ f
+          → Emits book buffer (Back (ser.itemWalk write sc (ser.whole t)) mem) (de.arrayBy child rc t mem f)
+      unfolding de.arrayBy
+      array-by t s mem b q h (found.At n) e =
+          let l = look-found t n e in
+          element-by t s mem b q n (resolveAlias book width n) l (rw l at h)
+      array-by t s mem b q h found.Nothing e = emits-refused book buffer _ 7 t
 
-      array-back : (t : ℕ) → shapeOf (categoryOf book width t) ≡ shape.Array → (mem : List ℕ) → Bytes mem → trip.arrayKept kept rc t mem (lookUp book width t) ≡ true
-          → Emits book buffer (Back (ser.itemWalk write sc (ser.whole t)) mem) (de.arrayOf child rc t mem)
+      array-back : (x : Typed) → shapeOf (categoryOf book width (x .resolved)) ≡ shape.Array → (mem : List ℕ) → Bytes mem
+          → trip.arrayKept kept rc (x .resolved) mem (lookUp book width (x .resolved)) ≡ true
+          → Emits book buffer (Back (ser.itemWalk write sc (ser.whole (x .resolved))) mem) (de.arrayOf child rc x mem)
       unfolding de.arrayOf
-      array-back t s mem b h = emits-where _ (eqb (length mem) (sizeOf book t)) _ 10 0 (λ q. array-by t s mem b q (lookUp book width t) refl h)
+      array-back x s mem b h =
+          let t : ℕ = x .resolved in
+          emits-where _ (eqb (length mem) (sizeOf book t)) _ 10 0 (λ q. array-by t s mem b q h (find book (typeNameOf book t)) refl)
 
       -- ---- a leaf
 
@@ -322,17 +357,18 @@ module _ (book buffer tape : List ℕ) where
 
       -- ---- an item
 
-      shape-back : (t : ℕ) → isType book t ≡ true → (mem : List ℕ) → Bytes mem → (s : Shape) → shapeOf (categoryOf book width t) ≡ s → trip.shapeKept kept rc t mem s ≡ true
-          → Emits book buffer (Back (ser.itemWalk write sc (ser.whole t)) mem) (de.shapeWalk child rc t mem s)
+      shape-back : (x : Typed) → isType book (x .resolved) ≡ true → (mem : List ℕ) → Bytes mem → (s : Shape) → shapeOf (categoryOf book width (x .resolved)) ≡ s
+          → trip.shapeKept kept rc (x .resolved) mem s ≡ true
+          → Emits book buffer (Back (ser.itemWalk write sc (ser.whole (x .resolved))) mem) (de.shapeWalk child rc x mem s)
       unfolding de.shapeWalk trip.shapeKept
-      shape-back t y mem b shape.Map s h = map-back t y s mem b h
-      shape-back t y mem b shape.Array s h = array-back t s mem b h
-      shape-back t y mem b shape.Leaf s h = leaf-item t y mem b h
+      shape-back x y mem b shape.Map s h = map-back x y s mem b h
+      shape-back x y mem b shape.Array s h = array-back x s mem b h
+      shape-back x y mem b shape.Leaf s h = leaf-item (x .resolved) y mem b h
 
       item-back : Children (de.itemWalk child rc) (ser.itemWalk write sc) (trip.itemKept kept rc)
-      unfolding de.itemWalk de.shapeAt trip.itemKept ser.itemWalk
-      item-back (de.whole t) mem g b h = shape-back t g mem b (shapeOf (categoryOf book width t)) refl h
-      item-back (de.further d t e) mem g b h = dimension-back d t e g mem b h (ser.dimensionOf write sc d t e) (λ at x. refl)
+      unfolding de.itemWalk shapeAt trip.itemKept ser.itemWalk
+      item-back (whole x) mem g b h = shape-back x g mem b (shapeOf (categoryOf book width (x .resolved))) refl h
+      item-back (further d t e) mem g b h = dimension-back d t e g mem b h (ser.dimensionOf write sc d t (e .resolved)) (λ at x. refl)
 
     pub walk-back : (left : ℕ) → Children (de.walk rc left) (ser.walk sc left) (trip.walkKept rc left)
     unfolding de.walk ser.walk trip.walkKept

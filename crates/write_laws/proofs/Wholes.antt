@@ -17,6 +17,7 @@ use Rattle.tape.specs.declared.cursor.Cursor.{Cursor}
 use Rattle.ser.specs.declared.WriteAnswer.{WriteAnswer}
 use Rattle.ser.specs.declared.WriteAnswer.the-variants.{Done, NotFound, Refused}
 use Rattle.ser.specs.Write.{Ctx, ctx, Outcome, went, refused, whole}
+use Rattle.ser.proofs.Numbers.{write-is}
 use Rattle.ser.specs.Call.{typeWrite, rootBy, rootWrite, bookWrite, checkedWrite, writeCall, Wrote}
 use Rattle.write_laws.specs.Touched.{Touched, rangesOf, rootTouched, leavesOf, OnlyIn}
 use Rattle.write_laws.specs.Laws.{BytesOutside}
@@ -47,7 +48,7 @@ unfolding rootBy rootTouched typeWrite
 by-root c image (resolved.Base t) at new e =
     agrees-only image _ _ (walk-agrees c 64 (whole t) (record { at = 0 }) 0 (length image) image refl tt) at new e
 by-root c image (resolved.Lacks b) at new e = different cc
-by-root c image resolved.Endless at new e = different cc
+by-root c image resolved.TooLong at new e = different cc
 
 book-whole : (c : Ctx) (n room : ℕ) (image : List ℕ) → Whole c n image (bookWrite c n room image)
 unfolding bookWrite rootWrite leavesOf
@@ -84,7 +85,7 @@ module _ (image output : List ℕ) (r : WriteAnswer) (last : List ℕ) (d : r �
   by-outcome (went at new) w x room =
       let q : last ≡ new = (rw (room at new refl) at (w .output-is)) in
       rw q (x .accepted at new refl)
-  by-outcome (refused k b new) w x room = absurd (not-done (eqb k 7) k b (sym (w .answer) ∙ d))
+  by-outcome (refused k b new) w x room = absurd (not-done (eqb k 7) k b (sym (write-is _ _ (w .answer)) ∙ d))
 
 -- the first law
 pub bytes-outside : BytesOutside

@@ -7,6 +7,7 @@ use native.Mathlib.Omega.{arith}
 use borrow.Author.Tests.{leb-true, leb-false, ltb-false, le-leb}
 use lib.Dec.{leb, ltb}
 use Rattle.number.specs.Le.{Bytes}
+use Rattle.number.proofs.ByteOrder.{leBytes-two, leValue-two}
 use Rattle.utf_8.specs.Utf8.{Item, scalar, error, noError, isScalar, utf8Of, decodeFrom}
 use Rattle.utf_8.proofs.Trips.{decode-utf8}
 use Rattle.utf_16.specs.Unit16.{unitOf, isLeading, isTrailing, fromSurrogates}
@@ -25,7 +26,7 @@ unit-back x y a b =
     let p : (x + y * 256) % 256 ≡ x = omega arith in
     let q : (x + y * 256) / 256 ≡ y = omega arith in
     let r : y % 256 ≡ y = omega arith in
-    rw (p, q, r)
+    rw (leBytes-two (unitOf x y), leValue-two x y, p, q, r)
 
 record Between (lo hi u : ℕ) : Type 0 where
   from : lo ≤ u
@@ -96,7 +97,7 @@ module _ (x y : ℕ) (a : x < 256) (b : y < 256) where
   -- a unit alone
   plain-again : (xs : List ℕ) → isLeading (unitOf x y) ≡ false → isTrailing (unitOf x y) ≡ false → encodeText (decodeText xs) ≡ xs → encodeText (decodeText (x ∷ y ∷ xs)) ≡ x ∷ y ∷ xs
   plain-again xs l t ih =
-      let s : unitOf x y < 0x10000 = omega arith in
+      let s : unitOf x y < 0x10000 = omega (arith, leValue-two x y) in
       scalar-again (unitOf x y) (x ∷ y ∷ xs) xs (plain-scalar (unitOf x y) s l t) (plain-unit x y xs l t)
       ∙ ap (λ (e : List ℕ). utf16Of (unitOf x y) ++ e) ih ∙ ap (λ (e : List ℕ). e ++ xs) (one-unit (unitOf x y) s ∙ unit-back x y a b)
 

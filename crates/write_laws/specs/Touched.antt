@@ -86,7 +86,7 @@ endAt c at = recordBy (λ r next. upto next []) (stepAt (c .tape) (at .at))
 unfoldable pub fieldTouched : Child → Cursor → ℕ → FieldAnswer → Touched
 fieldTouched child at from (answer.Field f) = child (whole (f .resolved)) at (from + f .offset) (f .size)
 fieldTouched child at from (answer.Lacks b) = nowhere
-fieldTouched child at from answer.Endless = nowhere
+fieldTouched child at from answer.TooLong = nowhere
 
 unfoldable pub foundTouched : Child → Ctx → Cursor → ℕ → Found → Touched
 foundTouched child c at from (found.At f) = fieldTouched child at from (resolveField (c .book) (c .width) f)
@@ -118,7 +118,7 @@ dimensionTouched child c d t e at from =
 unfoldable pub arrayTouched : Child → Ctx → ℕ → Cursor → ℕ → Resolved → Touched
 arrayTouched child c t at from (resolved.Base e) = dimensionTouched child c 0 t e at from
 arrayTouched child c t at from (resolved.Lacks b) = nowhere
-arrayTouched child c t at from resolved.Endless = nowhere
+arrayTouched child c t at from resolved.TooLong = nowhere
 
 -- ---- a value
 
@@ -148,7 +148,7 @@ rangesOf nowhere = []
 unfoldable pub rootTouched : Ctx → ℕ → Resolved → Touched
 rootTouched c size (resolved.Base t) = walkTouched c 64 (whole t) (record { at = 0 }) 0 size
 rootTouched c size (resolved.Lacks b) = nowhere
-rootTouched c size resolved.Endless = nowhere
+rootTouched c size resolved.TooLong = nowhere
 
 -- the leaves that a tape names: their ranges in an output of so many bytes of root block n
 unfoldable pub leavesOf : Ctx → ℕ → ℕ → List Range

@@ -23,7 +23,11 @@ use Rattle.named_blocks.specs.Named.{fieldNamed, entryNamed}
 use Rattle.leaves.specs.declared.leaf.LeafValue.{LeafValue}
 use Rattle.leaves.specs.declared.leaf.LeafValue.the-variants as leaf
 use Rattle.leaves.specs.Leaf.{leafAt}
-use Rattle.de.specs.Walk.{Ctx, Item, whole, further, cut, elementItem, shapeAt}
+use Rattle.text_decoder.specs.declared.Decoder.{Decoder}
+use Rattle.text_decoder.specs.declared.Decoder.the-variants as decoder
+use Rattle.leaf_steps.specs.Leaves.{endsAt}
+use Rattle.array_elements.specs.Element.{Item, whole, further, cut, elementItem, shapeAt}
+use Rattle.de.specs.Walk.{Ctx}
 
 -- ---- a leaf
 
@@ -40,6 +44,11 @@ unfoldable pub entryKept : List ℕ → List ℕ → Found → Bool
 entryKept book mem (found.At m) = sameName (valueOf book m) mem
 entryKept book mem found.Nothing = false
 
+-- by its decoder, a text of n bytes is ended and has zeros alone after its end, and a WSTRING's is whole
+unfoldable pub textKept : Decoder → ℕ → List ℕ → Bool
+textKept decoder.Windows1252 n mem = zerosAfter n 1 mem
+textKept decoder.Utf16 n mem = zerosAfter n 2 mem && isWhole (take n mem)
+
 -- by a leaf's value: a bool's byte is 0 or 1; a text is ended and has zeros alone after its end, and a WSTRING's is whole; the first entry of
 -- an entry's name has its value; there is no unit, which no type takes; an integer and a real always come back
 unfoldable pub leafKept : List ℕ → ℕ → List ℕ → LeafValue → Bool
@@ -50,8 +59,7 @@ leafKept book t mem (leaf.Single x) = true
 leafKept book t mem (leaf.Double x) = true
 leafKept book t mem (leaf.NanSingle n) = true
 leafKept book t mem (leaf.NanDouble n) = true
-leafKept book t mem (leaf.Text n) = zerosAfter n 1 mem
-leafKept book t mem (leaf.WideText n) = zerosAfter n 2 mem && isWhole (take n mem)
+leafKept book t mem (leaf.Text d e) = textKept d (endsAt e) mem
 leafKept book t mem (leaf.Entry n) = entryKept book mem (entryNamed book t (nameOf book n))
 leafKept book t mem leaf.Unit = false
 leafKept book t mem (leaf.Refused k) = true
@@ -60,7 +68,7 @@ leafKept book t mem (leaf.Refused k) = true
 
 -- what is asked at one level less
 abbrev pub Child : Type 0
-Child = Item → List ℕ → Bool
+Child = Item ℕ → List ℕ → Bool
 
 -- a name finds this block
 unfoldable pub finds : ℕ → Found → Bool
@@ -71,7 +79,7 @@ finds f found.Nothing = false
 unfoldable pub fieldKept : Child → List ℕ → FieldAnswer → Bool
 fieldKept child mem (answer.Field f) = child (whole (f .resolved)) (cut (f .offset) (f .size) mem)
 fieldKept child mem (answer.Lacks b) = true
-fieldKept child mem answer.Endless = true
+fieldKept child mem answer.TooLong = true
 
 -- the k fields from block f on: each is the first of type t that has its name, and its value is kept
 unfoldable pub fieldsKept : Child → Ctx → ℕ → List ℕ → ℕ → ℕ → Bool
@@ -81,19 +89,19 @@ fieldsKept child c t mem f (suc k) =
     && (fieldKept child mem (resolveField (c .book) (c .width) f) && fieldsKept child c t mem (f + 1) k)
 
 -- the k elements of `stride` bytes from `from` on
-unfoldable pub elementsKept : Child → Item → ℕ → List ℕ → ℕ → ℕ → Bool
+unfoldable pub elementsKept : Child → Item ℕ → ℕ → List ℕ → ℕ → ℕ → Bool
 elementsKept child item stride mem from zero = true
 elementsKept child item stride mem from (suc k) = child item (cut from stride mem) && elementsKept child item stride mem (from + stride) k
 
 -- dimension d of array t
 unfoldable pub dimensionKept : Child → Ctx → ℕ → ℕ → ℕ → List ℕ → Bool
-dimensionKept child c d t e mem = elementsKept child (elementItem c d t e) (strideOf (c .book) d t e) mem 0 (countOf (c .book) t d)
+dimensionKept child c d t e mem = elementsKept child (elementItem (c .book) d t e) (strideOf (c .book) d t e) mem 0 (countOf (c .book) t d)
 
 -- array t, by what its element's type comes to
 unfoldable pub arrayKept : Child → Ctx → ℕ → List ℕ → Resolved → Bool
 arrayKept child c t mem (resolved.Base e) = dimensionKept child c 0 t e mem
 arrayKept child c t mem (resolved.Lacks b) = true
-arrayKept child c t mem resolved.Endless = true
+arrayKept child c t mem resolved.TooLong = true
 
 -- a value by its fields, by its elements, or as a whole
 unfoldable pub shapeKept : Child → Ctx → ℕ → List ℕ → Shape → Bool
@@ -103,7 +111,7 @@ shapeKept child c t mem shape.Leaf = leafKept (c .book) t mem (leafAt (c .book) 
 
 -- an item
 unfoldable pub itemKept : Child → Ctx → Child
-itemKept child c (whole t) mem = shapeKept child c t mem (shapeAt c t)
+itemKept child c (whole t) mem = shapeKept child c t mem (shapeAt (c .book) (c .width) t)
 itemKept child c (further d t e) mem = dimensionKept child c d t e mem
 
 -- where `left` is the number of levels left
@@ -115,7 +123,7 @@ walkKept c (suc left) i mem = itemKept (walkKept c left) c i mem
 unfoldable pub rootKept : Ctx → List ℕ → Resolved → Bool
 rootKept c mem (resolved.Base t) = walkKept c 64 (whole t) mem
 rootKept c mem (resolved.Lacks b) = true
-rootKept c mem resolved.Endless = true
+rootKept c mem resolved.TooLong = true
 
 -- the bytes of root block n come back from a write of what is read of them
 unfoldable pub isKept : Ctx → ℕ → List ℕ → Bool

@@ -41,7 +41,7 @@ fn edit(words: &[String]) -> Result<(), Box<dyn Error>> {
     let new = new_value(tape.at(path)?, value)?;
     tape.edit(path, new)?;
 
-    let output = recipe.write(WIDTH, &image, &tape)?;
+    let output = recipe.write(WIDTH, &image, &tape.edits())?;
     let again = recipe.read(WIDTH, &output)?;
     println!("{}: {path} was {before}, is {}", recipe.name(), again.at(path)?);
     for (at, (old, new)) in image.iter().zip(&output).enumerate().filter(|(_, (a, b))| a != b) {

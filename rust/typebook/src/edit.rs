@@ -116,9 +116,7 @@ impl Tape<'_> {
     /// Changes the value that a path of names and indexes leads to; indexes count from 0. The new value is of the old one's kind: an
     /// integer that fits its width, a real, a bool, a text, or the name of an entry of the same enumeration.
     ///
-    /// A write of the tape then writes all of its values. Where some of them can't be written back (values without meaning,
-    /// texts that fill their field to the last byte), make a tape of the changed part alone with a
-    /// [`TapeBuilder`](crate::TapeBuilder).
+    /// A write of the tape then writes all of its values; one of its [`edits`](Tape::edits) writes those that were changed.
     ///
     /// ```
     /// use typebook::{EditError, Step, TypeBook, Value};
@@ -155,7 +153,65 @@ impl Tape<'_> {
         let at = self.place(steps)?;
         let bytes = self.changed(at, new.into())?;
         self.records[at..at + RECORD].copy_from_slice(&bytes);
+        self.edited.insert(at);
         Ok(())
+    }
+
+    /// The tape of what was changed alone: the fields on the way to a changed value, and no others, so that a write leaves all else
+    /// as the image has it. Arrays on the way are written whole where their elements aren't structs.
+    ///
+    /// This also writes into types of which not every value can be written back: those that hold something without meaning
+    /// (refusal 17), and texts that fill their field to the last byte (refusal 10).
+    ///
+    /// ```
+    /// use typebook::TypeBook;
+    /// # let folder = concat!(env!("CARGO_MANIFEST_DIR"), "/../../examples/glue/");
+    /// # let file = |name: &str| std::fs::read(format!("{folder}{name}"));
+    /// # let book = TypeBook::new(file("book.bin")?)?;
+    /// # let (recipe, image) = (book.root(0)?, file("mem.bin")?);
+    /// let mut tape = recipe.read(8, &image)?;
+    /// tape.edit("Nozzles[2].Flow", 7)?;
+    /// // A map of one field, of an array of three maps, of which the last has one field.
+    /// assert_eq!(format!("{:?}", tape.edits()), "[Map(1), Key(\"Nozzles\"), Array(3), Map(0), End, Map(0), End, \
+    ///     Map(1), Key(\"Flow\"), Nat { bits: 16, value: 7 }, End, End, End]");
+    /// assert_eq!(recipe.write(8, &image, &tape.edits())?, recipe.write(8, &image, &tape)?);
+    /// # Ok::<(), Box<dyn std::error::Error>>(())
+    /// ```
+    pub fn edits(&self) -> Self {
+        let mut records = Vec::new();
+        self.put_edits(0, &mut records);
+        Tape::new(self.book, records, self.text.clone())
+    }
+
+    /// Puts the value at a place, of maps only the keys with something changed, and gives the place after it.
+    fn put_edits(&self, at: usize, out: &mut Vec<u8>) -> usize {
+        let start = out.len();
+        let mut next = at + RECORD;
+        out.extend_from_slice(&self.records[at..next]);
+        match self.records[at] {
+            1 => {
+                while self.records[next] != 2 {
+                    next = self.put_edits(next, out);
+                }
+            }
+            3 => {
+                let mut keys = 0u64;
+                while self.records[next] == 4 {
+                    let value = next + RECORD;
+                    let after = self.after(value);
+                    if self.edited.range(value..after).next().is_some() {
+                        out.extend_from_slice(&self.records[next..value]);
+                        self.put_edits(value, out);
+                        keys += 1;
+                    }
+                    next = after;
+                }
+                out[start + 8..start + 16].copy_from_slice(&keys.to_le_bytes());
+            }
+            _ => return next,
+        }
+        out.extend_from_slice(&self.records[next..next + RECORD]);
+        next + RECORD
     }
 
     /// The value that a path leads to.
@@ -263,7 +319,7 @@ fn fits(fine: bool) -> Result<(), EditError> {
 #[cfg(test)]
 mod tests {
     use super::*;
-    use crate::TypeBook;
+    use crate::{Refusal, TypeBook};
     use twin::make::{Type, book, int};
 
     #[test]
@@ -363,6 +419,30 @@ mod tests {
             assert_eq!(tape.edit(path, 1), Err(wanted), "{path}");
         }
         assert_eq!(tape.bytes(), before);
+    }
+
+    /// A struct with a field that holds nothing readable and a text without zero: only its edits can be written.
+    #[test]
+    fn edits_pass_by_what_can_not_be_written() {
+        let s = Type::new("S").size(11).field("a", "INT", 0, 2).field("n", "N", 2, 6);
+        let types = [
+            s.field("t", "STRING", 8, 3),
+            int(),
+            Type::new("N").size(6),
+            Type::new("STRING").id(30).size(3),
+        ];
+        let book = TypeBook::new(book(&types)).expect("valid");
+        let root = book.root(0).expect("a type");
+        let image = *b"\x01\x00abcdefxyz";
+        let mut tape = root.read(8, &image).expect("read");
+        assert_eq!(root.write(8, &image, &tape.edits()), Ok(image.to_vec()));
+        tape.edit("a", 5).expect("an integer");
+        assert_eq!(root.write(8, &image, &tape), Err(Refusal::Mismatch));
+        let wanted = b"\x05\x00abcdefxyz".to_vec();
+        assert_eq!(root.write(8, &image, &tape.edits()), Ok(wanted));
+        tape.edit("t", "ab").expect("a text");
+        let wanted = b"\x05\x00abcdefab\0".to_vec();
+        assert_eq!(root.write(8, &image, &tape.edits()), Ok(wanted));
     }
 
     #[test]

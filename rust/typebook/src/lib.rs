@@ -34,7 +34,7 @@
 //! let mut tape = recipe.read(8, &image)?;
 //! tape.edit("Tank.Target", 131.25)?;
 //! tape.edit("Nozzles[1].Flow", 355)?;
-//! let new = recipe.write(8, &image, &tape)?;
+//! let new = recipe.write(8, &image, &tape.edits())?;
 //! assert_eq!(new.len(), image.len());
 //! # assert_eq!(new.iter().zip(&image).filter(|(a, b)| a != b).count(), 5);
 //! # Ok::<(), Box<dyn std::error::Error>>(())

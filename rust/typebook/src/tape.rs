@@ -2,6 +2,7 @@
 
 use crate::book::name_in;
 use crate::ffi::total;
+use std::collections::BTreeSet;
 use std::fmt;
 
 pub(crate) const RECORD: usize = 24;
@@ -109,11 +110,18 @@ pub struct Tape<'b> {
     pub(crate) book: &'b [u8],
     pub(crate) records: Vec<u8>,
     pub(crate) text: Vec<u8>,
+    /// Where the records stand that were changed since the read.
+    pub(crate) edited: BTreeSet<usize>,
 }
 
 impl<'b> Tape<'b> {
     pub(crate) fn new(book: &'b [u8], records: Vec<u8>, text: Vec<u8>) -> Self {
-        Self { book, records, text }
+        Self {
+            book,
+            records,
+            text,
+            edited: BTreeSet::new(),
+        }
     }
 
     /// The number of records.

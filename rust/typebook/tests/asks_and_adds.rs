@@ -6,7 +6,7 @@ use twin::block;
 use twin::category::{Category, determine};
 use twin::random::{Made, Rng, made, memory};
 use twin::resolve::resolve;
-use typebook::{Refusal, TypeBook};
+use typebook::{Refusal, TapeBuilder, TypeBook, TypeRef};
 
 fn text(name: &[u8]) -> &str {
     std::str::from_utf8(name).unwrap()
@@ -136,7 +136,19 @@ fn answers_alike(rng: &mut Rng, book: &TypeBook, our_root: u32, made: &Made, rea
             assert!(!matches!(refusal, Refusal::NotFound { .. }));
         }
     }
+    let told = written(book, ours, width, &memory);
+    let wanted = written(&whole, whole.root(made.root.into()).unwrap(), width, &memory);
+    assert_eq!(told, wanted);
+    assert!(!matches!(told, Err(Refusal::NotFound { .. })));
     yes
+}
+
+/// What is written over a memory of what was read of it, or of an empty map where nothing was: each book has its own block numbers.
+fn written(book: &TypeBook, t: TypeRef, width: u8, memory: &[u8]) -> Result<Vec<u8>, Refusal> {
+    let mut empty = TapeBuilder::new(book);
+    empty.map().unwrap().end().unwrap();
+    let tape = t.read(width, memory).unwrap_or(empty.finish().unwrap());
+    t.write(width, memory, &tape)
 }
 
 #[test]

@@ -1,5 +1,6 @@
 use Rattle.book_check.proofs.Checks.{book-size, book-cut, book-few, book-sum, book-form, book-doubled, book-valid}
 use borrow.Author.Needs.{needs}
+use Rattle.book_check.proofs.Numbers.{book-says}
 use Rattle.book_check.proofs.check_book.Statement.{statement}
 use Rattle.book_check.proofs.check_book.Tie as tie
 
@@ -7,7 +8,7 @@ size-right-requires : tie.Need-size-right-requires
 size-right-requires c κs = search needs
 
 returns : tie.Need-returns
-returns c = search book-size
+returns c = book-says _ _ (search book-size)
 
 slice-aggregate-book : tie.Need-slice-aggregate-book
 slice-aggregate-book c = search book-cut
@@ -16,22 +17,22 @@ sums-right-requires : tie.Need-sums-right-requires
 sums-right-requires c κs = search book-few
 
 returns-2 : tie.Need-returns-2
-returns-2 c = search book-sum
+returns-2 c = book-says _ _ (search book-sum)
 
 placed-requires : tie.Need-placed-requires
 placed-requires c κs = search book-few
 
 returns-3 : tie.Need-returns-3
-returns-3 c = search book-form
+returns-3 c = book-says _ _ (search book-form)
 
 names-distinct-requires : tie.Need-names-distinct-requires
 names-distinct-requires c κs = search book-few
 
 returns-4 : tie.Need-returns-4
-returns-4 c = search book-doubled
+returns-4 c = book-says _ _ (search book-doubled)
 
 returns-5 : tie.Need-returns-5
-returns-5 c = search book-valid
+returns-5 c = book-says _ _ (search book-valid)
 
 pub check-book-spec : {M : Type 1} → statement M
 check-book-spec =

@@ -1,4 +1,5 @@
 use Rattle.book_check.proofs.Checks.{root-refused, root-answer, root-cut, root-few}
+use Rattle.book_check.proofs.Numbers.{book-is, root-says}
 use borrow.Author.Needs.{needs}
 use Rattle.book_check.proofs.check_root.Statement.{statement}
 use Rattle.book_check.proofs.check_root.Tie as tie
@@ -10,16 +11,16 @@ refusal-of-requires : tie.Need-refusal-of-requires
 refusal-of-requires c κs = search needs
 
 returns : tie.Need-returns
-returns c = search root-refused
+returns c = root-says _ _ (search (root-refused, book-is))
 
 slice-aggregate-root-of : tie.Need-slice-aggregate-root-of
-slice-aggregate-root-of c = search root-cut
+slice-aggregate-root-of c = search (root-cut, book-is)
 
 root-of-requires : tie.Need-root-of-requires
-root-of-requires c κs = search root-few
+root-of-requires c κs = search (root-few, book-is)
 
 returns-2 : tie.Need-returns-2
-returns-2 c = search root-answer
+returns-2 c = root-says _ _ (search (root-answer, book-is))
 
 pub check-root-spec : {M : Type 1} → statement M
 check-root-spec =

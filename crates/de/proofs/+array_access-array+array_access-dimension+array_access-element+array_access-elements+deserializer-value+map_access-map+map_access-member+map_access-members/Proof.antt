@@ -1,13 +1,15 @@
 use borrow.Author.Needs.{needs}
-use mathlib.Core.Path.{_≡_}
+use mathlib.Core.Path.{_≡_, refl}
 use Prim.Native.Nat.{ℕ, _+_, _*_, _-_, _≤_, _<_}
 use lib.ListN.{length}
-use Rattle.de.specs.Walk.{ctx, walk, membersFrom, elementsFrom, elementItem}
+use Rattle.de.specs.Walk.{ctx, walk, membersFrom, elementsFrom}
+use Rattle.array_elements.specs.Element.{elementItem}
 use Rattle.steps.proofs.Runs.{Rest}
 use Rattle.shape.proofs.Strides.{Along, along-start, along-again, along-end, along-fits, element-fills, next-dimension, fills-first, fills-further}
 use Rattle.shape.specs.Array.{strideOf}
-use Rattle.de.proofs.Exits.{value-deep, value-map, value-array, value-leaf, member-lacks, member-endless, member-over, member-value, members-start, members-again, members-end, members-stop, map-odd, map-fine, map-lacks, map-endless, array-odd, array-lacks, array-endless, array-other, array-base, dimension-fine, dimension-lacks, dimension-endless, elements-start, elements-again, elements-end, elements-stop, element-last, element-deep, element-further, field-number, field-first, typed-base, typed-field, category-field, leaf-inside, map-ready, given-none, map-given, own-entries, own-elements, last-given}
+use Rattle.de.proofs.Exits.{value-deep, value-map, value-array, value-leaf, member-stop, member-value, part-typed, part-category, part-inside, part-order, members-start, members-again, members-end, members-stop, map-odd, map-fine, map-lacks, map-endless, array-odd, array-nothing, array-lacks, array-endless, array-other, array-base, dimension-fine, dimension-lacks, dimension-endless, elements-start, elements-again, elements-end, elements-stop, element-last, element-deep, element-further, field-number, field-first, typed-base, typed-found, leaf-inside, map-ready, given-none, map-given, own-entries, own-elements, last-given}
 use Rattle.field_plan.proofs.Plans.{entry-of}
+use Rattle.type_category.proofs.Numbers.{category-is}
 use borrow.Fn.Kinds.{In}
 use borrow.Fn.PlainCycle.{Measures, is, falls, and}
 use Rattle.de.proofs.array_access.array.Reads as array-access·array
@@ -34,56 +36,63 @@ use Rattle.de.proofs.+array_access-array+array_access-dimension+array_a
 use Rattle.de.proofs.map_access.members.Reads as map-access·members
 use Rattle.de.proofs.map_access.members.Kinds as map-access·members-kinds
 use Rattle.de.proofs.+array_access-array+array_access-dimension+array_access-element+array_access-elements+deserializer-value+map_access-map+map_access-member+map_access-members.Lts-map_access-members as map-access·members-lts
-use Rattle.de.proofs.array_access.element_check.Reads as element-check-reads
+use Rattle.array_elements.proofs.element_check.Reads as element-check-reads
+use Rattle.de.proofs.map_access.part_of.Reads as part-of-reads
+use Rattle.field_plan.proofs.entry_at.Reads as entry-at-reads
+use Rattle.field_plan.proofs.plan_fields_in.Reads as plan-fields-in-reads
+use Rattle.leaf_steps.proofs.leaf.Reads as leaf-reads
+use Rattle.resolvers.proofs.named_in.Reads as named-in-reads
+use Rattle.resolvers.proofs.resolve_alias_in.Reads as resolve-alias-in-reads
 use Rattle.shape.proofs.array.is_last.Reads as is-last-reads
 use Rattle.shape.proofs.array.product_is.Reads as product-is-reads
 use Rattle.shape.proofs.array.stride_of.Reads as stride-of-reads
-use Rattle.leaf_steps.proofs.leaf.Reads as leaf-reads
 use Rattle.shape.proofs.shape_of.Reads as shape-of-reads
-use Rattle.steps.proofs.put.Reads as put-reads
+use Rattle.steps.proofs.put_frame.Reads as put-frame-reads
 use Rattle.steps.proofs.stop.Reads as stop-reads
-use Rattle.field_plan.proofs.entry_at.Reads as entry-at-reads
-use Rattle.field_plan.proofs.plan_fields_in.Reads as plan-fields-in-reads
-use Rattle.field_plan.proofs.planned_field.Reads as planned-field-reads
-use Rattle.resolvers.proofs.look_up_in.Reads as look-up-in-reads
 use Rattle.type_category.proofs.type_category.AdsTypeCategory.determine.Reads as determine-reads
 use Rattle.typebook.proofs.block.count.Reads as count-reads
 use Rattle.typebook.proofs.block.fields.Reads as fields-reads
 use Rattle.typebook.proofs.block.size.Reads as size-reads
-use Rattle.de.proofs.+array_access-array+array_access-dimension+array_access-element+array_access-elements+deserializer-value+map_access-map+map_access-member+map_access-members.{statement}
-use Rattle.de.proofs.+array_access-array+array_access-dimension+array_access-element+array_access-elements+deserializer-value+map_access-map+map_access-member+map_access-members.Tie.{close}
+use Rattle.de.proofs.+array_access-array+array_access-dimension+array_access-element+array_access-elements+deserializer-value+map_access-map+map_access-member+map_access-members.{
+  statement,
+}
+use Rattle.de.proofs.+array_access-array+array_access-dimension+array_access-element+array_access-elements+deserializer-value+map_access-map+map_access-member+map_access-members.Tie.{
+  close,
+}
+
+ruleset array-exits = (array-odd, array-nothing, array-lacks, array-endless, array-other, array-base, category-is)
 
 abbrev μ-array-access·array : Measures 5 array-access·array-kinds.ps ℕ
 μ-array-access·array κs a =
-    6 * a .1 .1 .1 .1 .1 .1 .0 + 4
+    6 * a .1 .1 .1 .0 .left + 4
 
 abbrev μ-array-access·dimension : Measures 5 array-access·dimension-kinds.ps ℕ
 μ-array-access·dimension κs a =
-    6 * a .1 .1 .1 .1 .1 .1 .1 .1 .1 .0 + 3
+    6 * a .1 .1 .1 .0 .left + 3
 
 abbrev μ-array-access·element : Measures 6 array-access·element-kinds.ps ℕ
 μ-array-access·element κs a =
-    6 * a .1 .1 .1 .1 .1 .1 .1 .1 .1 .1 .0 + 1
+    6 * a .1 .1 .1 .0 .left + 1
 
 abbrev μ-array-access·elements : Measures 6 array-access·elements-kinds.ps ℕ
 μ-array-access·elements κs a =
-    6 * a .1 .1 .1 .1 .1 .1 .1 .1 .1 .1 .0 + 2
+    6 * a .1 .1 .1 .0 .left + 2
 
 abbrev μ-deserializer·value : Measures 6 deserializer·value-kinds.ps ℕ
 μ-deserializer·value κs a =
-    6 * a .1 .1 .1 .1 .1 .1 .1 .1 .0
+    6 * a .1 .1 .1 .0 .left + 0
 
 abbrev μ-map-access·map : Measures 6 map-access·map-kinds.ps ℕ
 μ-map-access·map κs a =
-    6 * a .1 .1 .1 .1 .1 .1 .1 .0 + 3
+    6 * a .1 .1 .1 .0 .left + 3
 
 abbrev μ-map-access·member : Measures 5 map-access·member-kinds.ps ℕ
 μ-map-access·member κs a =
-    6 * a .1 .1 .1 .1 .1 .1 .1 .0 + 1
+    6 * a .1 .1 .1 .0 .left + 1
 
 abbrev μ-map-access·members : Measures 6 map-access·members-kinds.ps ℕ
 μ-map-access·members κs a =
-    6 * a .1 .1 .1 .1 .1 .1 .1 .0 + 2
+    6 * a .1 .1 .1 .0 .left + 2
 
 abbrev array-access·array-at : ℕ → In 5 array-access·array-kinds.ps
 array-access·array-at t =
@@ -214,7 +223,7 @@ map-access·members-below t =
     map-access·members.Pre
 
 abbrev array-access·array-calls : ℕ → array-access·array-lts.Claims
-array-access·array-calls t = (size-reads.Asked, size-reads.Learnt, stop-reads.Asked, stop-reads.Learnt, look-up-in-reads.Asked, look-up-in-reads.Learnt, product-is-reads.Asked, product-is-reads.Learnt, determine-reads.Asked, determine-reads.Learnt, array-access·dimension-below t, array-access·dimension.Post)
+array-access·array-calls t = (size-reads.Asked, size-reads.Learnt, stop-reads.Asked, stop-reads.Learnt, named-in-reads.Asked, named-in-reads.Learnt, resolve-alias-in-reads.Asked, resolve-alias-in-reads.Learnt, product-is-reads.Asked, product-is-reads.Learnt, determine-reads.Asked, determine-reads.Learnt, array-access·dimension-below t, array-access·dimension.Post)
 
 abbrev array-access·dimension-calls : ℕ → array-access·dimension-lts.Claims
 array-access·dimension-calls t = (element-check-reads.Asked, element-check-reads.Learnt, array-access·elements-below t, array-access·elements.Post, stop-reads.Asked, stop-reads.Learnt)
@@ -223,7 +232,7 @@ abbrev array-access·element-calls : ℕ → array-access·element-lts.Claims
 array-access·element-calls t = (is-last-reads.Asked, is-last-reads.Learnt, deserializer·value-below t, deserializer·value.Post, stop-reads.Asked, stop-reads.Learnt, array-access·dimension-below t, array-access·dimension.Post)
 
 abbrev array-access·elements-calls : ℕ → array-access·elements-lts.Claims
-array-access·elements-calls t = (count-reads.Asked, count-reads.Learnt, put-reads.Asked, put-reads.Learnt, stride-of-reads.Asked, stride-of-reads.Learnt, array-access·element-below t, array-access·element.Post)
+array-access·elements-calls t = (count-reads.Asked, count-reads.Learnt, put-frame-reads.Asked, put-frame-reads.Learnt, stride-of-reads.Asked, stride-of-reads.Learnt, array-access·element-below t, array-access·element.Post)
 
 abbrev deserializer·value-calls : ℕ → deserializer·value-lts.Claims
 deserializer·value-calls t = (stop-reads.Asked, stop-reads.Learnt, shape-of-reads.Asked, shape-of-reads.Learnt, map-access·map-below t, map-access·map.Post, array-access·array-below t, array-access·array.Post, leaf-reads.Asked, leaf-reads.Learnt)
@@ -232,10 +241,10 @@ abbrev map-access·map-calls : ℕ → map-access·map-lts.Claims
 map-access·map-calls t = (size-reads.Asked, size-reads.Learnt, stop-reads.Asked, stop-reads.Learnt, map-access·members-below t, map-access·members.Post, plan-fields-in-reads.Asked, plan-fields-in-reads.Learnt)
 
 abbrev map-access·member-calls : ℕ → map-access·member-lts.Claims
-map-access·member-calls t = (put-reads.Asked, put-reads.Learnt, planned-field-reads.Asked, planned-field-reads.Learnt, stop-reads.Asked, stop-reads.Learnt, deserializer·value-below t, deserializer·value.Post)
+map-access·member-calls t = (put-frame-reads.Asked, put-frame-reads.Learnt, part-of-reads.Asked, part-of-reads.Learnt, deserializer·value-below t, deserializer·value.Post, stop-reads.Asked, stop-reads.Learnt)
 
 abbrev map-access·members-calls : ℕ → map-access·members-lts.Claims
-map-access·members-calls t = (fields-reads.Asked, fields-reads.Learnt, put-reads.Asked, put-reads.Learnt, entry-at-reads.Asked, entry-at-reads.Learnt, map-access·member-below t, map-access·member.Post)
+map-access·members-calls t = (fields-reads.Asked, fields-reads.Learnt, put-frame-reads.Asked, put-frame-reads.Learnt, entry-at-reads.Asked, entry-at-reads.Learnt, map-access·member-below t, map-access·member.Post)
 
 array-access·array-size-requires : (t : ℕ) → array-access·array-lts.Need-size-requires (array-access·array-calls t) (array-access·array-at t) array-access·array.Post
 array-access·array-size-requires t c κs = search needs
@@ -247,13 +256,29 @@ array-access·array-stop-requires : (t : ℕ) → array-access·array-lts.Need-s
 array-access·array-stop-requires t c κs = search needs
 
 array-access·array-returns : (t : ℕ) → array-access·array-lts.Need-returns (array-access·array-calls t) (array-access·array-at t) array-access·array.Post
-array-access·array-returns t c = search array-odd
+array-access·array-returns t c = search array-exits
 
-array-access·array-look-up-in-requires : (t : ℕ) → array-access·array-lts.Need-look-up-in-requires (array-access·array-calls t) (array-access·array-at t) array-access·array.Post
-array-access·array-look-up-in-requires t c κs = search needs
+array-access·array-named-in-requires : (t : ℕ) → array-access·array-lts.Need-named-in-requires (array-access·array-calls t) (array-access·array-at t) array-access·array.Post
+array-access·array-named-in-requires t c κs = search needs
 
-array-access·array-enum-known-element : (t : ℕ) → array-access·array-lts.Need-enum-known-element (array-access·array-calls t) (array-access·array-at t) array-access·array.Post
-array-access·array-enum-known-element t c = search needs
+array-access·array-enum-known-found : (t : ℕ) → array-access·array-lts.Need-enum-known-found (array-access·array-calls t) (array-access·array-at t) array-access·array.Post
+array-access·array-enum-known-found t c = search needs
+
+array-access·array-enum-told : (t : ℕ) → array-access·array-lts.Need-enum-told (array-access·array-calls t) (array-access·array-at t) array-access·array.Post
+array-access·array-enum-told t c = search needs
+
+array-access·array-stop-requires-2 : (t : ℕ) → array-access·array-lts.Need-stop-requires-2 (array-access·array-calls t) (array-access·array-at t) array-access·array.Post
+array-access·array-stop-requires-2 t c κs = search needs
+
+array-access·array-returns-2 : (t : ℕ) → array-access·array-lts.Need-returns-2 (array-access·array-calls t) (array-access·array-at t) array-access·array.Post
+array-access·array-returns-2 t c = search array-exits
+
+array-access·array-resolve-alias-in-requires :
+    (t : ℕ) → array-access·array-lts.Need-resolve-alias-in-requires (array-access·array-calls t) (array-access·array-at t) array-access·array.Post
+array-access·array-resolve-alias-in-requires t c κs = (search needs, search typed-found)
+
+array-access·array-enum-known-resolved : (t : ℕ) → array-access·array-lts.Need-enum-known-resolved (array-access·array-calls t) (array-access·array-at t) array-access·array.Post
+array-access·array-enum-known-resolved t c = search needs
 
 array-access·array-product-is-requires : (t : ℕ) → array-access·array-lts.Need-product-is-requires (array-access·array-calls t) (array-access·array-at t) array-access·array.Post
 array-access·array-product-is-requires t c κs = search needs
@@ -262,7 +287,7 @@ array-access·array-determine-requires : (t : ℕ) → array-access·array-lts.N
 array-access·array-determine-requires t c κs = search needs
 
 array-access·array-dimension-requires : (t : ℕ) → array-access·array-lts.Need-dimension-requires (array-access·array-calls t) (array-access·array-at t) array-access·array.Post
-array-access·array-dimension-requires t c κs = (search needs, (search needs, search typed-base, search needs, search fills-first))
+array-access·array-dimension-requires t c κs = (search needs, (search needs, search typed-base, search category-is, search fills-first))
 
 array-access·array-same-length : (t : ℕ) → array-access·array-lts.Need-same-length (array-access·array-calls t) (array-access·array-at t) array-access·array.Post
 array-access·array-same-length t c = search needs
@@ -270,33 +295,33 @@ array-access·array-same-length t c = search needs
 array-access·array-same-length-2 : (t : ℕ) → array-access·array-lts.Need-same-length-2 (array-access·array-calls t) (array-access·array-at t) array-access·array.Post
 array-access·array-same-length-2 t c = search needs
 
-array-access·array-returns-2 : (t : ℕ) → array-access·array-lts.Need-returns-2 (array-access·array-calls t) (array-access·array-at t) array-access·array.Post
-array-access·array-returns-2 t c = search array-base
-
-array-access·array-stop-requires-2 : (t : ℕ) → array-access·array-lts.Need-stop-requires-2 (array-access·array-calls t) (array-access·array-at t) array-access·array.Post
-array-access·array-stop-requires-2 t c κs = search needs
-
-array-access·array-enum-known-element-2 :
-    (t : ℕ) → array-access·array-lts.Need-enum-known-element-2 (array-access·array-calls t) (array-access·array-at t) array-access·array.Post
-array-access·array-enum-known-element-2 t c = search needs
+array-access·array-returns-3 : (t : ℕ) → array-access·array-lts.Need-returns-3 (array-access·array-calls t) (array-access·array-at t) array-access·array.Post
+array-access·array-returns-3 t c = search array-exits
 
 array-access·array-stop-requires-3 : (t : ℕ) → array-access·array-lts.Need-stop-requires-3 (array-access·array-calls t) (array-access·array-at t) array-access·array.Post
 array-access·array-stop-requires-3 t c κs = search needs
 
-array-access·array-enum-told : (t : ℕ) → array-access·array-lts.Need-enum-told (array-access·array-calls t) (array-access·array-at t) array-access·array.Post
-array-access·array-enum-told t c = search needs
+array-access·array-enum-known-resolved-2 :
+    (t : ℕ) → array-access·array-lts.Need-enum-known-resolved-2 (array-access·array-calls t) (array-access·array-at t) array-access·array.Post
+array-access·array-enum-known-resolved-2 t c = search needs
 
 array-access·array-stop-requires-4 : (t : ℕ) → array-access·array-lts.Need-stop-requires-4 (array-access·array-calls t) (array-access·array-at t) array-access·array.Post
 array-access·array-stop-requires-4 t c κs = search needs
 
-array-access·array-returns-3 : (t : ℕ) → array-access·array-lts.Need-returns-3 (array-access·array-calls t) (array-access·array-at t) array-access·array.Post
-array-access·array-returns-3 t c = search array-other
+array-access·array-enum-told-2 : (t : ℕ) → array-access·array-lts.Need-enum-told-2 (array-access·array-calls t) (array-access·array-at t) array-access·array.Post
+array-access·array-enum-told-2 t c = search needs
+
+array-access·array-stop-requires-5 : (t : ℕ) → array-access·array-lts.Need-stop-requires-5 (array-access·array-calls t) (array-access·array-at t) array-access·array.Post
+array-access·array-stop-requires-5 t c κs = search needs
 
 array-access·array-returns-4 : (t : ℕ) → array-access·array-lts.Need-returns-4 (array-access·array-calls t) (array-access·array-at t) array-access·array.Post
-array-access·array-returns-4 t c = search array-lacks
+array-access·array-returns-4 t c = search array-exits
 
 array-access·array-returns-5 : (t : ℕ) → array-access·array-lts.Need-returns-5 (array-access·array-calls t) (array-access·array-at t) array-access·array.Post
-array-access·array-returns-5 t c = search array-endless
+array-access·array-returns-5 t c = search array-exits
+
+array-access·array-returns-6 : (t : ℕ) → array-access·array-lts.Need-returns-6 (array-access·array-calls t) (array-access·array-at t) array-access·array.Post
+array-access·array-returns-6 t c = search array-exits
 
 array-access·dimension-slice-aggregate-element-check :
     (t : ℕ) → array-access·dimension-lts.Need-slice-aggregate-element-check (array-access·dimension-calls t) (array-access·dimension-at t) array-access·dimension.Post
@@ -315,7 +340,7 @@ array-access·dimension-slice-aggregate-elements t c = search needs
 
 array-access·dimension-elements-requires :
     (t : ℕ) → array-access·dimension-lts.Need-elements-requires (array-access·dimension-calls t) (array-access·dimension-at t) array-access·dimension.Post
-array-access·dimension-elements-requires t c κs = (search needs, (search needs, search needs, search needs, own-elements _ _ _ _ _ _ (c .before .before .before .before .before .before .element-check .ensures) (search needs), search needs))
+array-access·dimension-elements-requires t c κs = (search needs, (search needs, search needs, search needs, own-elements _ _ _ _ _ _ _ (c .before .before .before .before .before .before .element-check .ensures) (search needs), search needs))
 
 array-access·dimension-enum-known-fields :
     (t : ℕ) → array-access·dimension-lts.Need-enum-known-fields (array-access·dimension-calls t) (array-access·dimension-at t) array-access·dimension.Post
@@ -366,11 +391,11 @@ array-access·element-stop-requires t c κs = search needs
 array-access·element-returns-2 : (t : ℕ) → array-access·element-lts.Need-returns-2 (array-access·element-calls t) (array-access·element-at t) array-access·element.Post
 array-access·element-returns-2 t c = search element-deep
 
-array-access·element-add-dimension : (t : ℕ) → array-access·element-lts.Need-add-dimension (array-access·element-calls t) (array-access·element-at t) array-access·element.Post
-array-access·element-add-dimension t c = search next-dimension
+array-access·element-add-t18 : (t : ℕ) → array-access·element-lts.Need-add-t18 (array-access·element-calls t) (array-access·element-at t) array-access·element.Post
+array-access·element-add-t18 t c = search next-dimension
 
-array-access·element-sub-dimension : (t : ℕ) → array-access·element-lts.Need-sub-dimension (array-access·element-calls t) (array-access·element-at t) array-access·element.Post
-array-access·element-sub-dimension t c = search needs
+array-access·element-sub-t19 : (t : ℕ) → array-access·element-lts.Need-sub-t19 (array-access·element-calls t) (array-access·element-at t) array-access·element.Post
+array-access·element-sub-t19 t c = search needs
 
 array-access·element-dimension-requires :
     (t : ℕ) → array-access·element-lts.Need-dimension-requires (array-access·element-calls t) (array-access·element-at t) array-access·element.Post
@@ -386,11 +411,11 @@ array-access·element-returns-3 : (t : ℕ) → array-access·element-lts.Need-r
 array-access·element-returns-3 t c = search element-further
 
 abbrev array-access·elements-Inv-loop : array-access·elements-lts.InvT-loop
-array-access·elements-Inv-loop book index width d t e category plan bytes left tape₀ text₀ n here₀ stride from₀ i₀ tape text here from i =
-    (i ≤ n) × Along book d t e n stride from i (length bytes) × (length tape ≡ length tape₀) × (length text ≡ length text₀) × Rest (elementsFrom (walk (ctx book width) left) (elementItem (ctx book width) d t e) (strideOf book d t e) bytes 0 n) tape₀ text₀ here₀ (elementsFrom (walk (ctx book width) left) (elementItem (ctx book width) d t e) (strideOf book d t e) bytes from (n - i)) tape text here
+array-access·elements-Inv-loop book index p plan bytes tape₀ text₀ n here₀ stride from₀ i₀ tape text here from i =
+    (i ≤ n) × Along book (p .d) (p .t) (p .element .resolved) n stride from i (length bytes) × (length tape ≡ length tape₀) × (length text ≡ length text₀) × Rest (elementsFrom (walk (ctx book (p .width)) (p .left)) (elementItem book (p .d) (p .t) (p .element)) (strideOf book (p .d) (p .t) (p .element .resolved)) bytes 0 n) tape₀ text₀ here₀ (elementsFrom (walk (ctx book (p .width)) (p .left)) (elementItem book (p .d) (p .t) (p .element)) (strideOf book (p .d) (p .t) (p .element .resolved)) bytes from (n - i)) tape text here
 
 abbrev array-access·elements-μ-loop : array-access·elements-lts.MeasureT-loop
-array-access·elements-μ-loop book index width d t e category plan bytes left tape₀ text₀ n here₀ stride from₀ i₀ tape text here from i =
+array-access·elements-μ-loop book index p plan bytes tape₀ text₀ n here₀ stride from₀ i₀ tape text here from i =
     n - i
 
 array-access·elements-count-requires : (t : ℕ) → array-access·elements-lts.Need-count-requires (array-access·elements-calls t) (array-access·elements-at t) array-access·elements.Post array-access·elements-Inv-loop array-access·elements-μ-loop
@@ -399,8 +424,9 @@ array-access·elements-count-requires t c κs = search needs
 array-access·elements-cast-n : (t : ℕ) → array-access·elements-lts.Need-cast-n (array-access·elements-calls t) (array-access·elements-at t) array-access·elements.Post array-access·elements-Inv-loop array-access·elements-μ-loop
 array-access·elements-cast-n t c = search needs
 
-array-access·elements-put-requires : (t : ℕ) → array-access·elements-lts.Need-put-requires (array-access·elements-calls t) (array-access·elements-at t) array-access·elements.Post array-access·elements-Inv-loop array-access·elements-μ-loop
-array-access·elements-put-requires t c κs = search needs
+array-access·elements-put-frame-requires :
+    (t : ℕ) → array-access·elements-lts.Need-put-frame-requires (array-access·elements-calls t) (array-access·elements-at t) array-access·elements.Post array-access·elements-Inv-loop array-access·elements-μ-loop
+array-access·elements-put-frame-requires t c κs = search needs
 
 array-access·elements-stride-of-requires :
     (t : ℕ) → array-access·elements-lts.Need-stride-of-requires (array-access·elements-calls t) (array-access·elements-at t) array-access·elements.Post array-access·elements-Inv-loop array-access·elements-μ-loop
@@ -449,8 +475,9 @@ array-access·elements-loop-less t c = search needs
 array-access·elements-loop-again : (t : ℕ) → array-access·elements-lts.Need-loop-again (array-access·elements-calls t) (array-access·elements-at t) array-access·elements.Post array-access·elements-Inv-loop array-access·elements-μ-loop
 array-access·elements-loop-again t c = (search needs, search along-again, search needs, search needs, search elements-again)
 
-array-access·elements-put-requires-2 : (t : ℕ) → array-access·elements-lts.Need-put-requires-2 (array-access·elements-calls t) (array-access·elements-at t) array-access·elements.Post array-access·elements-Inv-loop array-access·elements-μ-loop
-array-access·elements-put-requires-2 t c κs = search needs
+array-access·elements-put-frame-requires-2 :
+    (t : ℕ) → array-access·elements-lts.Need-put-frame-requires-2 (array-access·elements-calls t) (array-access·elements-at t) array-access·elements.Post array-access·elements-Inv-loop array-access·elements-μ-loop
+array-access·elements-put-frame-requires-2 t c κs = search needs
 
 array-access·elements-same-length-3 : (t : ℕ) → array-access·elements-lts.Need-same-length-3 (array-access·elements-calls t) (array-access·elements-at t) array-access·elements.Post array-access·elements-Inv-loop array-access·elements-μ-loop
 array-access·elements-same-length-3 t c = search needs
@@ -470,20 +497,17 @@ deserializer·value-returns t c = search value-deep
 deserializer·value-shape-of-requires : (t : ℕ) → deserializer·value-lts.Need-shape-of-requires (deserializer·value-calls t) (deserializer·value-at t) deserializer·value.Post
 deserializer·value-shape-of-requires t c κs = search needs
 
+deserializer·value-sub-t14 : (t : ℕ) → deserializer·value-lts.Need-sub-t14 (deserializer·value-calls t) (deserializer·value-at t) deserializer·value.Post
+deserializer·value-sub-t14 t c = search needs
+
 deserializer·value-enum-told : (t : ℕ) → deserializer·value-lts.Need-enum-told (deserializer·value-calls t) (deserializer·value-at t) deserializer·value.Post
 deserializer·value-enum-told t c = search needs
-
-deserializer·value-sub-map : (t : ℕ) → deserializer·value-lts.Need-sub-map (deserializer·value-calls t) (deserializer·value-at t) deserializer·value.Post
-deserializer·value-sub-map t c = search needs
 
 deserializer·value-map-requires : (t : ℕ) → deserializer·value-lts.Need-map-requires (deserializer·value-calls t) (deserializer·value-at t) deserializer·value.Post
 deserializer·value-map-requires t c κs = (search needs, (search needs, search needs, search map-ready))
 
 deserializer·value-enum-told-2 : (t : ℕ) → deserializer·value-lts.Need-enum-told-2 (deserializer·value-calls t) (deserializer·value-at t) deserializer·value.Post
 deserializer·value-enum-told-2 t c = search needs
-
-deserializer·value-sub-array : (t : ℕ) → deserializer·value-lts.Need-sub-array (deserializer·value-calls t) (deserializer·value-at t) deserializer·value.Post
-deserializer·value-sub-array t c = search needs
 
 deserializer·value-array-requires : (t : ℕ) → deserializer·value-lts.Need-array-requires (deserializer·value-calls t) (deserializer·value-at t) deserializer·value.Post
 deserializer·value-array-requires t c κs = search needs
@@ -588,24 +612,41 @@ map-access·map-returns-4 t c = search map-lacks
 map-access·map-returns-5 : (t : ℕ) → map-access·map-lts.Need-returns-5 (map-access·map-calls t) (map-access·map-at t) map-access·map.Post
 map-access·map-returns-5 t c = search map-endless
 
-map-access·member-put-requires : (t : ℕ) → map-access·member-lts.Need-put-requires (map-access·member-calls t) (map-access·member-at t) map-access·member.Post
-map-access·member-put-requires t c κs = search needs
+map-access·member-cast-put-frame : (t : ℕ) → map-access·member-lts.Need-cast-put-frame (map-access·member-calls t) (map-access·member-at t) map-access·member.Post
+map-access·member-cast-put-frame t c = search needs
 
-map-access·member-planned-field-requires :
-    (t : ℕ) → map-access·member-lts.Need-planned-field-requires (map-access·member-calls t) (map-access·member-at t) map-access·member.Post
-map-access·member-planned-field-requires t c κs = search needs
+map-access·member-put-frame-requires : (t : ℕ) → map-access·member-lts.Need-put-frame-requires (map-access·member-calls t) (map-access·member-at t) map-access·member.Post
+map-access·member-put-frame-requires t c κs = search needs
 
-map-access·member-enum-known-found : (t : ℕ) → map-access·member-lts.Need-enum-known-found (map-access·member-calls t) (map-access·member-at t) map-access·member.Post
-map-access·member-enum-known-found t c = search needs
+map-access·member-part-of-requires : (t : ℕ) → map-access·member-lts.Need-part-of-requires (map-access·member-calls t) (map-access·member-at t) map-access·member.Post
+map-access·member-part-of-requires t c κs = search needs
 
-map-access·member-cast-from : (t : ℕ) → map-access·member-lts.Need-cast-from (map-access·member-calls t) (map-access·member-at t) map-access·member.Post
-map-access·member-cast-from t c = search needs
+map-access·member-enum-known-part : (t : ℕ) → map-access·member-lts.Need-enum-known-part (map-access·member-calls t) (map-access·member-at t) map-access·member.Post
+map-access·member-enum-known-part t c = search needs
 
-map-access·member-cast-to : (t : ℕ) → map-access·member-lts.Need-cast-to (map-access·member-calls t) (map-access·member-at t) map-access·member.Post
-map-access·member-cast-to t c = search needs
+map-access·member-sub-rest : (t : ℕ) → map-access·member-lts.Need-sub-rest (map-access·member-calls t) (map-access·member-at t) map-access·member.Post
+map-access·member-sub-rest t c = search needs
 
-map-access·member-add-to : (t : ℕ) → map-access·member-lts.Need-add-to (map-access·member-calls t) (map-access·member-at t) map-access·member.Post
-map-access·member-add-to t c = search needs
+map-access·member-part-rest-start : (t : ℕ) → map-access·member-lts.Need-part-rest-start (map-access·member-calls t) (map-access·member-at t) map-access·member.Post
+map-access·member-part-rest-start t c = search needs
+
+map-access·member-part-rest-end : (t : ℕ) → map-access·member-lts.Need-part-rest-end (map-access·member-calls t) (map-access·member-at t) map-access·member.Post
+map-access·member-part-rest-end t c = search needs
+
+map-access·member-sub-value : (t : ℕ) → map-access·member-lts.Need-sub-value (map-access·member-calls t) (map-access·member-at t) map-access·member.Post
+map-access·member-sub-value t c = search part-order
+
+map-access·member-part-value-start : (t : ℕ) → map-access·member-lts.Need-part-value-start (map-access·member-calls t) (map-access·member-at t) map-access·member.Post
+map-access·member-part-value-start t c = search part-order
+
+map-access·member-part-value-end : (t : ℕ) → map-access·member-lts.Need-part-value-end (map-access·member-calls t) (map-access·member-at t) map-access·member.Post
+map-access·member-part-value-end t c = search part-inside
+
+map-access·member-value-requires : (t : ℕ) → map-access·member-lts.Need-value-requires (map-access·member-calls t) (map-access·member-at t) map-access·member.Post
+map-access·member-value-requires t c κs = (search needs, (search needs, part-typed (c .before .before .before .before .before .before .before .before .part-of .ensures) (c .before .before .before .before .before .before .part .given .1) refl, part-category (c .before .before .before .before .before .before .before .before .part-of .ensures) (c .before .before .before .before .before .before .part .given .1), search given-none))
+
+map-access·member-enum-known-part-2 : (t : ℕ) → map-access·member-lts.Need-enum-known-part-2 (map-access·member-calls t) (map-access·member-at t) map-access·member.Post
+map-access·member-enum-known-part-2 t c = search needs
 
 map-access·member-stop-requires : (t : ℕ) → map-access·member-lts.Need-stop-requires (map-access·member-calls t) (map-access·member-at t) map-access·member.Post
 map-access·member-stop-requires t c κs = search needs
@@ -617,40 +658,7 @@ map-access·member-same-length-2 : (t : ℕ) → map-access·member-lts.Need-sam
 map-access·member-same-length-2 t c = search needs
 
 map-access·member-returns : (t : ℕ) → map-access·member-lts.Need-returns (map-access·member-calls t) (map-access·member-at t) map-access·member.Post
-map-access·member-returns t c = search member-over
-
-map-access·member-sub-value : (t : ℕ) → map-access·member-lts.Need-sub-value (map-access·member-calls t) (map-access·member-at t) map-access·member.Post
-map-access·member-sub-value t c = search needs
-
-map-access·member-part-value-start : (t : ℕ) → map-access·member-lts.Need-part-value-start (map-access·member-calls t) (map-access·member-at t) map-access·member.Post
-map-access·member-part-value-start t c = search needs
-
-map-access·member-part-value-end : (t : ℕ) → map-access·member-lts.Need-part-value-end (map-access·member-calls t) (map-access·member-at t) map-access·member.Post
-map-access·member-part-value-end t c = search needs
-
-map-access·member-sub-value-2 : (t : ℕ) → map-access·member-lts.Need-sub-value-2 (map-access·member-calls t) (map-access·member-at t) map-access·member.Post
-map-access·member-sub-value-2 t c = search needs
-
-map-access·member-part-value-start-2 : (t : ℕ) → map-access·member-lts.Need-part-value-start-2 (map-access·member-calls t) (map-access·member-at t) map-access·member.Post
-map-access·member-part-value-start-2 t c = search needs
-
-map-access·member-part-value-end-2 : (t : ℕ) → map-access·member-lts.Need-part-value-end-2 (map-access·member-calls t) (map-access·member-at t) map-access·member.Post
-map-access·member-part-value-end-2 t c = search needs
-
-map-access·member-value-requires : (t : ℕ) → map-access·member-lts.Need-value-requires (map-access·member-calls t) (map-access·member-at t) map-access·member.Post
-map-access·member-value-requires t c κs = let p = c .before .before .before .before .before .before .before .before .before .before .before .before .before .before .before .before .before .before .before .before .before .before .before .pre in let q = c .before .before .before .before .before .before .before .before .before .before .planned-field .ensures in let g = c .before .before .before .before .before .before .before .before .found .given in (search needs, (search needs, typed-field q (g .1), category-field q (g .1), search given-none))
-
-map-access·member-enum-known-found-2 : (t : ℕ) → map-access·member-lts.Need-enum-known-found-2 (map-access·member-calls t) (map-access·member-at t) map-access·member.Post
-map-access·member-enum-known-found-2 t c = search needs
-
-map-access·member-stop-requires-2 : (t : ℕ) → map-access·member-lts.Need-stop-requires-2 (map-access·member-calls t) (map-access·member-at t) map-access·member.Post
-map-access·member-stop-requires-2 t c κs = search needs
-
-map-access·member-enum-told : (t : ℕ) → map-access·member-lts.Need-enum-told (map-access·member-calls t) (map-access·member-at t) map-access·member.Post
-map-access·member-enum-told t c = search needs
-
-map-access·member-stop-requires-3 : (t : ℕ) → map-access·member-lts.Need-stop-requires-3 (map-access·member-calls t) (map-access·member-at t) map-access·member.Post
-map-access·member-stop-requires-3 t c κs = search needs
+map-access·member-returns t c = search member-value
 
 map-access·member-same-length-3 : (t : ℕ) → map-access·member-lts.Need-same-length-3 (map-access·member-calls t) (map-access·member-at t) map-access·member.Post
 map-access·member-same-length-3 t c = search needs
@@ -659,42 +667,24 @@ map-access·member-same-length-4 : (t : ℕ) → map-access·member-lts.Need-sam
 map-access·member-same-length-4 t c = search needs
 
 map-access·member-returns-2 : (t : ℕ) → map-access·member-lts.Need-returns-2 (map-access·member-calls t) (map-access·member-at t) map-access·member.Post
-map-access·member-returns-2 t c = search member-value
-
-map-access·member-same-length-5 : (t : ℕ) → map-access·member-lts.Need-same-length-5 (map-access·member-calls t) (map-access·member-at t) map-access·member.Post
-map-access·member-same-length-5 t c = search needs
-
-map-access·member-same-length-6 : (t : ℕ) → map-access·member-lts.Need-same-length-6 (map-access·member-calls t) (map-access·member-at t) map-access·member.Post
-map-access·member-same-length-6 t c = search needs
-
-map-access·member-returns-3 : (t : ℕ) → map-access·member-lts.Need-returns-3 (map-access·member-calls t) (map-access·member-at t) map-access·member.Post
-map-access·member-returns-3 t c = search member-lacks
-
-map-access·member-same-length-7 : (t : ℕ) → map-access·member-lts.Need-same-length-7 (map-access·member-calls t) (map-access·member-at t) map-access·member.Post
-map-access·member-same-length-7 t c = search needs
-
-map-access·member-same-length-8 : (t : ℕ) → map-access·member-lts.Need-same-length-8 (map-access·member-calls t) (map-access·member-at t) map-access·member.Post
-map-access·member-same-length-8 t c = search needs
-
-map-access·member-returns-4 : (t : ℕ) → map-access·member-lts.Need-returns-4 (map-access·member-calls t) (map-access·member-at t) map-access·member.Post
-map-access·member-returns-4 t c = search member-endless
+map-access·member-returns-2 t c = search member-stop
 
 abbrev map-access·members-Inv-loop : map-access·members-lts.InvT-loop
-map-access·members-Inv-loop book index width t plan bytes left tape₀ text₀ n here₀ i₀ tape text here i =
-    (i ≤ n) × (length tape ≡ length tape₀) × (length text ≡ length text₀) × Rest (membersFrom (walk (ctx book width) left) (ctx book width) bytes (t + 1) n) tape₀ text₀ here₀ (membersFrom (walk (ctx book width) left) (ctx book width) bytes (t + 1 + i) (n - i)) tape text here
+map-access·members-Inv-loop book index v plan bytes tape₀ text₀ t n here₀ i₀ tape text here i =
+    (i ≤ n) × (length tape ≡ length tape₀) × (length text ≡ length text₀) × Rest (membersFrom (walk (ctx book (v .width)) (v .left)) (ctx book (v .width)) bytes (v .typed .resolved + 1) n) tape₀ text₀ here₀ (membersFrom (walk (ctx book (v .width)) (v .left)) (ctx book (v .width)) bytes (v .typed .resolved + 1 + i) (n - i)) tape text here
 
 abbrev map-access·members-μ-loop : map-access·members-lts.MeasureT-loop
-map-access·members-μ-loop book index width t plan bytes left tape₀ text₀ n here₀ i₀ tape text here i =
+map-access·members-μ-loop book index v plan bytes tape₀ text₀ t n here₀ i₀ tape text here i =
     n - i
 
 map-access·members-fields-requires : (t : ℕ) → map-access·members-lts.Need-fields-requires (map-access·members-calls t) (map-access·members-at t) map-access·members.Post map-access·members-Inv-loop map-access·members-μ-loop
 map-access·members-fields-requires t c κs = search needs
 
-map-access·members-cast-put : (t : ℕ) → map-access·members-lts.Need-cast-put (map-access·members-calls t) (map-access·members-at t) map-access·members.Post map-access·members-Inv-loop map-access·members-μ-loop
-map-access·members-cast-put t c = search needs
+map-access·members-cast-put-frame : (t : ℕ) → map-access·members-lts.Need-cast-put-frame (map-access·members-calls t) (map-access·members-at t) map-access·members.Post map-access·members-Inv-loop map-access·members-μ-loop
+map-access·members-cast-put-frame t c = search needs
 
-map-access·members-put-requires : (t : ℕ) → map-access·members-lts.Need-put-requires (map-access·members-calls t) (map-access·members-at t) map-access·members.Post map-access·members-Inv-loop map-access·members-μ-loop
-map-access·members-put-requires t c κs = search needs
+map-access·members-put-frame-requires : (t : ℕ) → map-access·members-lts.Need-put-frame-requires (map-access·members-calls t) (map-access·members-at t) map-access·members.Post map-access·members-Inv-loop map-access·members-μ-loop
+map-access·members-put-frame-requires t c κs = search needs
 
 map-access·members-loop-holds : (t : ℕ) → map-access·members-lts.Need-loop-holds (map-access·members-calls t) (map-access·members-at t) map-access·members.Post map-access·members-Inv-loop map-access·members-μ-loop
 map-access·members-loop-holds t c = (search needs, search needs, search needs, search members-start)
@@ -714,14 +704,14 @@ map-access·members-same-length-2 t c = search needs
 map-access·members-returns : (t : ℕ) → map-access·members-lts.Need-returns (map-access·members-calls t) (map-access·members-at t) map-access·members.Post map-access·members-Inv-loop map-access·members-μ-loop
 map-access·members-returns t c = search members-stop
 
+map-access·members-add-t20 : (t : ℕ) → map-access·members-lts.Need-add-t20 (map-access·members-calls t) (map-access·members-at t) map-access·members.Post map-access·members-Inv-loop map-access·members-μ-loop
+map-access·members-add-t20 t c = search field-first
+
+map-access·members-add-t21 : (t : ℕ) → map-access·members-lts.Need-add-t21 (map-access·members-calls t) (map-access·members-at t) map-access·members.Post map-access·members-Inv-loop map-access·members-μ-loop
+map-access·members-add-t21 t c = search field-number
+
 map-access·members-entry-at-requires : (t : ℕ) → map-access·members-lts.Need-entry-at-requires (map-access·members-calls t) (map-access·members-at t) map-access·members.Post map-access·members-Inv-loop map-access·members-μ-loop
 map-access·members-entry-at-requires t c κs = search needs
-
-map-access·members-add-member : (t : ℕ) → map-access·members-lts.Need-add-member (map-access·members-calls t) (map-access·members-at t) map-access·members.Post map-access·members-Inv-loop map-access·members-μ-loop
-map-access·members-add-member t c = search field-first
-
-map-access·members-add-member-2 : (t : ℕ) → map-access·members-lts.Need-add-member-2 (map-access·members-calls t) (map-access·members-at t) map-access·members.Post map-access·members-Inv-loop map-access·members-μ-loop
-map-access·members-add-member-2 t c = search field-number
 
 map-access·members-member-requires : (t : ℕ) → map-access·members-lts.Need-member-requires (map-access·members-calls t) (map-access·members-at t) map-access·members.Post map-access·members-Inv-loop map-access·members-μ-loop
 map-access·members-member-requires t c κs = (search needs, (search needs, search entry-of))
@@ -735,8 +725,9 @@ map-access·members-loop-less t c = search needs
 map-access·members-loop-again : (t : ℕ) → map-access·members-lts.Need-loop-again (map-access·members-calls t) (map-access·members-at t) map-access·members.Post map-access·members-Inv-loop map-access·members-μ-loop
 map-access·members-loop-again t c = (search needs, search needs, search needs, search members-again)
 
-map-access·members-put-requires-2 : (t : ℕ) → map-access·members-lts.Need-put-requires-2 (map-access·members-calls t) (map-access·members-at t) map-access·members.Post map-access·members-Inv-loop map-access·members-μ-loop
-map-access·members-put-requires-2 t c κs = search needs
+map-access·members-put-frame-requires-2 :
+    (t : ℕ) → map-access·members-lts.Need-put-frame-requires-2 (map-access·members-calls t) (map-access·members-at t) map-access·members.Post map-access·members-Inv-loop map-access·members-μ-loop
+map-access·members-put-frame-requires-2 t c κs = search needs
 
 map-access·members-same-length-3 : (t : ℕ) → map-access·members-lts.Need-same-length-3 (map-access·members-calls t) (map-access·members-at t) map-access·members.Post map-access·members-Inv-loop map-access·members-μ-loop
 map-access·members-same-length-3 t c = search needs
@@ -765,22 +756,27 @@ pub +array-access·array+array-access·dimension+array-access·element+array-acc
     (array-access·array-cast-if1 t)
     (array-access·array-stop-requires t)
     (array-access·array-returns t)
-    (array-access·array-look-up-in-requires t)
-    (array-access·array-enum-known-element t)
+    (array-access·array-named-in-requires t)
+    (array-access·array-enum-known-found t)
+    (array-access·array-enum-told t)
+    (array-access·array-stop-requires-2 t)
+    (array-access·array-returns-2 t)
+    (array-access·array-resolve-alias-in-requires t)
+    (array-access·array-enum-known-resolved t)
     (array-access·array-product-is-requires t)
     (array-access·array-determine-requires t)
     (array-access·array-dimension-requires t)
     (array-access·array-same-length t)
     (array-access·array-same-length-2 t)
-    (array-access·array-returns-2 t)
-    (array-access·array-stop-requires-2 t)
-    (array-access·array-enum-known-element-2 t)
-    (array-access·array-stop-requires-3 t)
-    (array-access·array-enum-told t)
-    (array-access·array-stop-requires-4 t)
     (array-access·array-returns-3 t)
+    (array-access·array-stop-requires-3 t)
+    (array-access·array-enum-known-resolved-2 t)
+    (array-access·array-stop-requires-4 t)
+    (array-access·array-enum-told-2 t)
+    (array-access·array-stop-requires-5 t)
     (array-access·array-returns-4 t)
-    (array-access·array-returns-5 t))
+    (array-access·array-returns-5 t)
+    (array-access·array-returns-6 t))
     (λ t. array-access·dimension-lts.spec (array-access·dimension-calls t) (array-access·dimension-at t)
     array-access·dimension.Post
     (array-access·dimension-slice-aggregate-element-check t)
@@ -806,8 +802,8 @@ pub +array-access·array+array-access·dimension+array-access·element+array-acc
     (array-access·element-returns t)
     (array-access·element-stop-requires t)
     (array-access·element-returns-2 t)
-    (array-access·element-add-dimension t)
-    (array-access·element-sub-dimension t)
+    (array-access·element-add-t18 t)
+    (array-access·element-sub-t19 t)
     (array-access·element-dimension-requires t)
     (array-access·element-same-length-3 t)
     (array-access·element-same-length-4 t)
@@ -818,7 +814,7 @@ pub +array-access·array+array-access·dimension+array-access·element+array-acc
     array-access·elements-μ-loop
     (array-access·elements-count-requires t)
     (array-access·elements-cast-n t)
-    (array-access·elements-put-requires t)
+    (array-access·elements-put-frame-requires t)
     (array-access·elements-stride-of-requires t)
     (array-access·elements-loop-holds t)
     (array-access·elements-enum-told t)
@@ -834,7 +830,7 @@ pub +array-access·array+array-access·dimension+array-access·element+array-acc
     (array-access·elements-add-i t)
     (array-access·elements-loop-less t)
     (array-access·elements-loop-again t)
-    (array-access·elements-put-requires-2 t)
+    (array-access·elements-put-frame-requires-2 t)
     (array-access·elements-same-length-3 t)
     (array-access·elements-same-length-4 t)
     (array-access·elements-returns-2 t))
@@ -843,11 +839,10 @@ pub +array-access·array+array-access·dimension+array-access·element+array-acc
     (deserializer·value-stop-requires t)
     (deserializer·value-returns t)
     (deserializer·value-shape-of-requires t)
+    (deserializer·value-sub-t14 t)
     (deserializer·value-enum-told t)
-    (deserializer·value-sub-map t)
     (deserializer·value-map-requires t)
     (deserializer·value-enum-told-2 t)
-    (deserializer·value-sub-array t)
     (deserializer·value-array-requires t)
     (deserializer·value-enum-told-3 t)
     (deserializer·value-leaf-requires t)
@@ -886,57 +881,46 @@ pub +array-access·array+array-access·dimension+array-access·element+array-acc
     (map-access·map-returns-5 t))
     (λ t. map-access·member-lts.spec (map-access·member-calls t) (map-access·member-at t)
     map-access·member.Post
-    (map-access·member-put-requires t)
-    (map-access·member-planned-field-requires t)
-    (map-access·member-enum-known-found t)
-    (map-access·member-cast-from t)
-    (map-access·member-cast-to t)
-    (map-access·member-add-to t)
+    (map-access·member-cast-put-frame t)
+    (map-access·member-put-frame-requires t)
+    (map-access·member-part-of-requires t)
+    (map-access·member-enum-known-part t)
+    (map-access·member-sub-rest t)
+    (map-access·member-part-rest-start t)
+    (map-access·member-part-rest-end t)
+    (map-access·member-sub-value t)
+    (map-access·member-part-value-start t)
+    (map-access·member-part-value-end t)
+    (map-access·member-value-requires t)
+    (map-access·member-enum-known-part-2 t)
     (map-access·member-stop-requires t)
     (map-access·member-same-length t)
     (map-access·member-same-length-2 t)
     (map-access·member-returns t)
-    (map-access·member-sub-value t)
-    (map-access·member-part-value-start t)
-    (map-access·member-part-value-end t)
-    (map-access·member-sub-value-2 t)
-    (map-access·member-part-value-start-2 t)
-    (map-access·member-part-value-end-2 t)
-    (map-access·member-value-requires t)
-    (map-access·member-enum-known-found-2 t)
-    (map-access·member-stop-requires-2 t)
-    (map-access·member-enum-told t)
-    (map-access·member-stop-requires-3 t)
     (map-access·member-same-length-3 t)
     (map-access·member-same-length-4 t)
-    (map-access·member-returns-2 t)
-    (map-access·member-same-length-5 t)
-    (map-access·member-same-length-6 t)
-    (map-access·member-returns-3 t)
-    (map-access·member-same-length-7 t)
-    (map-access·member-same-length-8 t)
-    (map-access·member-returns-4 t))
+    (map-access·member-returns-2 t))
     λ t. map-access·members-lts.spec (map-access·members-calls t) (map-access·members-at t)
     map-access·members.Post
     map-access·members-Inv-loop
     map-access·members-μ-loop
     (map-access·members-fields-requires t)
-    (map-access·members-cast-put t)
-    (map-access·members-put-requires t)
+    (map-access·members-cast-put-frame t)
+    (map-access·members-put-frame-requires t)
     (map-access·members-loop-holds t)
     (map-access·members-enum-told t)
     (map-access·members-enum-told-2 t)
     (map-access·members-same-length t)
     (map-access·members-same-length-2 t)
     (map-access·members-returns t)
+    (map-access·members-add-t20 t)
+    (map-access·members-add-t21 t)
     (map-access·members-entry-at-requires t)
-    (map-access·members-add-member t)
-    (map-access·members-add-member-2 t)
     (map-access·members-member-requires t)
     (map-access·members-add-i t)
     (map-access·members-loop-less t)
     (map-access·members-loop-again t)
-    (map-access·members-put-requires-2 t)
+    (map-access·members-put-frame-requires-2 t)
     (map-access·members-same-length-3 t)
     (map-access·members-same-length-4 t)
     (map-access·members-returns-2 t)

@@ -5,7 +5,7 @@ use lib.ListN.{length}
 use borrow.Author.Tests.{not-true, not-false}
 use Rattle.typebook.specs.Book.{blocks}
 use Rattle.doubles.specs.Doubles.{allFrom, distinct, isFirst}
-use Rattle.doubles.specs.Marks.{MarkedTo}
+use Rattle.doubles.specs.Met.{MarkedTo}
 use Rattle.block_form.proofs.Bytes.{said}
 use Rattle.doubles.proofs.All.{all-start, all-stop, all-again, all-end}
 use Rattle.doubles.proofs.Doubles.{marked-none}

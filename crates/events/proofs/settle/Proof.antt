@@ -1,6 +1,7 @@
 -- `settle` meets its contract. Assumes nothing.
 use Rattle.events.proofs.Settles.{settle-own}
 use borrow.Author.Needs.{needs}
+use Rattle.type_category.proofs.Numbers.{category-is}
 use Rattle.events.proofs.settle.Statement.{statement}
 use Rattle.events.proofs.settle.Tie as tie
 
@@ -26,7 +27,7 @@ same-length-2 : tie.Need-same-length-2
 same-length-2 c = search needs
 
 returns-2 : tie.Need-returns-2
-returns-2 c = search settle-own
+returns-2 c = search (settle-own, category-is)
 
 pub settle-spec : {M : Type 1} → statement M
 settle-spec =

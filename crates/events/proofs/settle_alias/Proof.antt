@@ -2,12 +2,13 @@
 use Rattle.visits.proofs.Places.{type-below}
 use Rattle.events.proofs.Settles.{settle-base, settle-lacks, settle-long, base-type}
 use borrow.Author.Needs.{needs}
+use Rattle.type_category.proofs.Numbers.{category-is}
 use Rattle.events.proofs.settle_alias.Statement.{statement}
 use Rattle.events.proofs.settle_alias.Tie as tie
 
 ruleset typed = (needs, base-type)
 
-ruleset exits = (settle-base, settle-lacks, settle-long)
+ruleset exits = (settle-base, settle-lacks, settle-long, category-is)
 
 resolve-alias-in-requires : tie.Need-resolve-alias-in-requires
 resolve-alias-in-requires c κs = search needs

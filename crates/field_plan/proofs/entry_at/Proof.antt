@@ -5,15 +5,19 @@ use Rattle.field_plan.proofs.entry_at.Tie as tie
 use Rattle.field_plan.proofs.entry_at.Reads as reads
 use Rattle.field_plan.proofs.entry_at.Lts as lts
 
+-- src/lib.rt:100:16
 mul-result : tie.Need-mul-result
 mul-result c = search needs
 
+-- src/lib.rt:100:16
 shared-slice-read-result : tie.Need-shared-slice-read-result
 shared-slice-read-result c = search needs
 
+-- src/lib.rt:100:9
 returns : tie.Need-returns
 returns c = search needs
 
+-- src/lib.rt:96:1
 returns-2 : tie.Need-returns-2
 returns-2 c = search entry-past
 

@@ -1,5 +1,6 @@
 use Rattle.field_plan.proofs.Plans.{alias-base, alias-lacks, alias-endless, alias-typed}
 use borrow.Author.Needs.{needs}
+use Rattle.type_category.proofs.Numbers.{category-is}
 use Rattle.field_plan.proofs.plan_alias.Statement.{statement}
 use Rattle.field_plan.proofs.plan_alias.Tie as tie
 use Rattle.field_plan.proofs.plan_alias.Reads as reads
@@ -9,10 +10,10 @@ use Rattle.type_category.proofs.type_category.AdsTypeCategory.determine.Reads a
 use Rattle.typebook.proofs.block.offset.Reads as offset-reads
 use Rattle.typebook.proofs.block.size.Reads as size-reads
 
-ruleset exits = (alias-base, alias-lacks, alias-endless)
+ruleset exits = (alias-base, alias-lacks, alias-endless, category-is)
 
 resolve-alias-in-requires : tie.Need-resolve-alias-in-requires
-resolve-alias-in-requires c κs = (search needs, search alias-typed)
+resolve-alias-in-requires c κs = (search needs, search (alias-typed, category-is))
 
 enum-known-answer : tie.Need-enum-known-answer
 enum-known-answer c = search needs

@@ -1,5 +1,7 @@
 use Rattle.field_plan.proofs.Plans.{plan-nothing, plan-found, plan-plain}
 use borrow.Author.Needs.{needs}
+use Rattle.type_category.proofs.Numbers.{category-is}
+use Rattle.type_provider.proofs.Numbers.{found-is}
 use Rattle.field_plan.proofs.plan_field.Statement.{statement}
 use Rattle.field_plan.proofs.plan_field.Tie as tie
 use Rattle.field_plan.proofs.plan_field.Reads as reads
@@ -9,7 +11,7 @@ use Rattle.type_category.proofs.type_category.AdsTypeCategory.determine.Reads a
 use Rattle.typebook.proofs.block.offset.Reads as offset-reads
 use Rattle.typebook.proofs.block.size.Reads as size-reads
 
-ruleset exits = (plan-nothing, plan-plain)
+ruleset exits = (plan-nothing, plan-plain, category-is, found-is)
 
 named-in-requires : tie.Need-named-in-requires
 named-in-requires c κs = search needs
@@ -30,7 +32,7 @@ goes-on-requires : tie.Need-goes-on-requires
 goes-on-requires c κs = search needs
 
 plan-alias-requires : tie.Need-plan-alias-requires
-plan-alias-requires c κs = (search needs, search plan-found)
+plan-alias-requires c κs = (search needs, search (plan-found, found-is))
 
 returns-2 : tie.Need-returns-2
 returns-2 c = search needs

@@ -42,7 +42,8 @@ use denote.Triple.Walked.{says, Stays, gave-slice, stay-none, stay-none-slice, w
 use denote.Exit.{yes}
 use Rattle.field_records.specs.declared.ResolvedField.{ResolvedField as Rec}
 use Rattle.field_types.specs.declared.FieldsAnswer.{FieldsAnswer}
-use Rattle.field_types.specs.Calls.{rootFields}
+use Rattle.field_types.specs.Calls.{fieldsNumbers, rootFields}
+use Rattle.field_types.proofs.Numbers.{fields-is}
 use Rattle.field_records.specs.Stored.{Ready, countOf, filledAt, Filled}
 use Rattle.field_records.proofs.Stored.{filled-stored, plan-ready}
 use Rattle.field_records.proofs.Lent.{Part, lends-local, room-again, big-lit}
@@ -160,8 +161,11 @@ module _ {M : Type 1} (𝓤 : URA M) (H : Heap 𝓤) (A : Atoms 𝓤) (W : Given
       qed W (Tok ∷ ‵ Buf ∷ []) ∵ move ! (1 ∷ []) $ use1 W (‵ Buf ⊛ ‵ Buf) (shr-slice-copy 𝓤 H A W (named 0) κ u8 .twice buf (bv ∷ [])) $ split ! $
       move ! (2 ∷ 0 ∷ []) $ use2 W (raw (Plan 𝓤 H A mem run .pre to-plan)) goes-plan $ frame ! $ done !
 
-  plan-of : (r : FieldsAnswer) → ent 𝓤 (ensured 𝓤 H A plan.ended (plan.clauses 𝓤 H A mem run) (κ, tt) planning tt r) (fact 𝓤 (r ≡ planned))
-  plan-of r = exE 𝓤 _ (λ ws. snd∗ 𝓤 (sem 𝓤 H A (lasts plan.ended (κ, tt) planning ws)) (fact 𝓤 (r ≡ planned)))
+  abbrev Numbers : FieldsAnswer → FieldsAnswer → Type 0
+  Numbers r a = fieldsNumbers r ≡ fieldsNumbers a
+
+  plan-of : (r : FieldsAnswer) → ent 𝓤 (ensured 𝓤 H A plan.ended (plan.clauses 𝓤 H A mem run) (κ, tt) planning tt r) (fact 𝓤 (Numbers r planned))
+  plan-of r = exE 𝓤 _ (λ ws. snd∗ 𝓤 (sem 𝓤 H A (lasts plan.ended (κ, tt) planning ws)) (fact 𝓤 (Numbers r planned)))
 
   abbrev to-count : FieldsAnswer → Val → Count 𝓤 H A mem run .Ghost
   to-count r u = ((tt, tt, tt, (r, tt), (u ∷ [], tt)), tt)
@@ -207,10 +211,10 @@ module _ {M : Type 1} (𝓤 : URA M) (H : Heap 𝓤) (A : Atoms 𝓤) (W : Given
       subst (λ (k : ℕ). Ready (buf .now) len width root k × (k ≤ length ys)) (sym e) (plan-ready (buf .now) len width root (length ys) .1, plan-ready (buf .now) len width root (length ys) .0)
 
   -- what the contract says, of what the callees say
-  meant : (r : FieldsAnswer) (n : ℕ) (zs : List Rec) → r ≡ planned → n ≡ countOf r → zs ≡ filledAt (buf .now) len width root n ys → Filled (buf .now) len width root ys r zs
+  meant : (r : FieldsAnswer) (n : ℕ) (zs : List Rec) → Numbers r planned → n ≡ countOf r → zs ≡ filledAt (buf .now) len width root n ys → Filled (buf .now) len width root ys r zs
   meant r n zs e e₂ e₃ = record {
     is = e;
-    records = e₃ ∙ ap (λ (k : ℕ). filledAt (buf .now) len width root k ys) (e₂ ∙ ap countOf e) ∙ filled-stored (buf .now) len width root planned ys;
+    records = e₃ ∙ ap (λ (k : ℕ). filledAt (buf .now) len width root k ys) (e₂ ∙ ap countOf (fields-is r planned e)) ∙ filled-stored (buf .now) len width root planned ys;
   }
 
   exits : (r : FieldsAnswer) (u : Val) (zs : List Rec) → Is S.the-row r (u ∷ []) → Filled (buf .now) len width root ys r zs → length zs ≡ length ys
@@ -235,7 +239,7 @@ module _ {M : Type 1} (𝓤 : URA M) (H : Heap 𝓤) (A : Atoms 𝓤) (W : Given
         -- [what plan asks; the buffer; the records' token; the records; _15; d15; _14; d14; _13; d13; _12; d12; _11; d11; _10; d10; _9; d9; _8; d8; _7; d7; _6; d6; _5; d5; _4; d4; _3; d3; _2; d2; _1; d1; _0; d0]
         calls-at ! fm (Plan 𝓤 H A mem run) known-plan to-plan (and-then ! (load ! (from ! (stop !)) (look ! 32 refl)) (and-then ! (load ! (from ! (stop !)) (look ! 30 refl)) (and-then ! (load ! (from ! (stop !)) (look ! 28 refl)) (and-then ! (load ! (from ! (stop !)) (look ! 26 refl)) (and-then ! (load ! (from ! (stop !)) (look ! 16 refl)) (no-more !)))))) (λ u.
         use1 W (later (some (λ (r : FieldsAnswer). (Tok ⊛ ‵ (S.the-row .own r (u ∷ []))) ⊛ raw (ensured 𝓤 H A plan.ended (plan.clauses 𝓤 H A mem run) (κ, tt) planning tt r)))) (id⊢ 𝓤 _) $ await ! tt $ pick ! (λ r.
-        split ! $ move ! (1 ∷ []) $ use1 W (raw (fact 𝓤 (r ≡ planned))) (plan-of r) $ heard ! (r ≡ planned) (λ e. split ! $ move ! (1 ∷ []) $
+        split ! $ move ! (1 ∷ []) $ use1 W (raw (fact 𝓤 (Numbers r planned))) (plan-of r) $ heard ! (Numbers r planned) (λ e. split ! $ move ! (1 ∷ []) $
         peeks ! S.the-row (Is S.the-row) (shows 𝓤 H A S.the-row) r (u ∷ []) (λ is.
         land ! (from ! (stop !)) (init ! 23 refl (EL.lawful S.the-type S′.the-laws 𝓤 H A W tt .typed r _ is .0)) $
         -- `count_of`
@@ -266,7 +270,7 @@ module _ {M : Type 1} (𝓤 : URA M) (H : Heap 𝓤) (A : Atoms 𝓤) (W : Given
         move ! (4 ∷ []) $ use1 W (‵ Buf ⊛ ‵ Buf) (shr-slice-copy 𝓤 H A W (named 0) κ u8 .twice buf (bv ∷ [])) $ split ! $
         move ! (7 ∷ 3 ∷ []) $ fjoin ! $ move ! (6 ∷ 0 ∷ []) $ fjoin ! $ owned ! u64 (Is u64) (uint-makes 𝓤 H A W w64) root _ (refl, root-fits) $ fjoin ! $ owned ! u8 (Is u8) (uint-makes 𝓤 H A W w8) width _ (refl, width-fits) $ fjoin ! $
         move ! (4 ∷ 0 ∷ []) $ fjoin ! $ owned ! usize (Is usize) (uint-makes 𝓤 H A W w64) len _ (refl, len-fits) $ fjoin ! $ move ! (2 ∷ 0 ∷ []) $ fjoin ! $ move ! (2 ∷ 0 ∷ []) $
-        use2 W (raw (Fill 𝓤 H A mem run .pre (to-fill δ ν xs l₈ n w))) (goes-fill δ ν xs l₈ n w (fits-fill n (e₂ ∙ ap countOf e))) $
+        use2 W (raw (Fill 𝓤 H A mem run .pre (to-fill δ ν xs l₈ n w))) (goes-fill δ ν xs l₈ n w (fits-fill n (e₂ ∙ ap countOf (fields-is r planned e)))) $
         calls-at ! fm (Fill 𝓤 H A mem run) known-fill (to-fill δ ν xs l₈ n w) (and-then ! (load ! (from ! (stop !)) (look ! 30 refl)) (and-then ! (load ! (from ! (stop !)) (look ! 28 refl)) (and-then ! (load ! (from ! (stop !)) (look ! 7 refl)) (and-then ! (load ! (from ! (stop !)) (look ! 26 refl)) (and-then ! (load ! (from ! (stop !)) (look ! 24 refl)) (and-then ! (load ! (from ! (stop !)) (look ! 18 refl)) (and-then ! (load ! (from ! (stop !)) (look ! 3 refl)) (no-more !)))))))) (λ z.
         use1 W (later (some (λ (t : Unit {0}). ((‵ (flft κ q) ⊛ ‵ (flft (ν ∷ []) fullShare) ⊛ ‵ (flft κ′ q′) ⊛ ‵ ftrue) ⊛ ‵ (unit .own t (z ∷ []))) ⊛ raw (ensured 𝓤 H A fill.ended (fill.clauses 𝓤 H A mem run) (κ, (ν ∷ [], (κ′, tt))) (filling δ xs l₈ n) tt t)))) (id⊢ 𝓤 _) $ await ! tt $ pick ! (λ t.
         split ! $ move ! (1 ∷ []) $ use1 W (some (λ (zs : Lasts′). ‵ (lasts fill.ended (κ, (ν ∷ [], (κ′, tt))) (filling δ xs l₈ n) zs) ⊛ raw (fact 𝓤 (last zs ≡ filledAt (buf .now) len width root n ys)))) (id⊢ 𝓤 _) $ pick ! (λ zs.

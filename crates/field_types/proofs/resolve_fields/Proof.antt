@@ -2,10 +2,11 @@
 use Rattle.resolvers.proofs.Calls.{root-cut, root-book, root-type}
 use Rattle.field_types.proofs.Records.{fields-refused, fields-root}
 use borrow.Author.Needs.{needs}
+use Rattle.book_check.proofs.Numbers.{root-is}
 use Rattle.field_types.proofs.resolve_fields.Statement.{statement}
 use Rattle.field_types.proofs.resolve_fields.Tie as tie
 
-ruleset exits = (fields-refused, fields-root)
+ruleset exits = (fields-refused, fields-root, root-is)
 
 check-root-requires : tie.Need-check-root-requires
 check-root-requires c κs = search needs
@@ -14,10 +15,10 @@ enum-known-check : tie.Need-enum-known-check
 enum-known-check c = search needs
 
 slice-aggregate-fill-fields : tie.Need-slice-aggregate-fill-fields
-slice-aggregate-fill-fields c = search root-cut
+slice-aggregate-fill-fields c = search (root-cut, root-is)
 
 fill-fields-requires : tie.Need-fill-fields-requires
-fill-fields-requires c κs = (search root-book, search root-type)
+fill-fields-requires c κs = (search (root-book, root-is), search (root-type, root-is))
 
 enum-known-check-2 : tie.Need-enum-known-check-2
 enum-known-check-2 c = search needs

@@ -1,4 +1,5 @@
 -- `gateway_check_book` meets its contract. Assumes nothing.
+use Rattle.gateway.proofs.Equal.{check-given}
 use borrow.Author.Needs.{needs}
 use Rattle.gateway.proofs.gateway_check_book.Statement.{statement}
 use Rattle.gateway.proofs.gateway_check_book.Tie as tie
@@ -6,11 +7,11 @@ use Rattle.gateway.proofs.gateway_check_book.Tie as tie
 check-book-requires : tie.Need-check-book-requires
 check-book-requires c κs = search needs
 
-refusal-requires : tie.Need-refusal-requires
-refusal-requires c κs = search needs
+refusal-of-requires : tie.Need-refusal-of-requires
+refusal-of-requires c κs = search needs
 
 returns : tie.Need-returns
-returns c = cc
+returns c = search check-given
 
 pub gateway-check-book-spec : {M : Type 1} → statement M
-gateway-check-book-spec = tie.close (tie.spec check-book-requires refusal-requires returns)
+gateway-check-book-spec = tie.close (tie.spec check-book-requires refusal-of-requires returns)

@@ -1,4 +1,5 @@
 -- `gateway_find` meets its contract. Assumes nothing.
+use Rattle.gateway.proofs.Numbers.{find-number}
 use borrow.Author.Needs.{needs}
 use Rattle.gateway.proofs.gateway_find.Statement.{statement}
 use Rattle.gateway.proofs.gateway_find.Tie as tie
@@ -10,7 +11,7 @@ found-requires : tie.Need-found-requires
 found-requires c κs = search needs
 
 returns : tie.Need-returns
-returns c = cc
+returns c = search find-number
 
 pub gateway-find-spec : {M : Type 1} → statement M
 gateway-find-spec = tie.close (tie.spec find-requires found-requires returns)

@@ -1,5 +1,6 @@
 use Rattle.leaf_steps.proofs.Leaves.{leaf-at}
 use borrow.Author.Needs.{needs}
+use Rattle.leaves.proofs.Numbers.{leaf-is}
 use Rattle.leaf_steps.proofs.leaf.Statement.{statement}
 use Rattle.leaf_steps.proofs.leaf.Tie as tie
 use Rattle.leaf_steps.proofs.leaf.Reads as reads
@@ -20,7 +21,7 @@ same-length-2 : tie.Need-same-length-2
 same-length-2 c = search needs
 
 returns : tie.Need-returns
-returns c = search leaf-at
+returns c = search (leaf-at, leaf-is)
 
 pub leaf-spec : {M : Type 1} → statement M
 leaf-spec =

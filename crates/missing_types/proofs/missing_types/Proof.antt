@@ -2,10 +2,11 @@
 use Rattle.resolvers.proofs.Calls.{root-cut, root-book, root-type}
 use Rattle.missing_types.proofs.Ends.{missing-refused, missing-root}
 use borrow.Author.Needs.{needs}
+use Rattle.book_check.proofs.Numbers.{root-is}
 use Rattle.missing_types.proofs.missing_types.Statement.{statement}
 use Rattle.missing_types.proofs.missing_types.Tie as tie
 
-ruleset exits = (missing-refused, missing-root)
+ruleset exits = (missing-refused, missing-root, root-is)
 
 check-root-requires : tie.Need-check-root-requires
 check-root-requires c κs = search needs
@@ -14,10 +15,10 @@ enum-known-check : tie.Need-enum-known-check
 enum-known-check c = search needs
 
 slice-aggregate-missing-at : tie.Need-slice-aggregate-missing-at
-slice-aggregate-missing-at c = search root-cut
+slice-aggregate-missing-at c = search (root-cut, root-is)
 
 missing-at-requires : tie.Need-missing-at-requires
-missing-at-requires c κs = (search root-book, search root-type)
+missing-at-requires c κs = (search (root-book, root-is), search (root-type, root-is))
 
 enum-known-check-2 : tie.Need-enum-known-check-2
 enum-known-check-2 c = search needs

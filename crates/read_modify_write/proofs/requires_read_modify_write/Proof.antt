@@ -2,10 +2,11 @@
 use Rattle.resolvers.proofs.Calls.{root-cut, root-book, root-type}
 use Rattle.read_modify_write.proofs.Ends.{rmw-refused, rmw-root}
 use borrow.Author.Needs.{needs}
+use Rattle.book_check.proofs.Numbers.{root-is}
 use Rattle.read_modify_write.proofs.requires_read_modify_write.Statement.{statement}
 use Rattle.read_modify_write.proofs.requires_read_modify_write.Tie as tie
 
-ruleset exits = (rmw-refused, rmw-root)
+ruleset exits = (rmw-refused, rmw-root, root-is)
 
 check-root-requires : tie.Need-check-root-requires
 check-root-requires c κs = search needs
@@ -14,10 +15,10 @@ enum-known-check : tie.Need-enum-known-check
 enum-known-check c = search needs
 
 slice-aggregate-rmw-at : tie.Need-slice-aggregate-rmw-at
-slice-aggregate-rmw-at c = search root-cut
+slice-aggregate-rmw-at c = search (root-cut, root-is)
 
 rmw-at-requires : tie.Need-rmw-at-requires
-rmw-at-requires c κs = (search root-book, search root-type)
+rmw-at-requires c κs = (search (root-book, root-is), search (root-type, root-is))
 
 enum-known-check-2 : tie.Need-enum-known-check-2
 enum-known-check-2 c = search needs

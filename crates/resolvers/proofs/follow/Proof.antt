@@ -5,10 +5,11 @@ use mathlib.Core.Bool.{true}
 use Rattle.typebook.specs.Book.{isType}
 use Rattle.resolvers.specs.Resolve.{isFollowed, follow as followIn, resolveType}
 use Rattle.resolvers.proofs.Chains.{chain-end, chain-base, chain-lacks, chain-again, found-typed}
+use Rattle.type_provider.proofs.Numbers.{found-is}
 use Rattle.resolvers.proofs.follow.Statement.{statement}
 use Rattle.resolvers.proofs.follow.Tie as tie
 
-ruleset exits = (chain-end, chain-base, chain-lacks)
+ruleset exits = (chain-end, chain-base, chain-lacks, found-is)
 
 abbrev Inv-loop : tie.InvT-loop
 Inv-loop book index width t references at₀ left₀ at left =
@@ -46,7 +47,7 @@ loop-less : tie.Need-loop-less Inv-loop μ-loop
 loop-less c = search needs
 
 loop-again : tie.Need-loop-again Inv-loop μ-loop
-loop-again c = (search chain-again, search found-typed)
+loop-again c = (search (chain-again, found-is), search (found-typed, found-is))
 
 returns-3 : tie.Need-returns-3 Inv-loop μ-loop
 returns-3 c = search exits

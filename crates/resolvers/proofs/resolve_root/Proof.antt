@@ -1,6 +1,7 @@
 -- `resolve_root` meets its contract. Assumes nothing.
 use Rattle.resolvers.proofs.Calls.{resolution-base, resolution-lacks, resolution-endless}
 use borrow.Author.Needs.{needs}
+use Rattle.resolvers.proofs.Numbers.{resolution-says}
 use Rattle.resolvers.proofs.resolve_root.Statement.{statement}
 use Rattle.resolvers.proofs.resolve_root.Tie as tie
 
@@ -28,13 +29,13 @@ enum-told : tie.Need-enum-told
 enum-told c = search needs
 
 returns : tie.Need-returns
-returns c = search exits
+returns c = resolution-says _ _ (search exits)
 
 returns-2 : tie.Need-returns-2
-returns-2 c = search exits
+returns-2 c = resolution-says _ _ (search exits)
 
 returns-3 : tie.Need-returns-3
-returns-3 c = search exits
+returns-3 c = resolution-says _ _ (search exits)
 
 pub resolve-root-spec : {M : Type 1} → statement M
 resolve-root-spec =

@@ -1,9 +1,10 @@
 -- `type_index::find_by` meets its contract. Assumes nothing.
 use Rattle.type_index.proofs.Slots.{by-search, by-probe}
+use Rattle.type_provider.proofs.Numbers.{found-is}
 use Rattle.type_index.proofs.find_by.Statement.{statement}
 use Rattle.type_index.proofs.find_by.Tie as tie
 
-ruleset exits = (by-search, by-probe)
+ruleset exits = (by-search, by-probe, found-is)
 
 probe-requires : tie.Need-probe-requires
 probe-requires c κs = search exits

@@ -4,6 +4,7 @@ use mathlib.Core.Path.{_≡_}
 use Prim.Native.Nat.{_≤_, _-_}
 use Rattle.type_provider.specs.Find.{findFrom, find as findIn}
 use Rattle.type_provider.proofs.Finds.{find-start, find-here, find-again, find-end}
+use Rattle.type_provider.proofs.Numbers.{found-says}
 use Rattle.type_provider.proofs.find.Statement.{statement}
 use Rattle.type_provider.proofs.find.Tie as tie
 
@@ -25,7 +26,7 @@ is-named-requires : tie.Need-is-named-requires Inv-loop μ-loop
 is-named-requires c κs = search needs
 
 returns : tie.Need-returns Inv-loop μ-loop
-returns c = search find-here
+returns c = found-says _ _ (search find-here)
 
 add-i : tie.Need-add-i Inv-loop μ-loop
 add-i c = search needs
@@ -37,7 +38,7 @@ loop-again : tie.Need-loop-again Inv-loop μ-loop
 loop-again c = (search needs, search find-again)
 
 returns-2 : tie.Need-returns-2 Inv-loop μ-loop
-returns-2 c = search find-end
+returns-2 c = found-says _ _ (search find-end)
 
 pub find-spec : {M : Type 1} → statement M
 find-spec =

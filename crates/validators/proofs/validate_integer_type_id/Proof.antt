@@ -1,9 +1,10 @@
 use Rattle.validators.proofs.Answers.{integer-wide, integer-size, integer-by-id}
 use borrow.Author.Needs.{needs}
+use Rattle.type_category.proofs.Numbers.{category-is}
 use Rattle.validators.proofs.validate_integer_type_id.Statement.{statement}
 use Rattle.validators.proofs.validate_integer_type_id.Tie as tie
 
-ruleset exits = (integer-wide, integer-size, integer-by-id)
+ruleset exits = (integer-wide, integer-size, integer-by-id, category-is)
 
 determine-requires : tie.Need-determine-requires
 determine-requires c κs = search needs

@@ -1,9 +1,10 @@
 use Rattle.validators.proofs.Answers.{category-valid, category-mismatch}
 use borrow.Author.Needs.{needs}
+use Rattle.type_category.proofs.Numbers.{category-is}
 use Rattle.validators.proofs.validate_type_category.Statement.{statement}
 use Rattle.validators.proofs.validate_type_category.Tie as tie
 
-ruleset exits = (category-valid, category-mismatch)
+ruleset exits = (category-valid, category-mismatch, category-is)
 
 determine-requires : tie.Need-determine-requires
 determine-requires c κs = search needs

@@ -1,24 +1,27 @@
 use borrow.Author.Needs.{needs}
-use mathlib.Core.Path.{_≡_}
+use mathlib.Core.Path.{_≡_, refl}
 use Prim.Native.Nat.{ℕ, _+_, _*_, _-_, _≤_, _<_}
 use lib.ListN.{length}
-use Rattle.de.specs.Walk.{ctx, walk, membersFrom, elementsFrom, elementItem}
+use Rattle.de.specs.Walk.{ctx, walk, membersFrom, elementsFrom}
+use Rattle.array_elements.specs.Element.{elementItem}
 use Rattle.steps.proofs.Runs.{Rest}
 use Rattle.shape.proofs.Strides.{Along, along-start, along-again, along-end, along-fits, element-fills, next-dimension, fills-first, fills-further}
 use Rattle.shape.specs.Array.{strideOf}
-use Rattle.de.proofs.Exits.{value-deep, value-map, value-array, value-leaf, member-lacks, member-endless, member-over, member-value, members-start, members-again, members-end, members-stop, map-odd, map-fine, map-lacks, map-endless, array-odd, array-lacks, array-endless, array-other, array-base, dimension-fine, dimension-lacks, dimension-endless, elements-start, elements-again, elements-end, elements-stop, element-last, element-deep, element-further, field-number, field-first, typed-base, typed-field, category-field, leaf-inside, map-ready, given-none, map-given, own-entries, own-elements, last-given}
+use Rattle.de.proofs.Exits.{value-deep, value-map, value-array, value-leaf, member-stop, member-value, part-typed, part-category, part-inside, part-order, members-start, members-again, members-end, members-stop, map-odd, map-fine, map-lacks, map-endless, array-odd, array-nothing, array-lacks, array-endless, array-other, array-base, dimension-fine, dimension-lacks, dimension-endless, elements-start, elements-again, elements-end, elements-stop, element-last, element-deep, element-further, field-number, field-first, typed-base, typed-found, leaf-inside, map-ready, given-none, map-given, own-entries, own-elements, last-given}
 use Rattle.field_plan.proofs.Plans.{entry-of}
-def μ-array-access·array => 6 * a .1 .1 .1 .1 .1 .1 .0 + 4
-def μ-array-access·dimension => 6 * a .1 .1 .1 .1 .1 .1 .1 .1 .1 .0 + 3
-def μ-array-access·element => 6 * a .1 .1 .1 .1 .1 .1 .1 .1 .1 .1 .0 + 1
-def μ-array-access·elements => 6 * a .1 .1 .1 .1 .1 .1 .1 .1 .1 .1 .0 + 2
-def μ-deserializer·value => 6 * a .1 .1 .1 .1 .1 .1 .1 .1 .0
-def μ-map-access·map => 6 * a .1 .1 .1 .1 .1 .1 .1 .0 + 3
-def μ-map-access·member => 6 * a .1 .1 .1 .1 .1 .1 .1 .0 + 1
-def μ-map-access·members => 6 * a .1 .1 .1 .1 .1 .1 .1 .0 + 2
-def map-access·members-Inv-loop => (i ≤ n) × (length tape ≡ length tape₀) × (length text ≡ length text₀) × Rest (membersFrom (walk (ctx book width) left) (ctx book width) bytes (t + 1) n) tape₀ text₀ here₀ (membersFrom (walk (ctx book width) left) (ctx book width) bytes (t + 1 + i) (n - i)) tape text here
+use Rattle.type_category.proofs.Numbers.{category-is}
+ruleset array-exits = (array-odd, array-nothing, array-lacks, array-endless, array-other, array-base, category-is)
+def μ-array-access·array => 6 * a .1 .1 .1 .0 .left + 4
+def μ-array-access·dimension => 6 * a .1 .1 .1 .0 .left + 3
+def μ-array-access·element => 6 * a .1 .1 .1 .0 .left + 1
+def μ-array-access·elements => 6 * a .1 .1 .1 .0 .left + 2
+def μ-deserializer·value => 6 * a .1 .1 .1 .0 .left + 0
+def μ-map-access·map => 6 * a .1 .1 .1 .0 .left + 3
+def μ-map-access·member => 6 * a .1 .1 .1 .0 .left + 1
+def μ-map-access·members => 6 * a .1 .1 .1 .0 .left + 2
+def map-access·members-Inv-loop => (i ≤ n) × (length tape ≡ length tape₀) × (length text ≡ length text₀) × Rest (membersFrom (walk (ctx book (v .width)) (v .left)) (ctx book (v .width)) bytes (v .typed .resolved + 1) n) tape₀ text₀ here₀ (membersFrom (walk (ctx book (v .width)) (v .left)) (ctx book (v .width)) bytes (v .typed .resolved + 1 + i) (n - i)) tape text here
 def map-access·members-μ-loop => n - i
-def array-access·elements-Inv-loop => (i ≤ n) × Along book d t e n stride from i (length bytes) × (length tape ≡ length tape₀) × (length text ≡ length text₀) × Rest (elementsFrom (walk (ctx book width) left) (elementItem (ctx book width) d t e) (strideOf book d t e) bytes 0 n) tape₀ text₀ here₀ (elementsFrom (walk (ctx book width) left) (elementItem (ctx book width) d t e) (strideOf book d t e) bytes from (n - i)) tape text here
+def array-access·elements-Inv-loop => (i ≤ n) × Along book (p .d) (p .t) (p .element .resolved) n stride from i (length bytes) × (length tape ≡ length tape₀) × (length text ≡ length text₀) × Rest (elementsFrom (walk (ctx book (p .width)) (p .left)) (elementItem book (p .d) (p .t) (p .element)) (strideOf book (p .d) (p .t) (p .element .resolved)) bytes 0 n) tape₀ text₀ here₀ (elementsFrom (walk (ctx book (p .width)) (p .left)) (elementItem book (p .d) (p .t) (p .element)) (strideOf book (p .d) (p .t) (p .element .resolved)) bytes from (n - i)) tape text here
 def array-access·elements-μ-loop => n - i
 deserializer·value-leaf-requires => (search leaf-inside, search needs)
 deserializer·value-map-requires => (search needs, (search needs, search needs, search map-ready))
@@ -26,17 +29,18 @@ deserializer·value-returns => search value-deep
 deserializer·value-returns-2 => search value-map
 deserializer·value-returns-3 => search value-array
 deserializer·value-returns-4 => search value-leaf
-map-access·member-value-requires => let p = c .before .before .before .before .before .before .before .before .before .before .before .before .before .before .before .before .before .before .before .before .before .before .before .pre in let q = c .before .before .before .before .before .before .before .before .before .before .planned-field .ensures in let g = c .before .before .before .before .before .before .before .before .found .given in (search needs, (search needs, typed-field q (g .1), category-field q (g .1), search given-none))
-map-access·member-returns => search member-over
-map-access·member-returns-2 => search member-value
-map-access·member-returns-3 => search member-lacks
-map-access·member-returns-4 => search member-endless
+map-access·member-value-requires => (search needs, (search needs, part-typed (c .before .before .before .before .before .before .before .before .part-of .ensures) (c .before .before .before .before .before .before .part .given .1) refl, part-category (c .before .before .before .before .before .before .before .before .part-of .ensures) (c .before .before .before .before .before .before .part .given .1), search given-none))
+map-access·member-sub-value => search part-order
+map-access·member-part-value-start.* => search part-order
+map-access·member-part-value-end.* => search part-inside
+map-access·member-returns => search member-value
+map-access·member-returns-2 => search member-stop
 map-access·members-returns => search members-stop
 map-access·members-returns-2 => search members-end
 map-access·members-loop-holds => (search needs, search needs, search needs, search members-start)
 map-access·members-loop-again => (search needs, search needs, search needs, search members-again)
-map-access·members-add-member => search field-first
-map-access·members-add-member-2 => search field-number
+map-access·members-add-t20 => search field-first
+map-access·members-add-t21 => search field-number
 map-access·members-member-requires => (search needs, (search needs, search entry-of))
 map-access·map-members-requires-2 => (search needs, (search needs, search needs, own-entries _ _ _ _ _ _ (c .before .before .before .before .before .before .plan-fields-in .ensures) (search needs)))
 map-access·map-returns => search map-odd
@@ -44,18 +48,15 @@ map-access·map-returns-2 => search map-given
 map-access·map-returns-3 => search map-fine
 map-access·map-returns-4 => search map-lacks
 map-access·map-returns-5 => search map-endless
-array-access·array-returns => search array-odd
-array-access·array-returns-2 => search array-base
-array-access·array-returns-3 => search array-other
-array-access·array-returns-4 => search array-lacks
-array-access·array-returns-5 => search array-endless
+array-access·array-returns.* => search array-exits
+array-access·array-resolve-alias-in-requires => (search needs, search typed-found)
 array-access·array-dimension-requires => (search needs, (search needs, search typed-base, search needs, search fills-first))
-array-access·dimension-elements-requires => (search needs, (search needs, search needs, search needs, own-elements _ _ _ _ _ _ (c .before .before .before .before .before .before .element-check .ensures) (search needs), search needs))
+array-access·dimension-elements-requires => (search needs, (search needs, search needs, search needs, own-elements _ _ _ _ _ _ _ (c .before .before .before .before .before .before .element-check .ensures) (search needs), search needs))
 array-access·element-value-requires => (search needs, (search needs, search needs, search needs, search last-given))
 array-access·dimension-returns => search dimension-fine
 array-access·dimension-returns-2 => search dimension-lacks
 array-access·dimension-returns-3 => search dimension-endless
-array-access·element-add-dimension => search next-dimension
+array-access·element-add-(dimension|t18) => search next-dimension
 array-access·element-returns => search element-last
 array-access·element-returns-2 => search element-deep
 array-access·element-returns-3 => search element-further

@@ -1,6 +1,7 @@
 use Rattle.de.proofs.Wholes.{call-room, call-book, call-type, call-root, call-refused}
-part-book-end => search call-room
-read-(small|large)-requires => (search call-book, search call-type)
-returns-3 => search call-refused
-returns.* => search call-root
+use Rattle.book_check.proofs.Numbers.{root-is}
+part-book-end => search (call-room, root-is)
+read-(small|large)-requires => (search (call-book, root-is), search (call-type, root-is))
+returns-3 => search (call-refused, root-is)
+returns.* => search (call-root, root-is)
 .* => search needs

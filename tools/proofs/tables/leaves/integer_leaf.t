@@ -1,3 +1,3 @@
-use Rattle.leaves.proofs.Leaves.{integer-signed, integer-unsigned}
-ruleset exits = (integer-signed, integer-unsigned)
+use Rattle.leaves.proofs.Leaves.{integer-signed, integer-unsigned, integer-size, integer-id}
+ruleset exits = (integer-signed, integer-unsigned, integer-size, integer-id)
 returns.* => search exits

@@ -1,4 +1,4 @@
-use mathlib.Core.Path.{refl}
-use Rattle.leaves.proofs.Leaves.{text-size, wide-ended, wide-open, narrow-ended, narrow-open}
-ruleset exits = (text-size, wide-ended, wide-open, narrow-ended, narrow-open, refl)
+use Rattle.leaves.proofs.Leaves.{text-size, text-is}
+ruleset exits = (text-size, text-is)
 returns.* => search exits
+.* => search needs

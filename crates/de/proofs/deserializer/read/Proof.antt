@@ -1,5 +1,6 @@
 use Rattle.de.proofs.Wholes.{call-room, call-book, call-type, call-root, call-refused}
 use borrow.Author.Needs.{needs}
+use Rattle.book_check.proofs.Numbers.{root-is}
 use Rattle.de.proofs.deserializer.read.Statement.{statement}
 use Rattle.de.proofs.deserializer.read.Tie as tie
 use Rattle.de.proofs.deserializer.read.Reads as reads
@@ -28,7 +29,7 @@ part-book-start c = search needs
 
 -- src/deserializer.rt:141:24
 part-book-end : tie.Need-part-book-end
-part-book-end c = search call-room
+part-book-end c = search (call-room, root-is)
 
 -- src/deserializer.rt:142:16
 blocks-requires : tie.Need-blocks-requires
@@ -36,7 +37,7 @@ blocks-requires c κs = search needs
 
 -- src/deserializer.rt:143:17
 read-small-requires : tie.Need-read-small-requires
-read-small-requires c κs = (search call-book, search call-type)
+read-small-requires c κs = (search (call-book, root-is), search (call-type, root-is))
 
 -- src/deserializer.rt:143:17
 same-length : tie.Need-same-length
@@ -48,11 +49,11 @@ same-length-2 c = search needs
 
 -- src/deserializer.rt:143:17
 returns : tie.Need-returns
-returns c = search call-root
+returns c = search (call-root, root-is)
 
 -- src/deserializer.rt:145:13
 read-large-requires : tie.Need-read-large-requires
-read-large-requires c κs = (search call-book, search call-type)
+read-large-requires c κs = (search (call-book, root-is), search (call-type, root-is))
 
 -- src/deserializer.rt:147:28
 enum-known-checked-2 : tie.Need-enum-known-checked-2
@@ -72,7 +73,7 @@ same-length-4 c = search needs
 
 -- src/deserializer.rt:127:1
 returns-2 : tie.Need-returns-2
-returns-2 c = search call-root
+returns-2 c = search (call-root, root-is)
 
 -- src/deserializer.rt:127:1
 same-length-5 : tie.Need-same-length-5
@@ -84,7 +85,7 @@ same-length-6 c = search needs
 
 -- src/deserializer.rt:127:1
 returns-3 : tie.Need-returns-3
-returns-3 c = search call-refused
+returns-3 c = search (call-refused, root-is)
 
 pub read-spec : {M : Type 1} → statement M
 read-spec =

@@ -1,6 +1,7 @@
 use mathlib.Core.Path.{refl}
 use Rattle.leaves.proofs.Leaves.{enum-size, enum-found, enum-none}
 use borrow.Author.Needs.{needs}
+use Rattle.integer.proofs.Numbers.{integer-read-is}
 use Rattle.leaves.proofs.leaf.enum_leaf.Statement.{statement}
 use Rattle.leaves.proofs.leaf.enum_leaf.Tie as tie
 use Rattle.leaves.proofs.leaf.enum_leaf.Reads as reads
@@ -13,7 +14,7 @@ use Rattle.typebook.proofs.block.fields.Reads as fields-reads
 use Rattle.typebook.proofs.block.size.Reads as size-reads
 use Rattle.typebook.proofs.block.type_id.Reads as type-id-reads
 
-ruleset exits = (enum-size, enum-found, enum-none, refl)
+ruleset exits = (enum-size, enum-found, enum-none, refl, integer-read-is)
 
 size-requires : tie.Need-size-requires
 size-requires c κs = search needs

@@ -1,11 +1,11 @@
-use Rattle.leaves.proofs.Leaves.{integer-signed, integer-unsigned}
+use Rattle.leaves.proofs.Leaves.{integer-signed, integer-unsigned, integer-size, integer-id}
 use borrow.Author.Needs.{needs}
 use Rattle.leaves.proofs.leaf.integer_leaf.Statement.{statement}
 use Rattle.leaves.proofs.leaf.integer_leaf.Tie as tie
 use Rattle.leaves.proofs.leaf.integer_leaf.Reads as reads
 use Rattle.leaves.proofs.leaf.integer_leaf.Lts as lts
 
-ruleset exits = (integer-signed, integer-unsigned)
+ruleset exits = (integer-signed, integer-unsigned, integer-size, integer-id)
 
 enum-known-read : tie.Need-enum-known-read
 enum-known-read c = search needs
@@ -29,10 +29,10 @@ returns-2 : tie.Need-returns-2
 returns-2 c = search exits
 
 returns-3 : tie.Need-returns-3
-returns-3 c = search needs
+returns-3 c = search exits
 
 returns-4 : tie.Need-returns-4
-returns-4 c = search needs
+returns-4 c = search exits
 
 pub integer-leaf-spec : {M : Type 1} → statement M
 integer-leaf-spec =

@@ -1,6 +1,7 @@
 use mathlib.Core.Path.{refl}
 use Rattle.leaves.proofs.Leaves.{leaf-number, leaf-text, leaf-enum, leaf-pointer, leaf-unit, leaf-none}
 use borrow.Author.Needs.{needs}
+use Rattle.leaves.proofs.Numbers.{leaf-says}
 use Rattle.leaves.proofs.leaf.leaf_by.Statement.{statement}
 use Rattle.leaves.proofs.leaf.leaf_by.Tie as tie
 use Rattle.leaves.proofs.leaf.leaf_by.Reads as reads
@@ -47,22 +48,22 @@ enum-told-6 : tie.Need-enum-told-6
 enum-told-6 c = search needs
 
 returns : tie.Need-returns
-returns c = search exits
+returns c = leaf-says _ _ (search exits)
 
 returns-2 : tie.Need-returns-2
-returns-2 c = search exits
+returns-2 c = leaf-says _ _ (search exits)
 
 returns-3 : tie.Need-returns-3
-returns-3 c = search exits
+returns-3 c = leaf-says _ _ (search exits)
 
 returns-4 : tie.Need-returns-4
-returns-4 c = search exits
+returns-4 c = leaf-says _ _ (search exits)
 
 returns-5 : tie.Need-returns-5
-returns-5 c = search exits
+returns-5 c = leaf-says _ _ (search exits)
 
 returns-6 : tie.Need-returns-6
-returns-6 c = search exits
+returns-6 c = leaf-says _ _ (search exits)
 
 pub leaf-by-spec : {M : Type 1} → statement M
 leaf-by-spec =

@@ -1,6 +1,8 @@
 use mathlib.Core.Path.{refl}
 use Rattle.leaves.proofs.Leaves.{number-bool, number-real, number-size, number-integer}
 use borrow.Author.Needs.{needs}
+use Rattle.integer.proofs.Numbers.{integer-read-is}
+use Rattle.float.proofs.Numbers.{real-read-is}
 use Rattle.leaves.proofs.leaf.number_leaf.Statement.{statement}
 use Rattle.leaves.proofs.leaf.number_leaf.Tie as tie
 use Rattle.leaves.proofs.leaf.number_leaf.Reads as reads
@@ -13,7 +15,7 @@ use Rattle.integer.proofs.try_from_le_slice.Reads as try-from-le-slice-reads
 use Rattle.type_id.proofs.AdsTypeId.to_u32.Reads as to-u32-reads
 use Rattle.typebook.proofs.block.type_id.Reads as type-id-reads
 
-ruleset exits = (number-bool, number-real, number-size, number-integer, refl)
+ruleset exits = (number-bool, number-real, number-size, number-integer, refl, integer-read-is, real-read-is)
 
 type-id-requires : tie.Need-type-id-requires
 type-id-requires c κs = search needs

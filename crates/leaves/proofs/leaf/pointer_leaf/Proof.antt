@@ -1,6 +1,7 @@
 use mathlib.Core.Path.{refl}
 use Rattle.leaves.proofs.Leaves.{pointer-two, pointer-four, pointer-eight, pointer-other}
 use borrow.Author.Needs.{needs}
+use Rattle.integer.proofs.Numbers.{integer-read-is}
 use Rattle.leaves.proofs.leaf.pointer_leaf.Statement.{statement}
 use Rattle.leaves.proofs.leaf.pointer_leaf.Tie as tie
 use Rattle.leaves.proofs.leaf.pointer_leaf.Reads as reads
@@ -8,7 +9,7 @@ use Rattle.leaves.proofs.leaf.pointer_leaf.Lts as lts
 use Rattle.leaves.proofs.leaf.integer_leaf.Reads as integer-leaf-reads
 use Rattle.integer.proofs.try_from_le_slice.Reads as try-from-le-slice-reads
 
-ruleset exits = (pointer-two, pointer-four, pointer-eight, pointer-other, refl)
+ruleset exits = (pointer-two, pointer-four, pointer-eight, pointer-other, refl, integer-read-is)
 
 try-from-le-slice-requires : tie.Need-try-from-le-slice-requires
 try-from-le-slice-requires c κs = search needs

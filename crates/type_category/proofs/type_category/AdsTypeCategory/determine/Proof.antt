@@ -1,5 +1,6 @@
 use Rattle.type_category.proofs.Steps.{pointer-flag, pointer-name, reference-flag, reference-name, array-is, enum-is, range-is, simple-is}
 use borrow.Author.Needs.{needs}
+use Rattle.type_category.proofs.Numbers.{category-says}
 use Rattle.type_category.proofs.type_category.AdsTypeCategory.determine.Statement.{statement}
 use Rattle.type_category.proofs.type_category.AdsTypeCategory.determine.Tie as tie
 
@@ -12,19 +13,19 @@ is-pointer-requires : tie.Need-is-pointer-requires
 is-pointer-requires c κs = search needs
 
 returns : tie.Need-returns
-returns c = search exits
+returns c = category-says _ _ (search exits)
 
 is-pointer-name-requires : tie.Need-is-pointer-name-requires
 is-pointer-name-requires c κs = search needs
 
 returns-2 : tie.Need-returns-2
-returns-2 c = search exits
+returns-2 c = category-says _ _ (search exits)
 
 is-reference-requires : tie.Need-is-reference-requires
 is-reference-requires c κs = search needs
 
 returns-3 : tie.Need-returns-3
-returns-3 c = search exits
+returns-3 c = category-says _ _ (search exits)
 
 slice-aggregate-starts-with : tie.Need-slice-aggregate-starts-with
 slice-aggregate-starts-with c = search needs
@@ -33,31 +34,31 @@ starts-with-requires : tie.Need-starts-with-requires
 starts-with-requires c κs = search needs
 
 returns-4 : tie.Need-returns-4
-returns-4 c = search exits
+returns-4 c = category-says _ _ (search exits)
 
 dimensions-requires : tie.Need-dimensions-requires
 dimensions-requires c κs = search needs
 
 returns-5 : tie.Need-returns-5
-returns-5 c = search exits
+returns-5 c = category-says _ _ (search exits)
 
 is-enum-requires : tie.Need-is-enum-requires
 is-enum-requires c κs = search needs
 
 returns-6 : tie.Need-returns-6
-returns-6 c = search exits
+returns-6 c = category-says _ _ (search exits)
 
 is-sub-range-name-requires : tie.Need-is-sub-range-name-requires
 is-sub-range-name-requires c κs = search needs
 
 returns-7 : tie.Need-returns-7
-returns-7 c = search exits
+returns-7 c = category-says _ _ (search exits)
 
 simple-requires : tie.Need-simple-requires
 simple-requires c κs = search needs
 
 returns-8 : tie.Need-returns-8
-returns-8 c = search exits
+returns-8 c = category-says _ _ (search exits)
 
 pub determine-spec : {M : Type 1} → statement M
 determine-spec =

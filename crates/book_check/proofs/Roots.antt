@@ -1,0 +1,15 @@
+-- What a call with a root answers: one law for each way that the check of a root can go. Assumes nothing.
+use mathlib.Core.Path.{_≡_}
+use Prim.Native.Nat.{ℕ}
+use Rattle.book_check.specs.declared.RootCheck.{RootCheck}
+use Rattle.book_check.specs.declared.RootCheck.the-variants.{Root, Refused}
+use Rattle.book_check.specs.Check.{atRoot}
+
+module _ {A : Type 0} (refuse go : ℕ → A) (k : RootCheck) {c : RootCheck} (e : k ≡ c) where
+  pub at-refused : (n : ℕ) → k ≡ Refused n → refuse n ≡ atRoot refuse go c
+  unfolding atRoot
+  at-refused n h = rw (← e, h)
+
+  pub at-block : (t : ℕ) → k ≡ Root t → go t ≡ atRoot refuse go c
+  unfolding atRoot
+  at-block t h = rw (← e, h)

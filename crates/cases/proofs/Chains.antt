@@ -1,0 +1,153 @@
+-- The rows over books of more than 30 blocks: that a book is valid is computed in parts. Assumes nothing.
+use mathlib.Core.Path.{_≡_, refl}
+use mathlib.Core.Bool.{Bool, true, false, not, _&&_, _||_}
+use mathlib.Core.List.{List, [], _∷_}
+use Prim.Native.Nat.{ℕ, _+_, _<_}
+use native.Mathlib.Omega.{arith}
+use borrow.Author.Tests.{ne-eqb}
+use lib.ListN.{length}
+use lib.Seq.{take-length}
+use Rattle.number.specs.Le as number-le
+use Rattle.typebook.specs.Book as typebook-book
+use Rattle.block_form.specs.Form as block-form-form
+use Rattle.doubles.specs.Doubles as doubles-doubles
+use Rattle.book_check.specs.Check as book-check-check
+use Rattle.type_id.specs.TypeId as type-id-typeid
+use Rattle.type_names.specs.Text as type-names-text
+use Rattle.type_names.specs.Names as type-names-names
+use Rattle.type_category.specs.Category as type-category-category
+use Rattle.type_category.specs.Number as type-category-number
+use Rattle.type_provider.specs.Find as type-provider-find
+use Rattle.resolvers.specs.Resolve as resolvers-resolve
+use Rattle.resolvers.specs.Calls as resolvers-calls
+use Rattle.book_check.specs.Check.{sizeRight, sums, placed, rootOf}
+use Rattle.book_check.specs.declared.RootCheck.the-variants as root
+use Rattle.doubles.specs.Doubles.{distinct, allFrom, isOther, isFirst}
+use Rattle.doubles.proofs.All.{all-of, each-of}
+use Rattle.typebook.specs.Book.{blocks, nameOf, isType, sameName, isNamed}
+use Rattle.typebook.proofs.Names.{same-eq}
+use Rattle.resolvers.specs.Resolve.{resolveAlias}
+use Rattle.resolvers.specs.Calls.{resolutionNumbers, resolution}
+use Rattle.resolvers.specs.declared.Resolved.{Resolved}
+use Rattle.resolvers.specs.declared.Resolved.the-variants.{Base, Lacks, TooLong}
+use Rattle.cases.specs.Blocks.{block, sumOf}
+use Rattle.cases.specs.Rows.{link, chain, aliases, aliasRow}
+
+-- a book that passes 1 to 4 part by part, and whose block 0 is a type: the answer is what the chain comes to
+by-parts : (b : List ℕ) (r : Resolved) → sizeRight (length b) (length b) ≡ true → sums b ≡ true → placed b ≡ true → distinct b ≡ true
+    → rootOf b 0 ≡ root.Root 0 → resolveAlias b 8 0 ≡ r → aliasRow b ≡ resolutionNumbers (resolution r)
+unfolding book-check-check.checkBlocks book-check-check.checkBook book-check-check.bookNumbers book-check-check.checkRoot book-check-check.atRoot resolvers-calls.rootResolution
+by-parts b r size sum place other base goes = rw (take-length b, size, sum, place, other, base, goes)
+
+-- block m has the m-th name of a chain
+abbrev linked : List ℕ → ℕ → Bool
+linked b m = sameName (nameOf b m) (link m)
+
+apart : (m n : ℕ) → m < n → sameName (link m) (link n) ≡ false
+unfolding sameName
+apart m n l = rw (ne-eqb (0x41 + m) (0x41 + n) (λ e. omega arith))
+
+never : (t : Bool) → not (t && false) ≡ true
+never true = refl
+never false = refl
+
+-- a book whose blocks have these names has no name twice: quicker than to compute each pair
+module _ (b : List ℕ) (h : allFrom (linked b) 0 (blocks b) ≡ true) where
+  name-is : (m : ℕ) → m < blocks b → nameOf b m ≡ link m
+  name-is m l = same-eq (nameOf b m) (link m) (each-of (linked b) (blocks b) h m l)
+
+  other : (n m : ℕ) → n < blocks b → m < n → isOther b (nameOf b n) m ≡ true
+  unfolding isOther isNamed
+  other n m l g = rw (name-is n l, name-is m (omega arith), apart m n g) (never (isType b m))
+
+  links-distinct : distinct b ≡ true
+  unfolding isFirst
+  links-distinct = all-of (isFirst b) (blocks b) (λ n l. by n l (isType b n))
+    where
+      by : (n : ℕ) → n < blocks b → (t : Bool) → not t || allFrom (isOther b (nameOf b n)) 0 n ≡ true
+      by n l false = refl
+      by n l true = all-of (isOther b (nameOf b n)) n (λ m g. other n m l g)
+
+hops-31-size : sizeRight (length (chain 31)) (length (chain 31)) ≡ true
+unfolding aliases block sumOf number-le.leValue number-le.leBytes book-check-check.sizeRight
+hops-31-size = refl
+
+hops-31-sums : sums (chain 31) ≡ true
+unfolding aliases block sumOf number-le.leValue number-le.leBytes block-form-form.sumOf block-form-form.sumRight book-check-check.sumAt doubles-doubles.allFrom
+hops-31-sums = refl
+
+hops-31-placed : placed (chain 31) ≡ true
+unfolding aliases block sumOf number-le.leValue number-le.leBytes book-check-check.placeOf book-check-check.onward book-check-check.placedFrom block-form-form.sumOf block-form-form.sumRight block-form-form.every block-form-form.unusedZero block-form-form.nameForm block-form-form.namesForm block-form-form.flagsForm block-form-form.typeForm block-form-form.fieldForm block-form-form.entryForm
+hops-31-placed = refl
+
+hops-31-names : allFrom (linked (chain 31)) 0 (blocks (chain 31)) ≡ true
+unfolding aliases block sumOf number-le.leValue number-le.leBytes doubles-doubles.allFrom typebook-book.sameName typebook-book.isNamed
+hops-31-names = refl
+
+hops-31-root : rootOf (chain 31) 0 ≡ root.Root 0
+unfolding aliases block sumOf number-le.leValue number-le.leBytes book-check-check.rootOf
+hops-31-root = refl
+
+hops-31-goes : resolveAlias (chain 31) 8 0 ≡ Base 31
+unfolding aliases block sumOf number-le.leValue number-le.leBytes type-id-typeid.idOf type-names-text.isOneOf type-names-text.startsWith type-names-text.contains type-names-names.isPointerName type-names-names.isSubRangeName type-names-names.isPrimitiveName type-category-category.isPointer type-category-category.isReference type-category-category.isAlias type-category-category.orElse type-category-category.isUnion type-category-category.methodsCategory type-category-category.fieldsCategory type-category-category.isEmptyStruct type-category-category.bareCategory type-category-category.sizeCategory type-category-category.complexCategory type-category-category.simpleCategory type-category-category.categoryOf type-category-number.categoryNumbers type-category-number.categoryAt type-provider-find.findFrom type-provider-find.find resolvers-resolve.resolvedNumbers resolvers-resolve.isFollowed resolvers-resolve.onward resolvers-resolve.follow resolvers-resolve.lookUp typebook-book.sameName typebook-book.isNamed
+hops-31-goes = refl
+
+pub hops-31 : _≡_ {A = List ℕ} (aliasRow (chain 31)) (0 ∷ 31 ∷ [])
+unfolding resolvers-calls.resolutionNumbers resolvers-calls.resolution resolvers-resolve.resolvedNumbers
+hops-31 = by-parts (chain 31) (Base 31) hops-31-size hops-31-sums hops-31-placed (links-distinct (chain 31) hops-31-names) hops-31-root hops-31-goes
+
+hops-32-size : sizeRight (length (chain 32)) (length (chain 32)) ≡ true
+unfolding aliases block sumOf number-le.leValue number-le.leBytes book-check-check.sizeRight
+hops-32-size = refl
+
+hops-32-sums : sums (chain 32) ≡ true
+unfolding aliases block sumOf number-le.leValue number-le.leBytes block-form-form.sumOf block-form-form.sumRight book-check-check.sumAt doubles-doubles.allFrom
+hops-32-sums = refl
+
+hops-32-placed : placed (chain 32) ≡ true
+unfolding aliases block sumOf number-le.leValue number-le.leBytes book-check-check.placeOf book-check-check.onward book-check-check.placedFrom block-form-form.sumOf block-form-form.sumRight block-form-form.every block-form-form.unusedZero block-form-form.nameForm block-form-form.namesForm block-form-form.flagsForm block-form-form.typeForm block-form-form.fieldForm block-form-form.entryForm
+hops-32-placed = refl
+
+hops-32-names : allFrom (linked (chain 32)) 0 (blocks (chain 32)) ≡ true
+unfolding aliases block sumOf number-le.leValue number-le.leBytes doubles-doubles.allFrom typebook-book.sameName typebook-book.isNamed
+hops-32-names = refl
+
+hops-32-root : rootOf (chain 32) 0 ≡ root.Root 0
+unfolding aliases block sumOf number-le.leValue number-le.leBytes book-check-check.rootOf
+hops-32-root = refl
+
+hops-32-goes : resolveAlias (chain 32) 8 0 ≡ TooLong
+unfolding aliases block sumOf number-le.leValue number-le.leBytes type-id-typeid.idOf type-names-text.isOneOf type-names-text.startsWith type-names-text.contains type-names-names.isPointerName type-names-names.isSubRangeName type-names-names.isPrimitiveName type-category-category.isPointer type-category-category.isReference type-category-category.isAlias type-category-category.orElse type-category-category.isUnion type-category-category.methodsCategory type-category-category.fieldsCategory type-category-category.isEmptyStruct type-category-category.bareCategory type-category-category.sizeCategory type-category-category.complexCategory type-category-category.simpleCategory type-category-category.categoryOf type-category-number.categoryNumbers type-category-number.categoryAt type-provider-find.findFrom type-provider-find.find resolvers-resolve.resolvedNumbers resolvers-resolve.isFollowed resolvers-resolve.onward resolvers-resolve.follow resolvers-resolve.lookUp typebook-book.sameName typebook-book.isNamed
+hops-32-goes = refl
+
+pub hops-32 : _≡_ {A = List ℕ} (aliasRow (chain 32)) (8 ∷ [])
+unfolding resolvers-calls.resolutionNumbers resolvers-calls.resolution resolvers-resolve.resolvedNumbers
+hops-32 = by-parts (chain 32) (TooLong) hops-32-size hops-32-sums hops-32-placed (links-distinct (chain 32) hops-32-names) hops-32-root hops-32-goes
+
+target-missing-size : sizeRight (length (aliases 0 32)) (length (aliases 0 32)) ≡ true
+unfolding aliases block sumOf number-le.leValue number-le.leBytes book-check-check.sizeRight
+target-missing-size = refl
+
+target-missing-sums : sums (aliases 0 32) ≡ true
+unfolding aliases block sumOf number-le.leValue number-le.leBytes block-form-form.sumOf block-form-form.sumRight book-check-check.sumAt doubles-doubles.allFrom
+target-missing-sums = refl
+
+target-missing-placed : placed (aliases 0 32) ≡ true
+unfolding aliases block sumOf number-le.leValue number-le.leBytes book-check-check.placeOf book-check-check.onward book-check-check.placedFrom block-form-form.sumOf block-form-form.sumRight block-form-form.every block-form-form.unusedZero block-form-form.nameForm block-form-form.namesForm block-form-form.flagsForm block-form-form.typeForm block-form-form.fieldForm block-form-form.entryForm
+target-missing-placed = refl
+
+target-missing-names : allFrom (linked (aliases 0 32)) 0 (blocks (aliases 0 32)) ≡ true
+unfolding aliases block sumOf number-le.leValue number-le.leBytes doubles-doubles.allFrom typebook-book.sameName typebook-book.isNamed
+target-missing-names = refl
+
+target-missing-root : rootOf (aliases 0 32) 0 ≡ root.Root 0
+unfolding aliases block sumOf number-le.leValue number-le.leBytes book-check-check.rootOf
+target-missing-root = refl
+
+target-missing-goes : resolveAlias (aliases 0 32) 8 0 ≡ Lacks 31
+unfolding aliases block sumOf number-le.leValue number-le.leBytes type-id-typeid.idOf type-names-text.isOneOf type-names-text.startsWith type-names-text.contains type-names-names.isPointerName type-names-names.isSubRangeName type-names-names.isPrimitiveName type-category-category.isPointer type-category-category.isReference type-category-category.isAlias type-category-category.orElse type-category-category.isUnion type-category-category.methodsCategory type-category-category.fieldsCategory type-category-category.isEmptyStruct type-category-category.bareCategory type-category-category.sizeCategory type-category-category.complexCategory type-category-category.simpleCategory type-category-category.categoryOf type-category-number.categoryNumbers type-category-number.categoryAt type-provider-find.findFrom type-provider-find.find resolvers-resolve.resolvedNumbers resolvers-resolve.isFollowed resolvers-resolve.onward resolvers-resolve.follow resolvers-resolve.lookUp typebook-book.sameName typebook-book.isNamed
+target-missing-goes = refl
+
+pub target-missing : _≡_ {A = List ℕ} (aliasRow (aliases 0 32)) (7 ∷ 31 ∷ [])
+unfolding resolvers-calls.resolutionNumbers resolvers-calls.resolution resolvers-resolve.resolvedNumbers
+target-missing = by-parts (aliases 0 32) (Lacks 31) target-missing-size target-missing-sums target-missing-placed (links-distinct (aliases 0 32) target-missing-names) target-missing-root target-missing-goes

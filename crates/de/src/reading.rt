@@ -1,0 +1,40 @@
+// What the functions of the reader hand down: a type, and where a value of it stands.
+use type_category::type_category::AdsTypeCategory;
+
+// A type: its block as it was named, the block that its aliases resolve to, and the category of that.
+pub struct Typed {
+    pub named: u32,
+    pub resolved: u32,
+    pub category: AdsTypeCategory,
+}
+
+// A value of a type, the pointer width, and the levels left.
+pub struct Reading {
+    pub typed: Typed,
+    pub width: u8,
+    pub left: usize,
+}
+
+// A field's block, and its entry of a plan.
+pub struct Member {
+    pub f: u32,
+    pub entry: u64,
+    pub width: u8,
+    pub left: usize,
+}
+
+// Dimension d of array t, and the type of the array's elements.
+pub struct Place {
+    pub d: u8,
+    pub t: u32,
+    pub element: Typed,
+    pub width: u8,
+    pub left: usize,
+}
+
+// What a field is in the bytes of its struct: its type, and the bytes from the first number up to the second; or the refusal, document
+// 01's number and the block that 7 carries (else 0).
+pub enum Part {
+    Value(Typed, usize, usize),
+    Stop(u8, u32),
+}

@@ -1,0 +1,96 @@
+// Which fields of a type are the first of their name: found once for all fields of a type, in a set of bits, so that a field's own block
+// leads to it without a search among the names. A bit says so much and no more: where none is set, the names are searched.
+ghost use mathlib.Core.Path.{_≡_};
+ghost use Prim.Native.Nat.{_+_, _*_, _≤_, _<_};
+ghost use lib.ListN.{length};
+ghost use Rattle.typebook.specs.Book.{fieldsOf, entriesOf, nameOf};
+ghost use Rattle.named_blocks.specs.Named.{fieldNamed};
+ghost use Rattle.first_fields.specs.Firsts.{Met, Firsts, Noted};
+use marks::bit;
+use marks::hash;
+use marks::is_marked;
+use marks::mark;
+use marks::set_bit;
+use named_blocks::field_by_name;
+use type_provider::Found;
+use typebook::block;
+use zeros::clear_numbers;
+
+// Field i of type block t, after those before it, whose names' hashes are marked in `names`: it is the first of its name if its own hash
+// is not marked.
+fn note_field(book: &[u8], t: u32, i: u32, names: &mut [u32], firsts: &mut [u32])
+    requires { ⌜ (t + fieldsOf (now book) t + entriesOf (now book) t < 65536) × (i < fieldsOf (now book) t) × (i < 32 * length (now firsts)) × (0 < length (now names)) × (length (now names) ≤ 32768) × Met (now book) t (now names) i × Firsts (now book) t (now firsts) ⌝ }
+    ensures { λ _. ⌜ Noted (now (book .entry)) t i (now (names .exit)) (now (firsts .exit)) ⌝ }
+{
+    let h = hash(block::name(book, t + 1 + i));
+    if is_marked(names, h) {
+        return;
+    }
+    mark(names, h);
+    set_bit(firsts, i);
+}
+
+// All fields of type block t in order. What the marks held before may cost a bit, which is then not set.
+fn note_fields(book: &[u8], t: u32, names: &mut [u32], firsts: &mut [u32])
+    requires { ⌜ (t + fieldsOf (now book) t + entriesOf (now book) t < 65536) × (fieldsOf (now book) t ≤ 32 * length (now firsts)) × (0 < length (now names)) × (length (now names) ≤ 32768) × Firsts (now book) t (now firsts) ⌝ }
+    ensures { λ _. ⌜ Firsts (now (book .entry)) t (now (firsts .exit)) ⌝ }
+{
+    let n = block::fields(book, t);
+    let mut i: u32 = 0;
+    while i < n {
+        note_field(book, t, i, names, firsts);
+        i += 1;
+    }
+}
+
+// With marks for up to 256 names, on the stack.
+fn note_few(book: &[u8], t: u32, firsts: &mut [u32])
+    requires { ⌜ (t + fieldsOf (now book) t + entriesOf (now book) t < 65536) × (fieldsOf (now book) t ≤ 32 * length (now firsts)) × Firsts (now book) t (now firsts) ⌝ }
+    ensures { λ _. ⌜ Firsts (now (book .entry)) t (now (firsts .exit)) ⌝ }
+{
+    let mut names = [0u32; 256];
+    note_fields(book, t, &mut names, firsts);
+}
+
+// With marks for some thousand names. They are few enough for each level of a walk to have them on its stack; of a longer type more names
+// find their marks taken, and more fields are searched.
+fn note_many(book: &[u8], t: u32, firsts: &mut [u32])
+    requires { ⌜ (t + fieldsOf (now book) t + entriesOf (now book) t < 65536) × (fieldsOf (now book) t ≤ 32 * length (now firsts)) × Firsts (now book) t (now firsts) ⌝ }
+    ensures { λ _. ⌜ Firsts (now (book .entry)) t (now (firsts .exit)) ⌝ }
+{
+    let mut names = [0u32; 1024];
+    note_fields(book, t, &mut names, firsts);
+}
+
+// The bits of type block t's fields. Where there are fewer bits than fields none is set.
+pub fn note_firsts(book: &[u8], t: u32, firsts: &mut [u32])
+    requires { ⌜ t + fieldsOf (now book) t + entriesOf (now book) t < 65536 ⌝ }
+    ensures { λ _. ⌜ Firsts (now (book .entry)) t (now (firsts .exit)) ⌝ }
+{
+    clear_numbers(firsts);
+    let n = block::fields(book, t) as usize;
+    if firsts.len() < (n + 31) / 32 {
+        return;
+    }
+    if n <= 256 {
+        note_few(book, t, firsts);
+        return;
+    }
+    note_many(book, t, firsts);
+}
+
+// The first field of type block t that has the name of block f.
+pub fn field_named_as(book: &[u8], t: u32, firsts: &[u32], f: u32) -> Found
+    requires { ⌜ (t + fieldsOf (now book) t + entriesOf (now book) t < 65536) × Firsts (now book) t (now firsts) ⌝ }
+    ensures { λ r. ⌜ r ≡ fieldNamed (now (book .entry)) t (nameOf (now (book .entry)) f) ⌝ }
+{
+    if t < f {
+        let i = f - t - 1;
+        if i < block::fields(book, t) {
+            if bit(firsts, i) {
+                return Found::At(f);
+            }
+        }
+    }
+    field_by_name(book, t, block::name(book, f))
+}

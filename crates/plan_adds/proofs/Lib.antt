@@ -1,0 +1,3 @@
+pub mod Fetches
+pub mod Dues
+pub mod Lists

@@ -1,0 +1,19 @@
+use Rattle.plan_adds.proofs.Fetches.{theirs-is}
+use borrow.Author.Needs.{needs}
+use Rattle.plan_adds.proofs.find_theirs.Statement.{statement}
+use Rattle.plan_adds.proofs.find_theirs.Tie as tie
+
+-- src/lib.rt:58:32
+type-name-requires : tie.Need-type-name-requires
+type-name-requires c κs = search needs
+
+-- src/lib.rt:58:5
+find-by-requires : tie.Need-find-by-requires
+find-by-requires c κs = search needs
+
+-- src/lib.rt:54:1
+returns : tie.Need-returns
+returns c = search theirs-is
+
+pub find-theirs-spec : {M : Type 1} → statement M
+find-theirs-spec = tie.close (tie.spec type-name-requires find-by-requires returns)

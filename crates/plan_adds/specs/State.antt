@@ -1,0 +1,73 @@
+-- What is known of our buffer in the midst of the adds, and what their parts promise each other. Assumes nothing.
+use mathlib.Core.Path.{_≡_}
+use mathlib.Core.Bool.{true}
+use mathlib.Core.List.{List}
+use Prim.Native.Nat.{ℕ}
+use lib.ListN.{take}
+use Rattle.typebook.specs.Book.{isType}
+use Rattle.book_check.specs.declared.BookCheck.the-variants.{Valid}
+use Rattle.book_check.specs.Check.{checkBook}
+use Rattle.type_adds.specs.Knows.{Knows}
+use Rattle.closure.specs.Calls.{Ours}
+use Rattle.plan_adds.specs.declared.Fetched.{Fetched}
+use Rattle.plan_adds.specs.declared.Fetched.the-variants as fetched
+use Rattle.plan_adds.specs.declared.Added.{Added}
+use Rattle.plan_adds.specs.declared.Added.the-variants as added
+use Rattle.plan_adds.specs.declared.Swept.{Swept}
+use Rattle.plan_adds.specs.declared.Swept.the-variants as swept
+use Rattle.plan_adds.specs.Adds.{ours, Adding, on, lacks, room, fetchOf, dueOf, sweepBy}
+
+-- our book is valid, and the marks say which of the controller's types it knows
+pub record Ready (c buffer : List ℕ) (len : ℕ) (known : List ℕ) : Type 0 where
+  pub valid : checkBook buffer len ≡ Valid
+  pub knows : Knows c (take len buffer) known
+
+-- the types of a book stay types
+pub record Kept (buffer : List ℕ) (len : ℕ) (after : List ℕ) (len′ : ℕ) : Type 0 where
+  pub types : (m : ℕ) → isType (take len buffer) m ≡ true → isType (take len′ after) m ≡ true
+
+-- what is said of one type: its definition is added, or it was known; or the controller's book lacks it, or there is no room
+abbrev pub fetchedLength : ℕ → Fetched → ℕ
+fetchedLength len (fetched.More l) = l
+fetchedLength len fetched.Lacks = len
+fetchedLength len fetched.Full = len
+
+unfoldable pub fetchedSaid : ℕ → ℕ → Fetched → List ℕ → Adding
+fetchedSaid b len (fetched.More l) buffer = on (ours buffer l)
+fetchedSaid b len fetched.Lacks buffer = lacks b (ours buffer len)
+fetchedSaid b len fetched.Full buffer = room (ours buffer len)
+
+pub record FetchedIs (c : List ℕ) (b : ℕ) (buffer : List ℕ) (len : ℕ) (r : Fetched) (after known : List ℕ) : Type 0 where
+  pub is : fetchedSaid b len r after ≡ fetchOf c b (ours buffer len)
+  pub ready : Ready c after (fetchedLength len r) known
+  pub kept : Kept buffer len after (fetchedLength len r)
+
+-- what is said of several types
+abbrev pub addedLength : Added → ℕ
+addedLength (added.More l) = l
+addedLength (added.NotFound b l) = l
+addedLength (added.Full l) = l
+
+unfoldable pub addedSaid : Added → List ℕ → Adding
+addedSaid (added.More l) buffer = on (ours buffer l)
+addedSaid (added.NotFound b l) buffer = lacks b (ours buffer l)
+addedSaid (added.Full l) buffer = room (ours buffer l)
+
+pub record AddedIs (adding : Adding) (c buffer : List ℕ) (len : ℕ) (r : Added) (after known : List ℕ) : Type 0 where
+  pub is : addedSaid r after ≡ adding
+  pub ready : Ready c after (addedLength r) known
+  pub kept : Kept buffer len after (addedLength r)
+
+-- what is said of one block that is swept
+abbrev pub sweptLength : ℕ → Swept → ℕ
+sweptLength len (swept.More l due) = l
+sweptLength len swept.Full = len
+
+unfoldable pub sweptSaid : (ℕ → Ours → Adding) → ℕ → Swept → List ℕ → Adding
+sweptSaid go len (swept.More l due) buffer = go due (ours buffer l)
+sweptSaid go len swept.Full buffer = room (ours buffer len)
+
+pub record SweptIs (c : List ℕ) (width i due : ℕ) (buffer : List ℕ) (len : ℕ) (r : Swept) (after known : List ℕ) : Type 0 where
+  pub is : (go : ℕ → Ours → Adding) → sweptSaid go len r after ≡ sweepBy go c i (ours buffer len) (dueOf (take len buffer) width i due)
+  pub ready : Ready c after (sweptLength len r) known
+  pub kept : Kept buffer len after (sweptLength len r)

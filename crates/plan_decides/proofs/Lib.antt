@@ -1,0 +1,4 @@
+pub mod Below
+pub mod Fine
+pub mod Answers
+pub mod Items

@@ -1,0 +1,154 @@
+-- One round, and the rounds: one law for each way out. Assumes nothing.
+use mathlib.Core.Path.{_≡_, refl, sym, ap, _∙_}
+use mathlib.Core.Bool.{Bool, true, false, cond}
+use mathlib.Core.List.{List, [], _∷_}
+use Prim.Native.Nat.{ℕ, zero, suc, _-_, _/_, _≤_, _<_}
+use native.Mathlib.Omega.{arith}
+use lib.ListN.{length, take, length-take}
+use lib.Seq.{length-take-le}
+use Rattle.type_cache.proofs.Appends.{refused-cut}
+use Rattle.typebook.specs.Book.{isType}
+use Rattle.book_check.proofs.Numbers.{valid-number}
+use Rattle.book_check.specs.declared.BookCheck.the-variants.{Valid}
+use Rattle.book_check.specs.Check.{checkBook, ValidBook}
+use Rattle.book_check.proofs.Valid.{valid-book}
+use Rattle.type_adds.specs.Knows.{Knows}
+use Rattle.walks.specs.Walk.{Walk, walkOf}
+use Rattle.walks.specs.Reads.{listed, whole}
+use Rattle.read_modify_write.specs.Reads.{rmwOf}
+use Rattle.read_modify_write.specs.Calls.{rmwAnswer}
+use Rattle.closure.specs.Calls.{Ours}
+use Rattle.plan_adds.specs.declared.Added.{Added}
+use Rattle.plan_adds.specs.Adds.{ours, addAll}
+use Rattle.plan_adds.specs.State.{Ready, addedSaid, addedLength, AddedIs}
+use Rattle.plan_save.specs.declared.Plan.{Plan}
+use Rattle.plan_save.specs.declared.Plan.the-variants as plan
+use Rattle.plan_save.specs.declared.Asked.{Asked}
+use Rattle.plan_save.specs.declared.Asked.the-variants.{Lists, NotWhole}
+use Rattle.plan_save.specs.declared.Round.{Round}
+use Rattle.plan_save.specs.declared.Round.the-variants.{Again, Is}
+use Rattle.plan_save.specs.Rounds.{Outcome, ruled, nextRound, closing, notWhole, roundOf, planFrom}
+use Rattle.plan_save.specs.State.{planSaid, roundSaid, Follows, RoundIs, AskSaid, AskedIs, DecidedIs, AfterAdds, AddedRound, PlannedIs}
+
+pub ready-book : (c buffer : List ℕ) (len : ℕ) (known : List ℕ) → Ready c buffer len known → ValidBook (take len buffer)
+ready-book c buffer len known o = valid-book buffer len (o .valid)
+
+pub ready-of : (c buffer : List ℕ) (len : ℕ) (known : List ℕ) → checkBook buffer len ≡ Valid → Knows c (take len buffer) known → Ready c buffer len known
+ready-of c buffer len known v k = record { valid = v; knows = k }
+
+-- the half of an index, and a book in its buffer
+pub half-cut : (l : List ℕ) → length l / 2 ≡ length (take (length l / 2) l)
+half-cut l = sym (length-take-le (length l / 2) l (omega arith))
+
+pub half-of : (l m : List ℕ) → length m ≡ length l → length l / 2 ≡ length (take (length l / 2) m)
+half-of l m e = sym (length-take-le (length l / 2) m (omega arith))
+
+pub book-cut : (buffer : List ℕ) (len : ℕ) → checkBook buffer len ≡ Valid → len ≡ length (take len buffer)
+book-cut buffer len v = refused-cut buffer len buffer (checkBook buffer len) refl 0 (valid-number _ v) refl
+
+pub book-fits : (buffer : List ℕ) (len : ℕ) → checkBook buffer len ≡ Valid → len ≤ length buffer
+book-fits buffer len v = omega (arith, book-cut buffer len v, length-take len buffer)
+
+-- ---- one round
+
+none-long : (l : List ℕ) → length l ≡ 0 → l ≡ []
+none-long [] e = refl
+none-long (x ∷ l) e = absurd (omega arith)
+
+module _ (w : Walk) (a : Asked) (list : List ℕ) (o : AskedIs w a list) where
+  lists : (n : ℕ) → a ≡ Lists n → (whole w ≡ true) × (n ≡ length (listed w)) × (take n list ≡ listed w)
+  lists n e = rw e at (o .says)
+
+  not-whole : (k : ℕ) → a ≡ NotWhole k → (whole w ≡ false) × (k ≡ notWhole w)
+  not-whole k e = rw e at (o .says)
+
+  pub lists-fit : (n : ℕ) → a ≡ Lists n → n ≤ length list
+  lists-fit n e =
+      let q = lists n e in
+      let z : length (take n list) ≡ n = ap (λ (l : List ℕ). length l) (q .2) ∙ sym (q .1) in
+      omega (arith, length-take n list)
+
+module _ (c : List ℕ) (width root : ℕ) (buffer : List ℕ) (len : ℕ) (a : Asked) (list : List ℕ) (o : AskedIs (walkOf (take len buffer) width root) a list) where
+  abbrev w : Walk
+  w = walkOf (take len buffer) width root
+
+  pub round-not-whole : (k : ℕ) → a ≡ NotWhole k → (known : List ℕ) → RoundIs c width root buffer len (Is (plan.Refused k len)) buffer known
+  unfolding roundSaid planSaid roundOf
+  round-not-whole k e known =
+      let q = not-whole w a list o k e in
+      record { is = λ go. rw (q .0, q .1); follows = tt }
+
+  module _ (n : ℕ) (e : a ≡ Lists n) where
+    q : (whole w ≡ true) × (n ≡ length (listed w)) × (take n list ≡ listed w)
+    q = lists w a list o n e
+
+    pub round-none : n ≡ 0 → (p : Plan) → DecidedIs (rmwAnswer true (take len buffer) width root) len p → (known : List ℕ)
+        → RoundIs c width root buffer len (Is p) buffer known
+    unfolding roundSaid roundOf closing rmwAnswer
+    round-none z p d known =
+        let y : listed w ≡ [] = none-long (listed w) (sym (q .1) ∙ z) in
+        record { is = λ go. d .is buffer ∙ sym (rw (q .0, y)); follows = tt }
+
+    module _ (z : n ≡ 0 → ⊥) (h : isType (take len buffer) root ≡ true) (r : Round) (after known : List ℕ)
+        (g : AddedRound c width (take n list) buffer len r after known) where
+      some : (l : List ℕ) → n ≡ length l → (go : Ours → Outcome) → closing go c width w (ours buffer len) l ≡ nextRound go (addAll c width l (ours buffer len))
+      unfolding closing
+      some [] y go = absurd (z y)
+      some (b ∷ l) y go = refl
+
+      goes-on : (go : Ours → Outcome) → roundSaid go r after ≡ roundOf go c width w (ours buffer len)
+      unfolding roundOf
+      goes-on go =
+          g .is go ∙ ap (λ (l : List ℕ). nextRound go (addAll c width l (ours buffer len))) (q .2) ∙ sym (rw (q .0) (some (listed w) (q .1) go))
+
+      pub round-adds : RoundIs c width root buffer len r after known
+      round-adds = record { is = goes-on; follows = g .follows root h }
+
+-- the adds of a round
+module _ (c : List ℕ) (width : ℕ) (bs buffer : List ℕ) (len : ℕ) (d : Added) (after known : List ℕ)
+    (g : AddedIs (addAll c width bs (ours buffer len)) c buffer len d after known) (r : Round) (f : AfterAdds d r) where
+  next : (root : ℕ) → isType (take len buffer) root ≡ true → (r′ : Round) → r ≡ r′ → Follows c root r′ after known
+  next root h (Again l) y =
+      let s : addedLength d ≡ l = f .same l y in
+      (rw s at (g .ready), rw s at (g .kept .types root h))
+  next root h (Is p) y = tt
+
+  pub adds-are : AddedRound c width bs buffer len r after known
+  adds-are = record { is = λ go. f .is go after ∙ ap (nextRound go) (g .is); follows = λ root h. next root h r refl }
+
+-- ---- the rounds
+pub record RoundsTo (o : Outcome) (c : List ℕ) (width root : ℕ) (buffer : List ℕ) (at : ℕ) (known : List ℕ) (left : ℕ) : Type 0 where
+  pub rest : o ≡ planFrom c width root left (ours buffer at)
+  pub ready : Ready c buffer at known
+  pub holds : isType (take at buffer) root ≡ true
+
+pub rounds-start : (c : List ℕ) (width root : ℕ) (buffer : List ℕ) (len : ℕ) (known : List ℕ) → Ready c buffer len known → isType (take len buffer) root ≡ true
+    → RoundsTo (planFrom c width root 65536 (ours buffer len)) c width root buffer len known 65536
+rounds-start c width root buffer len known o h = record { rest = refl; ready = o; holds = h }
+
+module _ (o : Outcome) (c : List ℕ) (width root : ℕ) (buffer : List ℕ) (at : ℕ) (known : List ℕ) (left : ℕ)
+    (inv : RoundsTo o c width root buffer at known left) where
+  pub rounds-ready : Ready c buffer at known
+  rounds-ready = inv .ready
+
+  pub rounds-holds : isType (take at buffer) root ≡ true
+  rounds-holds = inv .holds
+
+  pub rounds-end : left ≤ 0 → PlannedIs o (plan.Refused 15 at) buffer
+  unfolding planFrom planSaid
+  rounds-end h = let q : left ≡ 0 = omega arith in record { is = sym (inv .rest ∙ rw q) }
+
+  module _ (l : 0 < left) (r : Round) (after known′ : List ℕ) (g : RoundIs c width root buffer at r after known′) where
+    goes : o ≡ roundSaid (planFrom c width root (left - 1)) r after
+    unfolding planFrom
+    goes = let q : left ≡ suc (left - 1) = omega arith in inv .rest ∙ ap (λ (k : ℕ). planFrom c width root k (ours buffer at)) q ∙ sym (g .is (planFrom c width root (left - 1)))
+
+    pub rounds-again : (k : ℕ) → r ≡ Again k → RoundsTo o c width root after k known′ (left - 1)
+    unfolding roundSaid
+    rounds-again k e =
+        let f : Follows c root (Again k) after known′ = rw e at (g .follows) in
+        record { rest = goes ∙ rw e; ready = f .0; holds = f .1 }
+
+    pub rounds-is : (p : Plan) → r ≡ Is p → PlannedIs o p after
+    unfolding roundSaid
+    rounds-is p e = record { is = sym (goes ∙ rw e) }

@@ -1,0 +1,39 @@
+use Rattle.plan_save.proofs.Turns.{half-cut, half-of, adds-are}
+use borrow.Author.Needs.{needs}
+use Rattle.plan_save.proofs.add_round.Statement.{statement}
+use Rattle.plan_save.proofs.add_round.Tie as tie
+
+-- src/lib.rt:143:49
+slice-aggregate-add-all : tie.Need-slice-aggregate-add-all
+slice-aggregate-add-all c = search (half-cut, half-of)
+
+-- src/lib.rt:143:16
+add-all-requires : tie.Need-add-all-requires
+add-all-requires c κs = search needs
+
+-- src/lib.rt:143:5
+after-adds-requires : tie.Need-after-adds-requires
+after-adds-requires c κs = search needs
+
+-- src/lib.rt:129:1
+same-length : tie.Need-same-length
+same-length c = search needs
+
+-- src/lib.rt:129:1
+same-length-2 : tie.Need-same-length-2
+same-length-2 c = search needs
+
+-- src/lib.rt:129:1
+returns : tie.Need-returns
+returns c = search adds-are
+
+pub add-round-spec : {M : Type 1} → statement M
+add-round-spec =
+    tie.close
+    (tie.spec
+    slice-aggregate-add-all
+    add-all-requires
+    after-adds-requires
+    same-length
+    same-length-2
+    returns)

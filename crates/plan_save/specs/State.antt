@@ -1,0 +1,76 @@
+-- What is known of our buffer in the midst of a plan, and what the parts of the call promise each other. No contract of a public function
+-- cites this. Assumes nothing.
+use mathlib.Core.Path.{_≡_}
+use mathlib.Core.Bool.{true, false}
+use mathlib.Core.List.{List}
+use Prim.Native.Nat.{ℕ}
+use lib.ListN.{length, take}
+use Rattle.typebook.specs.Book.{isType}
+use Rattle.walks.specs.Scratch.{zeroed}
+use Rattle.read_modify_write.specs.declared.Rmw.{Rmw}
+use Rattle.walks.specs.Walk.{Walk, walkOf}
+use Rattle.walks.specs.Reads.{listed, whole}
+use Rattle.closure.specs.Calls.{Ours}
+use Rattle.plan_adds.specs.declared.Added.{Added}
+use Rattle.plan_save.specs.declared.Plan.{Plan}
+use Rattle.plan_save.specs.declared.Plan.the-variants as plan
+use Rattle.plan_save.specs.declared.Asked.{Asked}
+use Rattle.plan_save.specs.declared.Asked.the-variants as asked
+use Rattle.plan_save.specs.declared.Round.{Round}
+use Rattle.plan_save.specs.declared.Round.the-variants as round
+use Rattle.plan_save.specs.Rounds.{Outcome, decided, lacking, refused, ruled, nextRound, notWhole, roundOf}
+use Rattle.plan_adds.specs.Adds.{ours, addAll}
+use Rattle.plan_adds.specs.State.{Ready, addedLength, addedSaid}
+
+-- an answer with our buffer
+unfoldable pub planSaid : Plan → List ℕ → Outcome
+planSaid (plan.Yes len) buffer = decided true (ours buffer len)
+planSaid (plan.No len) buffer = decided false (ours buffer len)
+planSaid (plan.NotFound b len) buffer = lacking b (ours buffer len)
+planSaid (plan.Refused n len) buffer = refused n (ours buffer len)
+
+-- what is said of one round
+unfoldable pub roundSaid : (Ours → Outcome) → Round → List ℕ → Outcome
+roundSaid go (round.Again l) buffer = go (ours buffer l)
+roundSaid go (round.Is p) buffer = planSaid p buffer
+
+-- what holds where another round follows
+abbrev pub Follows : List ℕ → ℕ → Round → List ℕ → List ℕ → Type 0
+Follows c root (round.Again l) after known = Ready c after l known × (isType (take l after) root ≡ true)
+Follows c root (round.Is p) after known = Unit {0}
+
+pub record RoundIs (c : List ℕ) (width root : ℕ) (buffer : List ℕ) (len : ℕ) (r : Round) (after known : List ℕ) : Type 0 where
+  pub is : (go : Ours → Outcome) → roundSaid go r after ≡ roundOf go c width (walkOf (take len buffer) width root) (ours buffer len)
+  pub follows : Follows c root r after known
+
+-- what is said of an ask
+abbrev pub AskSaid : Walk → Asked → List ℕ → Type 0
+AskSaid w (asked.Lists n) list = (whole w ≡ true) × (n ≡ length (listed w)) × (take n list ≡ listed w)
+AskSaid w (asked.NotWhole k) list = (whole w ≡ false) × (k ≡ notWhole w)
+
+pub record AskedIs (w : Walk) (r : Asked) (list : List ℕ) : Type 0 where
+  pub says : AskSaid w r list
+
+-- what is said of read-modify-write, whatever our buffer holds after our book
+pub record DecidedIs (a : Rmw) (len : ℕ) (r : Plan) : Type 0 where
+  pub is : (buffer : List ℕ) → planSaid r buffer ≡ ruled a (ours buffer len)
+
+-- what is said of a round by its adds
+pub record AfterAdds (a : Added) (r : Round) : Type 0 where
+  pub is : (go : Ours → Outcome) (buffer : List ℕ) → roundSaid go r buffer ≡ nextRound go (addedSaid a buffer)
+  pub same : (l : ℕ) → r ≡ round.Again l → addedLength a ≡ l
+
+-- what is said of a round that adds the types of a list of blocks
+pub record AddedRound (c : List ℕ) (width : ℕ) (bs buffer : List ℕ) (len : ℕ) (r : Round) (after known : List ℕ) : Type 0 where
+  pub is : (go : Ours → Outcome) → roundSaid go r after ≡ nextRound go (addAll c width bs (ours buffer len))
+  pub follows : (root : ℕ) → isType (take len buffer) root ≡ true → Follows c root r after known
+
+-- what is said of the rounds
+pub record PlannedIs (o : Outcome) (r : Plan) (after : List ℕ) : Type 0 where
+  pub is : planSaid r after ≡ o
+
+-- and of the call where all was checked
+pub record PlannedIn (o : Outcome) (sc hints : List ℕ) (r : Plan) (after sc′ hints′ : List ℕ) : Type 0 where
+  pub is : planSaid r after ≡ o
+  pub scratch : sc′ ≡ zeroed sc
+  pub index : hints′ ≡ zeroed hints

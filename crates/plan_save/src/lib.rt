@@ -1,0 +1,353 @@
+// The plan of a save: which types our book lacks is asked, they are added from the controller's book, and it is asked again, until none
+// lacks; then read-modify-write is decided. One call makes the whole list of asks and adds, so none can be left out.
+ghost use mathlib.Core.Path.{_≡_};
+ghost use mathlib.Core.Bool.{true};
+ghost use Prim.Native.Nat.{_≤_};
+ghost use lib.ListN.{length, take};
+ghost use Rattle.typebook.specs.Book.{isType};
+ghost use Rattle.number.specs.Answer.{refusalOf};
+ghost use Rattle.book_check.specs.declared.BookCheck.the-variants.{Valid};
+ghost use Rattle.book_check.specs.Check.{ValidBook, checkBook, bookNumbers, checkRoot};
+ghost use Rattle.book_check.specs.declared.RootCheck.the-variants.{Root};
+ghost use Rattle.type_adds.specs.Knows.{Knows};
+ghost use Rattle.walks.specs.Walk.{walkOf};
+ghost use Rattle.read_modify_write.specs.Calls.{rmwAnswer};
+ghost use Rattle.plan_save.specs.Rounds.{planFrom};
+ghost use Rattle.plan_adds.specs.Adds.{ours};
+ghost use Rattle.plan_adds.specs.State.{Ready};
+ghost use Rattle.plan_save.specs.Call.{planRefusal, PlanIs};
+ghost use Rattle.plan_save.specs.State.{AskedIs, DecidedIs, AfterAdds, AddedRound, RoundIs, PlannedIs, PlannedIn};
+use book_check::BookCheck;
+use book_check::RootCheck;
+use book_check::check_book;
+use book_check::check_root;
+use missing_types::Missing;
+use plan_adds::Added;
+use plan_adds::add_all;
+use read_modify_write::Rmw;
+use type_adds::mark_known;
+use type_index::fill_names;
+use zeros::clear_numbers;
+
+// The numbers that a walk needs of the scratch.
+const SCRATCH: usize = 16384;
+
+// The blocks of a book at most, and so the rounds that can add a type.
+const MAX_BLOCKS: u32 = 65536;
+
+// What `plan_save` answers, always with the length of our book then.
+pub enum Plan {
+    // Read the bytes, alter, and write them back.
+    Yes(usize),
+    // Send a fresh image.
+    No(usize),
+    // 7, with the block whose type name is in neither book.
+    NotFound(u32, usize),
+    // Any other refusal, by document 01's number.
+    Refused(u8, usize),
+}
+
+// What an ask says: how many blocks are listed, or that it is not whole, with 9 or 8.
+enum Asked {
+    Lists(usize),
+    NotWhole(u8),
+}
+
+// After a round: another one, with the length of our book, or the answer.
+enum Round {
+    Again(usize),
+    Is(Plan),
+}
+
+// ---- rounds
+
+// Asks for the missing types of the root, over an index that is made for it.
+fn ask(
+    book: &[u8],
+    index: &mut [u32],
+    width: u8,
+    root: u32,
+    scratch: &mut [u32],
+    list: &mut [u32],
+) -> Asked
+    requires { ⌜ ValidBook (now book) × (isType (now book) root ≡ true) × (16384 ≤ length (now scratch)) × (4096 ≤ length (now list)) ⌝ }
+    ensures { λ r. ⌜ AskedIs (walkOf (now (book .entry)) width root) r (now (list .exit)) ⌝ }
+{
+    fill_names(book, index);
+    let missing = missing_types::missing_types_in(book, index, width, root, scratch, list);
+    match missing {
+        Missing::Listed(n, whole, count) => {
+            if whole {
+                return Asked::Lists(n);
+            }
+            if count == 4097 {
+                return Asked::NotWhole(9);
+            }
+            Asked::NotWhole(8)
+        }
+        Missing::Refused(k) => Asked::NotWhole(k),
+    }
+}
+
+// Read-modify-write of a book that lacks no type that is needed, with the length of our book.
+fn decide(book: &[u8], index: &[u32], width: u8, root: u32, scratch: &mut [u32], len: usize) -> Plan
+    requires { ⌜ ValidBook (now book) × (isType (now book) root ≡ true) × (16384 ≤ length (now scratch)) ⌝ }
+    ensures { λ r. ⌜ DecidedIs (rmwAnswer true (now (book .entry)) width root) len r ⌝ }
+{
+    let answer = read_modify_write::requires_read_modify_write_in(
+        book,
+        index,
+        width,
+        root,
+        scratch,
+    );
+    match answer {
+        Rmw::Yes => Plan::Yes(len),
+        Rmw::No => Plan::No(len),
+        Rmw::NotFound(b) => Plan::NotFound(b, len),
+        Rmw::Refused(k) => Plan::Refused(k, len),
+    }
+}
+
+// What follows from the adds of a round.
+fn after_adds(added: Added) -> Round
+    ensures { λ r. ⌜ AfterAdds added r ⌝ }
+{
+    match added {
+        Added::More(l) => Round::Again(l),
+        Added::NotFound(b, l) => Round::Is(Plan::NotFound(b, l)),
+        Added::Full(l) => Round::Is(Plan::Refused(15, l)),
+    }
+}
+
+// The adds of a round, and what follows from them. The first half of the index is of the controller's book.
+fn add_round(
+    buffer: &mut [u8],
+    len: usize,
+    controller: &[u8],
+    index: &[u32],
+    known: &mut [u8],
+    width: u8,
+    list: &[u32],
+    n: usize,
+) -> Round
+    requires { ⌜ ValidBook (now controller) × Ready (now controller) (now buffer) len (now known) × (n ≤ length (now list)) ⌝ }
+    ensures { λ r. ⌜ AddedRound (now (controller .entry)) width (take n (now (list .entry))) (now (buffer .entry)) len r (now (buffer .exit)) (now (known .exit)) ⌝ }
+{
+    let half = index.len() / 2;
+    after_adds(add_all(
+        buffer,
+        len,
+        controller,
+        &index[..half],
+        known,
+        width,
+        list,
+        n,
+    ))
+}
+
+// One ask, and what follows from it. The first half of the index is of the controller's book, the other half of ours.
+fn one_round(
+    buffer: &mut [u8],
+    len: usize,
+    controller: &[u8],
+    index: &mut [u32],
+    known: &mut [u8],
+    width: u8,
+    root: u32,
+    scratch: &mut [u32],
+    list: &mut [u32],
+) -> Round
+    requires { ⌜ ValidBook (now controller) × Ready (now controller) (now buffer) len (now known) × (isType (take len (now buffer)) root ≡ true) × (16384 ≤ length (now scratch)) × (4096 ≤ length (now list)) ⌝ }
+    ensures { λ r. ⌜ RoundIs (now (controller .entry)) width root (now (buffer .entry)) len r (now (buffer .exit)) (now (known .exit)) ⌝ }
+{
+    let half = index.len() / 2;
+    let asked = ask(
+        &buffer[..len],
+        &mut index[half..],
+        width,
+        root,
+        scratch,
+        list,
+    );
+    match asked {
+        Asked::NotWhole(k) => Round::Is(Plan::Refused(k, len)),
+        Asked::Lists(n) => {
+            if n == 0 {
+                return Round::Is(decide(&buffer[..len], &index[half..], width, root, scratch, len));
+            }
+            add_round(buffer, len, controller, index, known, width, list, n)
+        }
+    }
+}
+
+// Rounds until one has the answer. Each that does not has added a type, and a book has 65,536 blocks at most, so the rounds suffice.
+fn plan_rounds(
+    buffer: &mut [u8],
+    len: usize,
+    controller: &[u8],
+    index: &mut [u32],
+    known: &mut [u8],
+    width: u8,
+    root: u32,
+    scratch: &mut [u32],
+    list: &mut [u32],
+) -> Plan
+    requires { ⌜ ValidBook (now controller) × Ready (now controller) (now buffer) len (now known) × (isType (take len (now buffer)) root ≡ true) × (16384 ≤ length (now scratch)) × (4096 ≤ length (now list)) ⌝ }
+    ensures { λ r. ⌜ PlannedIs (planFrom (now (controller .entry)) width root 65536 (ours (now (buffer .entry)) len)) r (now (buffer .exit)) ⌝ }
+{
+    let mut at = len;
+    let mut left = MAX_BLOCKS;
+    while left > 0 {
+        let here = one_round(
+            buffer,
+            at,
+            controller,
+            index,
+            known,
+            width,
+            root,
+            scratch,
+            list,
+        );
+        match here {
+            Round::Again(l) => {
+                at = l;
+            }
+            Round::Is(plan) => {
+                return plan;
+            }
+        }
+        left -= 1;
+    }
+    Plan::Refused(15, at)
+}
+
+// ---- the call
+
+// Makes the index of the controller's book, and marks which of its types our book knows.
+fn prepare(book: &[u8], controller: &[u8], index: &mut [u32], known: &mut [u8])
+    requires { ⌜ ValidBook (now controller) × (length (now known) ≡ 65536) ⌝ }
+    ensures { λ _. ⌜ Knows (now (controller .entry)) (now (book .entry)) (now (known .exit)) ⌝ }
+{
+    let half = index.len() / 2;
+    fill_names(controller, &mut index[..half]);
+    mark_known(book, controller, &index[..half], known);
+}
+
+// The plan where both books, the root and the scratch were checked.
+fn plan_in(
+    buffer: &mut [u8],
+    len: usize,
+    controller: &[u8],
+    width: u8,
+    root: u32,
+    scratch: &mut [u32],
+    index: &mut [u32],
+) -> Plan
+    requires { ⌜ ValidBook (now controller) × (checkBook (now buffer) len ≡ Valid) × (isType (take len (now buffer)) root ≡ true) × (16384 ≤ length (now scratch)) ⌝ }
+    ensures { λ r. ⌜ PlannedIs (planFrom (now (controller .entry)) width root 65536 (ours (now (buffer .entry)) len)) r (now (buffer .exit)) ⌝ }
+{
+    let mut known = [0u8; 65536];
+    let mut list = [0u32; 4096];
+    prepare(&buffer[..len], controller, index, &mut known);
+    plan_rounds(
+        buffer,
+        len,
+        controller,
+        index,
+        &mut known,
+        width,
+        root,
+        scratch,
+        &mut list,
+    )
+}
+
+// The same, and then scratch and index are cleared.
+fn plan_clean(
+    buffer: &mut [u8],
+    len: usize,
+    controller: &[u8],
+    width: u8,
+    root: u32,
+    scratch: &mut [u32],
+    index: &mut [u32],
+) -> Plan
+    requires { ⌜ ValidBook (now controller) × (checkBook (now buffer) len ≡ Valid) × (isType (take len (now buffer)) root ≡ true) × (16384 ≤ length (now scratch)) ⌝ }
+    ensures { λ r. ⌜ PlannedIn (planFrom (now (controller .entry)) width root 65536 (ours (now (buffer .entry)) len)) (now (scratch .entry)) (now (index .entry)) r (now (buffer .exit)) (now (scratch .exit)) (now (index .exit)) ⌝ }
+{
+    let plan = plan_in(buffer, len, controller, width, root, scratch, index);
+    clear_numbers(scratch);
+    clear_numbers(index);
+    plan
+}
+
+// Document 01's number of a refusal of the controller's book, 0 for none.
+fn their_refusal(controller: &[u8], len: usize) -> u8
+    ensures { λ r. ⌜ r ≡ refusalOf (bookNumbers (checkBook (now (controller .entry)) len)) ⌝ }
+{
+    let check = check_book(controller, len);
+    match check {
+        BookCheck::Valid => 0,
+        BookCheck::Size => 1,
+        BookCheck::Sum => 2,
+        BookCheck::Form => 3,
+        BookCheck::Doubled => 4,
+    }
+}
+
+// The plan for type block `root` of our valid book.
+fn plan_at(
+    buffer: &mut [u8],
+    len: usize,
+    controller: &[u8],
+    theirs: usize,
+    width: u8,
+    root: u32,
+    scratch: &mut [u32],
+    index: &mut [u32],
+) -> Plan
+    requires { ⌜ checkRoot (now buffer) len root ≡ Root root ⌝ }
+    ensures { λ r. ⌜ PlanIs (planRefusal (now (buffer .entry)) len (now (controller .entry)) theirs root (now (scratch .entry))) (now (buffer .entry)) len (now (controller .entry)) theirs width root (now (scratch .entry)) (now (index .entry)) r (now (buffer .exit)) (now (scratch .exit)) (now (index .exit)) ⌝ }
+{
+    let refusal = their_refusal(controller, theirs);
+    if refusal != 0 {
+        return Plan::Refused(refusal, len);
+    }
+    if scratch.len() < SCRATCH {
+        return Plan::Refused(6, len);
+    }
+    plan_clean(
+        buffer,
+        len,
+        &controller[..theirs],
+        width,
+        root,
+        scratch,
+        index,
+    )
+}
+
+// Plans the save of the root: adds to our book, from the controller's, every type that the root is made of and our book lacks, and answers
+// whether the memory must be read before it is written. Our book fills the first `len` bytes of the buffer, the controller's the first
+// `theirs` bytes of its own. The index may have any length; four numbers for each type of both books serve well.
+pub fn plan_save(
+    buffer: &mut [u8],
+    len: usize,
+    controller: &[u8],
+    theirs: usize,
+    width: u8,
+    root: u64,
+    scratch: &mut [u32],
+    index: &mut [u32],
+) -> Plan
+    ensures { λ r. ⌜ PlanIs (planRefusal (now (buffer .entry)) len (now (controller .entry)) theirs root (now (scratch .entry))) (now (buffer .entry)) len (now (controller .entry)) theirs width root (now (scratch .entry)) (now (index .entry)) r (now (buffer .exit)) (now (scratch .exit)) (now (index .exit)) ⌝ }
+{
+    let check = check_root(buffer, len, root);
+    match check {
+        RootCheck::Root(t) => plan_at(buffer, len, controller, theirs, width, t, scratch, index),
+        RootCheck::Refused(n) => Plan::Refused(n, len),
+    }
+}

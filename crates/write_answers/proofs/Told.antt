@@ -1,0 +1,428 @@
+-- Every refusal of a write has one of the numbers that document 01 has for it; so the number 0 says that something was written, whatever the bytes and
+-- numbers of a call. Assumes nothing.
+use mathlib.Core.Path.{_≡_, refl, sym}
+use mathlib.Core.Bool.{Bool, true, false, cond, _&&_}
+use mathlib.Core.List.{List}
+use Prim.Native.Nat.{ℕ, zero, suc, _+_}
+use native.Mathlib.Omega.{arith}
+use lib.ListN.{length, take}
+use lib.Dec.{eqb, leb, ltb}
+use Rattle.number.specs.Answer.{refusalOf}
+use Rattle.typebook.specs.Book.{sizeOf, typeIdOf, countOf, isType, blocks}
+use Rattle.type_id.specs.declared.AdsTypeId.{AdsTypeId}
+use Rattle.type_id.specs.declared.AdsTypeId.the-variants.{UInt16, UInt32, UInt64}
+use Rattle.type_provider.specs.declared.Found.{Found}
+use Rattle.type_provider.specs.declared.Found.the-variants.{At, Nothing}
+use Rattle.type_category.specs.Category.{categoryOf}
+use Rattle.book_check.specs.Check.{bookNumbers, checkBook, checkRoot, rootOf}
+use Rattle.book_check.specs.declared.BookCheck.{BookCheck}
+use Rattle.book_check.specs.declared.BookCheck.the-variants as checked-book
+use Rattle.book_check.specs.declared.RootCheck.the-variants.{Root, Refused}
+use Rattle.resolvers.specs.Resolve.{resolveAlias, lookUp}
+use Rattle.resolvers.specs.declared.Resolved.{Resolved}
+use Rattle.resolvers.specs.declared.Resolved.the-variants as resolved
+use Rattle.field_types.specs.declared.FieldsCheck.{FieldsCheck}
+use Rattle.field_types.specs.declared.FieldsCheck.the-variants as check
+use Rattle.field_types.specs.declared.FieldAnswer.{FieldAnswer}
+use Rattle.field_types.specs.declared.FieldAnswer.the-variants as answer
+use Rattle.field_types.specs.Fields.{fieldsCheck, resolveField}
+use Rattle.integer.specs.Integer.{integerWriteNumbers, writeInteger, integerBytes}
+use Rattle.integer.specs.declared.Integer.{Integer}
+use Rattle.integer.specs.declared.IntegerWrite.{IntegerWrite}
+use Rattle.integer.specs.declared.IntegerWrite.the-variants as write
+use Rattle.shape.specs.declared.Shape.{Shape}
+use Rattle.shape.specs.declared.Shape.the-variants as shape
+use Rattle.shape.specs.Value.{shapeOf}
+use Rattle.shape.specs.Array.{strideOf, bytesOf}
+use Rattle.named_blocks.specs.Named.{entryNamed, fieldNamed}
+use Rattle.tape.specs.Record.{stepAt}
+use Rattle.tape.specs.Text.{recordText}
+use Rattle.tape.specs.declared.record.Record.{Record}
+use Rattle.tape.specs.declared.cursor.Cursor.{Cursor}
+use Rattle.tape.specs.declared.cursor.Step.{Step}
+use Rattle.tape.specs.declared.cursor.Step.the-variants as step
+use Rattle.ser_leaf.specs.declared.Target.{Target}
+use Rattle.ser_leaf.specs.declared.Target.the-variants as target
+use Rattle.ser_leaf.specs.Leaf.{Leaf, holds, exactly, boolLeaf, realLeaf, integerEnd, integerBy, pointerLeaf, targetOf, integerLeaf, entryBy, entryLeaf, enumLeaf, padded, textBy, textLeaf, leafBy}
+use Rattle.ser_leaf.specs.Leaf as leaf
+use Rattle.ser.specs.declared.array_writer.Entered.{Entered}
+use Rattle.ser.specs.declared.array_writer.Entered.the-variants as entered
+use Rattle.ser.specs.Write.{Ctx, ctx, Outcome, went, refused, _then_, Item, whole, further, Child, placed, takenBy, taken, endBy, leafEnd, leafOf, shapeAt, checked, fieldValue, foundValue, keyBy, keyOf, keysFrom, mapBy, mapOf, elementItem, elementCheck, elementsFrom, elementsBy, dimensionOf, elementType, enteredBy, enteredAt, arrayBy, arrayOf, valueBy, itemWalk, walk}
+use Rattle.tape_form.specs.Form.{formed}
+use Rattle.ser.specs.Call.{typeWrite, rootBy, rootWrite, bookWrite, checkedWrite, writeCall, answerOf, writeNumbers}
+use Rattle.ser.specs.declared.WriteAnswer.the-variants.{NotFound}
+use Rattle.ser.specs.declared.WriteAnswer.the-variants as writing
+use Rattle.write_answers.specs.Answers.{among, refusals, Numbered}
+
+-- ---- a write whose refusal has one of the numbers
+
+abbrev listed : Outcome → Bool
+listed (went at bytes) = true
+listed (refused n b bytes) = among n refusals
+
+record Fine (o : Outcome) : Type 0 where
+  is : listed o ≡ true
+
+fine-went : (at : Cursor) (bytes : List ℕ) → Fine (went at bytes)
+fine-went at bytes = record { is = refl }
+
+fine-refused : (n b : ℕ) (bytes : List ℕ) → among n refusals ≡ true → Fine (refused n b bytes)
+fine-refused n b bytes h = record { is = h }
+
+fine-then : (o : Outcome) (f : Cursor → List ℕ → Outcome) → Fine o → ((at : Cursor) (bytes : List ℕ) → Fine (f at bytes)) → Fine (o then f)
+unfolding _then_
+fine-then (went at bytes) f p q = q at bytes
+fine-then (refused n b bytes) f p q = fine-refused n b bytes (p .is)
+
+fine-placed : (from size : ℕ) (bytes : List ℕ) (o : Outcome) → Fine o → Fine (placed from size bytes o)
+unfolding placed
+fine-placed from size bytes (went at part) p = fine-went _ _
+fine-placed from size bytes (refused n b part) p = fine-refused n b _ (p .is)
+
+fine-cond : (b : Bool) (o u : Outcome) → Fine o → Fine u → Fine (cond b o u)
+fine-cond true o u p q = p
+fine-cond false o u p q = q
+
+is-1 : among 1 refusals ≡ true
+unfolding among
+is-1 = refl
+
+is-2 : among 2 refusals ≡ true
+unfolding among
+is-2 = refl
+
+is-3 : among 3 refusals ≡ true
+unfolding among
+is-3 = refl
+
+is-4 : among 4 refusals ≡ true
+unfolding among
+is-4 = refl
+
+is-5 : among 5 refusals ≡ true
+unfolding among
+is-5 = refl
+
+is-7 : among 7 refusals ≡ true
+unfolding among
+is-7 = refl
+
+is-8 : among 8 refusals ≡ true
+unfolding among
+is-8 = refl
+
+is-10 : among 10 refusals ≡ true
+unfolding among
+is-10 = refl
+
+is-13 : among 13 refusals ≡ true
+unfolding among
+is-13 = refl
+
+is-16 : among 16 refusals ≡ true
+unfolding among
+is-16 = refl
+
+is-17 : among 17 refusals ≡ true
+unfolding among
+is-17 = refl
+
+is-18 : among 18 refusals ≡ true
+unfolding among
+is-18 = refl
+
+is-19 : among 19 refusals ≡ true
+unfolding among
+is-19 = refl
+
+-- ---- records
+
+fine-by : (bytes : List ℕ) (f : Record → Cursor → Outcome) (s : Step) → ((r : Record) (next : Cursor) → Fine (f r next)) → Fine (takenBy bytes f s)
+unfolding takenBy
+fine-by bytes f (step.Record r next) h = h r next
+fine-by bytes f step.End h = fine-refused 16 0 bytes is-16
+
+fine-taken : (tape : List ℕ) (at : Cursor) (bytes : List ℕ) (f : Record → Cursor → Outcome) → ((r : Record) (next : Cursor) → Fine (f r next))
+    → Fine (taken tape at bytes f)
+unfolding taken
+fine-taken tape at bytes f h = fine-by bytes f (stepAt tape (at .at)) h
+
+fine-end : (tape : List ℕ) (at : Cursor) (kind : ℕ) (bytes : List ℕ) → Fine (taken tape at bytes (endBy kind bytes))
+unfolding endBy
+fine-end tape at kind bytes =
+    fine-taken tape at bytes _ (λ r next. fine-cond (eqb (r .kind) kind) _ _ (fine-went next bytes) (fine-refused 16 0 bytes is-16))
+
+-- ---- a leaf
+
+abbrev mild : Leaf → Bool
+mild (holds bs) = true
+mild (leaf.refused n) = among n refusals
+
+record Mild (l : Leaf) : Type 0 where
+  is : mild l ≡ true
+
+mild-cond : (b : Bool) (x y : Leaf) → Mild x → Mild y → Mild (cond b x y)
+mild-cond true x y p q = p
+mild-cond false x y p q = q
+
+mild-holds : (bs : List ℕ) → Mild (holds bs)
+mild-holds bs = record { is = refl }
+
+mild-refused : (k : ℕ) → among k refusals ≡ true → Mild (leaf.refused k)
+mild-refused k h = record { is = h }
+
+mild-exactly : (bs old : List ℕ) → Mild (exactly bs old)
+unfolding exactly
+mild-exactly bs old = mild-cond (eqb (length bs) (length old)) _ _ (mild-holds bs) (mild-refused 10 is-10)
+
+mild-end : (w : IntegerWrite) (bs : List ℕ) → Mild (integerEnd w bs)
+unfolding integerWriteNumbers
+mild-end write.Done bs = mild-holds bs
+mild-end write.OutOfRange bs = mild-refused 19 is-19
+mild-end write.Size bs = mild-refused 10 is-10
+mild-end write.Unsupported bs = mild-refused 17 is-17
+
+mild-integer : (id : AdsTypeId) (v : Integer) (old : List ℕ) → Mild (integerBy id v old)
+unfolding integerBy
+mild-integer id v old = mild-end (writeInteger id v old) (integerBytes id v)
+
+mild-pointer : (width : ℕ) (v : Integer) (old : List ℕ) → Mild (pointerLeaf width v old)
+unfolding pointerLeaf
+mild-pointer width v old =
+    mild-cond (eqb width 2) _ _ (mild-integer UInt16 v old)
+    (mild-cond (eqb width 4) _ _ (mild-integer UInt32 v old)
+    (mild-cond (eqb width 8) _ _ (mild-integer UInt64 v old) (mild-refused 13 is-13)))
+
+mild-padded : (bs : List ℕ) (zeros : ℕ) (old : List ℕ) → Mild (padded bs zeros old)
+unfolding padded
+mild-padded bs zeros old = mild-cond (leb (length bs + zeros) (length old)) _ _ (mild-holds _) (mild-refused 10 is-10)
+
+mild-text-by : (id : ℕ) (text old : List ℕ) → Mild (textBy id text old)
+unfolding textBy
+mild-text-by id text old =
+    mild-cond (eqb id 30) _ _ (mild-padded _ 1 old) (mild-cond (eqb id 31) _ _ (mild-padded _ 2 old) (mild-refused 17 is-17))
+
+module _ (book : List ℕ) (width t : ℕ) (old : List ℕ) where
+  mild-bool : (b : ℕ) → Mild (boolLeaf book t b old)
+  unfolding boolLeaf
+  mild-bool b = mild-cond (eqb (typeIdOf book t) 33) _ _ (mild-exactly _ old) (mild-refused 17 is-17)
+
+  mild-real : (is-double : Bool) (b : ℕ) → Mild (realLeaf book t is-double b old)
+  unfolding realLeaf
+  mild-real is-double b = mild-cond (eqb (typeIdOf book t) (leaf.realId is-double)) _ _ (mild-exactly _ old) (mild-refused 17 is-17)
+
+  mild-number : (v : Integer) (k : Target) → Mild (integerLeaf book width t v old k)
+  unfolding integerLeaf
+  mild-number v target.Pointer = mild-pointer width v old
+  mild-number v target.Enum = mild-integer _ v old
+  mild-number v target.Other = mild-integer _ v old
+
+  mild-found : (f : Found) → Mild (entryBy book old f)
+  unfolding entryBy
+  mild-found (At n) = mild-exactly _ old
+  mild-found Nothing = mild-refused 18 is-18
+
+  mild-entry : (name : List ℕ) → Mild (entryLeaf book t name old)
+  unfolding entryLeaf
+  mild-entry name = mild-cond (eqb (length old) (sizeOf book t)) _ _ (mild-found (entryNamed book t name)) (mild-refused 10 is-10)
+
+  mild-enum : (name : List ℕ) (k : Target) → Mild (enumLeaf book t name old k)
+  unfolding enumLeaf
+  mild-enum name target.Enum = mild-entry name
+  mild-enum name target.Pointer = mild-refused 17 is-17
+  mild-enum name target.Other = mild-refused 17 is-17
+
+  mild-text : (text : List ℕ) (k : Target) → Mild (textLeaf book t text old k)
+  unfolding textLeaf
+  mild-text text target.Enum = mild-entry text
+  mild-text text target.Pointer = mild-text-by _ text old
+  mild-text text target.Other = mild-text-by _ text old
+
+  mild-leaf : (k : Target) (r : Record) (text : List ℕ) → Mild (leafBy book width t k r text old)
+  unfolding leafBy
+  mild-leaf k r text =
+      mild-cond (eqb (r .kind) 6) _ _ (mild-bool (r .b))
+      (mild-cond (eqb (r .kind) 7) _ _ (mild-number _ k)
+      (mild-cond (eqb (r .kind) 8) _ _ (mild-number _ k)
+      (mild-cond (eqb (r .kind) 9) _ _ (mild-real false (r .b))
+      (mild-cond (eqb (r .kind) 10) _ _ (mild-real true (r .b))
+      (mild-cond (eqb (r .kind) 11) _ _ (mild-text (recordText book text r) k)
+      (mild-cond (eqb (r .kind) 12) _ _ (mild-enum (recordText book text r) k)
+      (mild-cond (eqb (r .kind) 13) _ _ (mild-refused 17 is-17) (mild-refused 16 is-16))))))))
+
+mild-fine : (next : Cursor) (bytes : List ℕ) (l : Leaf) → Mild l → Fine (leafEnd next bytes l)
+unfolding leafEnd
+mild-fine next bytes (holds new) p = fine-went next new
+mild-fine next bytes (leaf.refused n) p = fine-refused n 0 bytes (p .is)
+
+-- ---- the walk
+
+checked-fine : (f : FieldsCheck) (bytes : List ℕ) (o : Outcome) → Fine o → Fine (checked f bytes o)
+unfolding checked
+checked-fine check.Fine bytes o p = p
+checked-fine (check.Lacks b) bytes o p = fine-refused 7 b bytes is-7
+checked-fine check.TooLong bytes o p = fine-refused 8 0 bytes is-8
+
+module _ (book : List ℕ) (width : ℕ) (tape text : List ℕ) where
+  abbrev c : Ctx
+  c = ctx book width tape text
+
+  -- ---- with what is written at one level less
+
+  module _ (child : Child) (ih : (i : Item) (at : Cursor) (bytes : List ℕ) → Fine (child i at bytes)) where
+    field-fine : (at : Cursor) (bytes : List ℕ) (f : FieldAnswer) → Fine (fieldValue child at bytes f)
+    unfolding fieldValue
+    field-fine at bytes (answer.Field f) =
+        fine-cond (leb (f .offset + f .size) (length bytes)) _ _ (fine-placed _ _ bytes _ (ih (whole (f .resolved)) at _)) (fine-refused 10 0 bytes is-10)
+    field-fine at bytes (answer.Lacks b) = fine-refused 7 b bytes is-7
+    field-fine at bytes answer.TooLong = fine-refused 8 0 bytes is-8
+
+    found-fine : (at : Cursor) (bytes : List ℕ) (f : Found) → Fine (foundValue child c at bytes f)
+    unfolding foundValue
+    found-fine at bytes (At f) = field-fine at bytes (resolveField book width f)
+    found-fine at bytes Nothing = fine-refused 18 0 bytes is-18
+
+    key-fine : (t : ℕ) (at : Cursor) (bytes : List ℕ) → Fine (keyOf child c t at bytes)
+    unfolding keyOf keyBy
+    key-fine t at bytes =
+        fine-taken tape at bytes _ (λ r next.
+        fine-cond (eqb (r .kind) 4) _ _ (found-fine next bytes (fieldNamed book t (recordText book text r))) (fine-refused 16 0 bytes is-16))
+
+    keys-fine : (t k : ℕ) (at : Cursor) (bytes : List ℕ) → Fine (keysFrom child c t k at bytes)
+    unfolding keysFrom
+    keys-fine t zero at bytes = fine-end tape at 5 bytes
+    keys-fine t (suc k) at bytes = fine-then _ _ (key-fine t at bytes) (keys-fine t k)
+
+    map-by : (t n : ℕ) (at : Cursor) (bytes : List ℕ) (s : Shape) → Fine (mapBy child c t n at bytes s)
+    unfolding mapBy
+    map-by t n at bytes shape.Map =
+        fine-cond (eqb (length bytes) (sizeOf book t)) _ _ (checked-fine (fieldsCheck book width t) bytes _ (keys-fine t n at bytes)) (fine-refused 10 0 bytes is-10)
+    map-by t n at bytes shape.Array = fine-refused 17 0 bytes is-17
+    map-by t n at bytes shape.Leaf = fine-refused 17 0 bytes is-17
+
+    map-fine : (t n : ℕ) (at : Cursor) (bytes : List ℕ) → Fine (mapOf child c t n at bytes)
+    unfolding mapOf
+    map-fine t n at bytes = map-by t n at bytes (shapeAt c t)
+
+    elements-from : (i : Item) (stride n x from k : ℕ) (at : Cursor) (bytes : List ℕ) → Fine (elementsFrom child c i stride n x from k at bytes)
+    unfolding elementsFrom
+    elements-from i stride n x from zero at bytes = fine-cond (ltb x n) _ _ (fine-refused 17 0 bytes is-17) (fine-end tape at 2 bytes)
+    elements-from i stride n x from (suc k) at bytes =
+        fine-cond (ltb x n) _ _
+        (fine-then _ _ (fine-placed from stride bytes _ (ih i at _)) (elements-from i stride n (x + 1) (from + stride) k))
+        (fine-refused 17 0 bytes is-17)
+
+    dimension-fine : (d t e : ℕ) (at : Cursor) (bytes : List ℕ) → Fine (dimensionOf child c d t e at bytes)
+    unfolding dimensionOf elementsBy
+    dimension-fine d t e at bytes =
+        checked-fine (elementCheck book width d t e) bytes _
+        (fine-taken tape at bytes _ (λ r next.
+        fine-cond (eqb (r .kind) 1) _ _
+        (elements-from (elementItem c d t e) (strideOf book d t e) (countOf book t d) 0 0 (r .a) next bytes)
+        (fine-refused 17 0 bytes is-17)))
+
+    -- what an array comes to before its first dimension
+    entered-cond : (t : ℕ) (at : Cursor) (bytes : List ℕ) (b : Bool) (x : Entered) → Fine (arrayBy child c t at bytes x)
+        → Fine (arrayBy child c t at bytes (cond b x (entered.Stop 10 0)))
+    unfolding arrayBy
+    entered-cond t at bytes true x p = p
+    entered-cond t at bytes false x p = fine-refused 10 0 bytes is-10
+
+    element-fine : (t : ℕ) (at : Cursor) (bytes : List ℕ) (r : Resolved) → Fine (arrayBy child c t at bytes (elementType book t (length bytes) r))
+    unfolding elementType arrayBy
+    element-fine t at bytes (resolved.Base e) = entered-cond t at bytes (eqb (bytesOf book t e) (length bytes)) _ (dimension-fine 0 t e at bytes)
+    element-fine t at bytes (resolved.Lacks b) = fine-refused 7 b bytes is-7
+    element-fine t at bytes resolved.TooLong = fine-refused 8 0 bytes is-8
+
+    array-by : (t : ℕ) (at : Cursor) (bytes : List ℕ) (s : Shape) → Fine (arrayBy child c t at bytes (enteredBy book width t (length bytes) s))
+    unfolding enteredBy arrayBy
+    array-by t at bytes shape.Array = entered-cond t at bytes (eqb (length bytes) (sizeOf book t)) _ (element-fine t at bytes (lookUp book width t))
+    array-by t at bytes shape.Map = fine-refused 17 0 bytes is-17
+    array-by t at bytes shape.Leaf = fine-refused 17 0 bytes is-17
+
+    array-fine : (t : ℕ) (at : Cursor) (bytes : List ℕ) → Fine (arrayOf child c t at bytes)
+    unfolding arrayOf enteredAt
+    array-fine t at bytes = array-by t at bytes (shapeOf (categoryOf book width t))
+
+    leaf-fine : (t : ℕ) (r : Record) (next : Cursor) (bytes : List ℕ) → Fine (leafOf book width text t r next bytes)
+    unfolding leafOf
+    leaf-fine t r next bytes = mild-fine next bytes _ (mild-leaf book width t bytes (targetOf (categoryOf book width t)) r text)
+
+    item-fine : (i : Item) (at : Cursor) (bytes : List ℕ) → Fine (itemWalk child c i at bytes)
+    unfolding itemWalk valueBy
+    item-fine (whole t) at bytes =
+        fine-taken tape at bytes _ (λ r next.
+        fine-cond (eqb (r .kind) 1) _ _ (array-fine t at bytes)
+        (fine-cond (eqb (r .kind) 3) _ _ (map-fine t (r .a) next bytes) (leaf-fine t r next bytes)))
+    item-fine (further d t e) at bytes = dimension-fine d t e at bytes
+
+  walk-fine : (left : ℕ) (i : Item) (at : Cursor) (bytes : List ℕ) → Fine (walk c left i at bytes)
+  unfolding walk
+  walk-fine zero i at bytes = fine-refused 16 0 bytes is-16
+  walk-fine (suc left) i at bytes = item-fine (walk c left) (walk-fine left) i at bytes
+
+  root-by : (image : List ℕ) (r : Resolved) → Fine (rootBy c image r)
+  unfolding rootBy typeWrite
+  root-by image (resolved.Base t) = walk-fine 64 (whole t) (record { at = 0 }) image
+  root-by image (resolved.Lacks b) = fine-refused 7 b image is-7
+  root-by image resolved.TooLong = fine-refused 8 0 image is-8
+
+  book-fine : (n room : ℕ) (image : List ℕ) → Fine (bookWrite c n room image)
+  unfolding bookWrite rootWrite
+  book-fine n room image =
+      fine-cond (eqb room (length image)) _ _
+      (fine-cond (formed book tape text) _ _ (root-by image (resolveAlias book width n)) (fine-refused 16 0 image is-16))
+      (fine-refused 10 0 image is-10)
+
+-- ---- a call
+
+module _ (book : List ℕ) (width : ℕ) (tape text : List ℕ) (room : ℕ) (image : List ℕ) where
+  root-fine : (b : Bool) (n : ℕ) → Fine (checkedWrite (ctx book width tape text) room image (cond b (Root n) (Refused 5)))
+  unfolding checkedWrite
+  root-fine true n = book-fine book width tape text n room image
+  root-fine false n = fine-refused 5 0 image is-5
+
+  check-fine : (k : BookCheck) (b : Bool) (n : ℕ)
+      → Fine (checkedWrite (ctx book width tape text) room image (cond (eqb (refusalOf (bookNumbers k)) 0) (cond b (Root n) (Refused 5)) (Refused (refusalOf (bookNumbers k)))))
+  unfolding checkedWrite bookNumbers
+  check-fine checked-book.Valid b n = root-fine b n
+  check-fine checked-book.Size b n = fine-refused 1 0 image is-1
+  check-fine checked-book.Sum b n = fine-refused 2 0 image is-2
+  check-fine checked-book.Form b n = fine-refused 3 0 image is-3
+  check-fine checked-book.Doubled b n = fine-refused 4 0 image is-4
+
+call-fine : (buffer : List ℕ) (len width n : ℕ) (image : List ℕ) (room : ℕ) (tape text : List ℕ) → Fine (writeCall buffer len width n image room tape text)
+unfolding writeCall checkRoot rootOf
+call-fine buffer len width n image room tape text =
+    check-fine (take len buffer) width tape text room image (checkBook buffer len) (ltb n (blocks (take len buffer)) && isType (take len buffer) n) n
+
+-- ---- its number
+
+false-true : {X : Type 0} → false ≡ true → X
+false-true e = absurd (let z : _≡_ {A = ℕ} 0 1 = cc in omega arith)
+
+none : among 0 refusals ≡ true → ⊥
+unfolding among
+none e = false-true e
+
+refused-told : (n b : ℕ) (c : Bool) → among n refusals ≡ true → among (refusalOf (writeNumbers (cond c (NotFound b) (writing.Refused n)))) refusals ≡ true
+unfolding writeNumbers
+refused-told n b true h = is-7
+refused-told n b false h = h
+
+numbered : (o : Outcome) → Fine o → Numbered o
+unfolding writeNumbers
+numbered (went at bytes) p = record { nought = λ e. refl; told = λ e. false-true (sym e) }
+numbered (refused n b bytes) p =
+    let t : among (refusalOf (writeNumbers (answerOf (refused n b bytes)))) refusals ≡ true = refused-told n b (eqb n 7) (p .is) in
+    record { nought = λ e. absurd (none (rw e at t)); told = λ e. t }
+
+-- of any call
+pub call-numbered : (buffer : List ℕ) (len width n : ℕ) (image : List ℕ) (room : ℕ) (tape text : List ℕ)
+    → Numbered (writeCall buffer len width n image room tape text)
+call-numbered buffer len width n image room tape text = numbered _ (call-fine buffer len width n image room tape text)
+
+-- of a call on a checked book
+pub book-numbered : (book : List ℕ) (width : ℕ) (tape text : List ℕ) (n room : ℕ) (image : List ℕ)
+    → Numbered (bookWrite (ctx book width tape text) n room image)
+book-numbered book width tape text n room image = numbered _ (book-fine book width tape text n room image)

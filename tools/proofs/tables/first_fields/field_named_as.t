@@ -1,0 +1,4 @@
+use Rattle.first_fields.proofs.Laws.{named-first, named-searched}
+ruleset exits = (named-first, named-searched)
+returns.* => search exits
+.* => search needs

@@ -1,2 +1,0 @@
-use Rattle.leaves.proofs.Leaves.{leaf-own}
-returns => search leaf-own

@@ -1,0 +1,3 @@
+use Rattle.marks.proofs.Laws.{mark-is}
+returns => search mark-is
+.* => search needs

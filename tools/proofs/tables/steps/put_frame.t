@@ -1,0 +1,2 @@
+use Rattle.steps.proofs.Puts.{put-made}
+returns => search put-made
