@@ -8,8 +8,8 @@ use std::borrow::Cow;
 use std::collections::HashMap;
 use std::fmt;
 
-const BLOCK: usize = 512;
-const SCRATCH: usize = 16_384;
+pub(crate) const BLOCK: usize = 512;
+pub(crate) const SCRATCH: usize = 16_384;
 const LIST: usize = 4_096;
 
 /// 0 as success, any other number as its refusal.

@@ -57,6 +57,7 @@ mod category;
 mod edit;
 #[allow(unsafe_code)]
 mod ffi;
+mod plan;
 mod refusal;
 mod tape;
 pub mod text;
@@ -66,5 +67,6 @@ pub use builder::{BuildError, TapeBuilder};
 pub use category::Category;
 pub use edit::{EditError, New, Step};
 pub use ffi::total as calls;
+pub use plan::{Plan, PlanError};
 pub use refusal::Refusal;
 pub use tape::{Record, Records, Tape, Value};
