@@ -186,8 +186,18 @@ class Comparison:
         if any(request in due for request in WRITES):
             self.write(made, data)
 
+    def plan_limits(self):
+        """Plans of books at the limits: chains of 30 to 33 hops, 4,095 to 4,098 names, a chain that breaks off, deep ones."""
+        book = self.book
+        books = [book.chain(hops) for hops in (30, 31, 32, 33)] + [book.wide(fields) for fields in (4094, 4095, 4096, 4097)]
+        for limit in books + [book.chain(5, "GONE"), book.deep(10), book.deep(80)]:
+            for _ in range(3):
+                self.plan(book.Made(limit, 0, 8), limit.bytes())
+
     def run(self, cases):
         start = time.time()
+        if PLAN in self.requests:
+            self.plan_limits()
         while any(self.compared[request] < cases for request in self.requests):
             self.one(cases)
         print(f"{sum(self.compared.values())} cases compared in {time.time() - start:.0f} s")
