@@ -671,7 +671,7 @@ impl<'a> Checked<'a> {
     }
 
     /// Four slots a type serve well; more would only fill the processor's caches.
-    fn slots(&self) -> usize {
+    pub(crate) fn slots(&self) -> usize {
         4 * self.bytes.chunks_exact(512).filter(|block| block[0] == 1).count()
     }
 

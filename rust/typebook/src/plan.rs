@@ -94,7 +94,7 @@ impl TypeBook<'_> {
         // Each type of the controller's is added once at most.
         let mut buffer = vec![0; len + theirs.len()];
         buffer[..len].copy_from_slice(self.bytes());
-        let mut index = vec![0; 4 * (self.types().count() + controller.types().count())];
+        let mut index = vec![0; self.slots() + controller.slots()];
         let (mut scratch, mut values) = (vec![0; SCRATCH], [0; 2]);
         let number = total::plan_save(
             &mut buffer,
@@ -123,11 +123,7 @@ fn planned(mut buffer: Vec<u8>, old: usize, [yes, len]: [u64; 2]) -> Result<Plan
     buffer.shrink_to_fit();
     let book = TypeBook::new(buffer)?;
     let first = (old / BLOCK) as u32;
-    let added = book
-        .types()
-        .filter(|t| t.block() >= first)
-        .map(|t| t.name().into())
-        .collect();
+    let added = book.types_from(first).map(|t| t.name().into()).collect();
     Ok(Plan {
         read_modify_write: yes == 1,
         added,
