@@ -3,7 +3,7 @@
 
     rt staticlib gateway
     (cd rust && cargo build --release --offline)
-    python3 tools/compare_oracle.py ORACLE target/cargo/release/ask [--cases 100000] [--seed 0]
+    python3 tools/compare_oracle.py ORACLE target/cargo/release/ask [--cases 100000] [--seed 0] [--only plan]
 
 ORACLE is the oracle's folder, built: its book.py makes the books, its program answers for the original. Every call is
 compared on that many cases. What isn't compared is counted: memories in which a text may open with a byte order mark, array
@@ -13,7 +13,12 @@ Writes: `writedoc` is the original with the root's aliases resolved first and a 
 original as it is. A tape that hasn't its form must be 16 (tools/tape_form.py reads document 01; the original has no tape). Where
 document 01 decides otherwise than the original, the case is counted with its reason, and the smallest is shown. Answers
 whose number comes from the stand-in for the unpublished conversions (CrossKind) are counted too.
-Ends with 1 if anything else differs. Run by hand: it takes five to twenty minutes.
+
+Plans: the book is the controller's, ours is its root's definition alone or with some others of its, in any order. Where the controller's book
+lacks none of the needed types (by the original's own list, whole), the plan's answer must be the original's read-modify-write over the whole
+controller's book; else it must be refused: 7 with a name that the original lists, or 8 or 9 where its list is not whole.
+
+Ends with 1 if anything else differs. `--only` takes some of the requests. Run by hand: all take ten to thirty minutes.
 """
 
 import argparse
@@ -28,6 +33,7 @@ from tape_form import formed, spoiled
 
 REQUESTS = ("cat", "alias", "indir", "rmw", "missing", "fields", "read")
 WRITES = ("writedoc", "write")
+PLAN = "plan"
 REALS = (4, 5)
 
 
@@ -49,7 +55,8 @@ def reason(request, theirs, ours):
 
 
 class Comparison:
-    def __init__(self, folder, program, seed):
+    def __init__(self, folder, program, seed, requests):
+        self.requests = requests
         self.book, self.original = oracle(folder)
         self.port = type(self.original)(program)
         self.rng = Random(seed)
@@ -58,6 +65,7 @@ class Comparison:
         self.skipped = collections.Counter()
         self.differing = []
         self.decided = {}
+        self.grown = 0
 
     def ask(self, request, made, data, *more):
         theirs = plain(request, self.original.ask(request, made.width, data, made.root, *more))
@@ -129,6 +137,31 @@ class Comparison:
         for request in WRITES:
             self.ask_write(request, made, data, image, tape, text)
 
+    def plan(self, made, data):
+        """A plan from a part of the controller's book, against the original's walk over the whole."""
+        rng, root = self.rng, made.book.at(made.root)
+        share = rng.choice([0.0, 0.0, 0.2, 0.5])
+        held = [t for t in made.book.types if t is root or rng.random() < share]
+        rng.shuffle(held)
+        ours = type(made.book)(held)
+        told = self.port.ask(PLAN, made.width, ours.bytes(), ours.number(root.name), data)
+        listed = self.original.ask("missing", made.width, data, made.root).split()
+        rmw = plain("rmw", self.original.ask("rmw", made.width, data, made.root))
+        names = {word.split("@")[0] or "-" for word in listed[1:-2]}
+        whole, count = listed[-2] == "whole=1", int(listed[-1].split("=")[1])
+        if whole and not names:
+            self.compared[PLAN] += 1
+            self.answers[PLAN, told] += 1
+            self.grown += len(held) < len(made.book.types)
+            fine = told == rmw
+        else:
+            words = told.split()
+            self.skipped[PLAN, "with a premise that does not hold: " + " ".join(words[:2])] += 1
+            fine = (words[:2] == ["err", "7"] and words[2] in names) or (not whole and words[1:] == ["9" if count == 4097 else "8"])
+        if not fine:
+            wanted = rmw if whole and not names else "7 of " + " ".join(listed)
+            self.differing.append((len(data), PLAN, made.width, ours.bytes().hex(), ours.number(root.name), (data.hex(),), wanted, told))
+
     def memory(self, made):
         """A memory in which no text opens with a byte order mark."""
         while True:
@@ -141,30 +174,45 @@ class Comparison:
         rng = self.rng
         made = self.book.gen_chaos(rng) if rng.random() < 0.2 else self.book.gen_book(rng)
         data = made.book.bytes()
+        due = [request for request in self.requests if self.compared[request] < cases]
         for request in REQUESTS[:-1]:
-            if self.compared[request] < cases:
+            if request in due:
                 self.ask(request, made, data)
-        if self.compared["read"] < cases:
+        if PLAN in due:
+            self.plan(made, data)
+        if "read" in due:
             room = () if rng.random() < 0.9 else (rng.randrange(40), rng.randrange(60))
             self.ask("read", made, data, self.memory(made), *room)
-        if min(self.compared[request] for request in WRITES) < cases:
+        if any(request in due for request in WRITES):
             self.write(made, data)
+
+    def plan_limits(self):
+        """Plans of books at the limits: chains of 30 to 33 hops, 4,095 to 4,098 names, a chain that breaks off, deep ones."""
+        book = self.book
+        books = [book.chain(hops) for hops in (30, 31, 32, 33)] + [book.wide(fields) for fields in (4094, 4095, 4096, 4097)]
+        for limit in books + [book.chain(5, "GONE"), book.deep(10), book.deep(80)]:
+            for _ in range(3):
+                self.plan(book.Made(limit, 0, 8), limit.bytes())
 
     def run(self, cases):
         start = time.time()
-        while any(self.compared[request] < cases for request in REQUESTS + WRITES):
+        if PLAN in self.requests:
+            self.plan_limits()
+        while any(self.compared[request] < cases for request in self.requests):
             self.one(cases)
         print(f"{sum(self.compared.values())} cases compared in {time.time() - start:.0f} s")
 
     def report(self):
-        for request in REQUESTS + WRITES:
+        for request in self.requests:
             told = ", ".join(f"{what} {n}" for (r, what), n in sorted(self.answers.items()) if r == request)
             print(f"{request:8} {self.compared[request]:7} compared: {told}")
         for (request, why), n in sorted(self.skipped.items()):
-            print(f"{request:8} {n:7} not compared: {why}" if not why.startswith("of these") else f"{request:8} {n:7} {why}")
+            print(f"{request:8} {n:7} {why}" if why.startswith(("of these", "with a")) else f"{request:8} {n:7} not compared: {why}")
         for why, (_, request, width, data, root, (image, tape, text), theirs, ours) in sorted(self.decided.items()):
             print(f"smallest, {why}: {request} width {width} root {root} image {image.hex()} tape {tape.hex()} text {text.hex()}")
             print(f"  book {data[:3000]}\n  original {theirs[:100]}\n  port     {ours[:100]}")
+        if PLAN in self.requests:
+            print(f"{PLAN:8} {self.grown:7} of the compared began with a part of the controller's types")
         print(f"{len(self.differing)} differences")
         for size, request, width, data, root, more, theirs, ours in sorted(self.differing, key=lambda d: d[0])[:5]:
             print(f"{request} width {width} root {root} {more}\n  book {data}\n  original {theirs[:300]}\n  port     {ours[:300]}")
@@ -176,8 +224,9 @@ def main():
     words.add_argument("program")
     words.add_argument("--cases", type=int, default=100000)
     words.add_argument("--seed", type=int, default=0)
+    words.add_argument("--only", nargs="+", default=REQUESTS + WRITES + (PLAN,))
     words = words.parse_args()
-    comparison = Comparison(words.oracle, words.program, words.seed)
+    comparison = Comparison(words.oracle, words.program, words.seed, words.only)
     comparison.run(words.cases)
     comparison.report()
     sys.exit(bool(comparison.differing))

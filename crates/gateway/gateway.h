@@ -15,8 +15,8 @@
  *   18 a field or entry name that the type does not have    19 an integer that does not fit
  *
  * Values. `values` takes a call's numbers over its first elements, as many as fit; its other elements stay as before. With refusal 7
- * values[0] is the block whose type name is not in the book; any other refusal leaves `values` as before. Three elements are enough
- * for every call.
+ * values[0] is the block whose type name is not in the book; any other refusal leaves `values` as before (but see gateway_plan_save).
+ * Three elements are enough for every call.
  *
  * The book. `buffer` holds a type book in its first `len` bytes; a `len` beyond the buffer is refused (1). `width` is the size of
  * the controller's pointers in bytes. `root` is a block's number, from 0 on; one that is no type block of the book is refused (5).
@@ -27,7 +27,8 @@
  * gateway_fill_index or gateway_fill_names made of the book makes look-ups quick. The other calls take any bytes and any numbers.
  *
  * A call takes up to 704 KiB of stack (measured: a read of 63 arrays in one another takes the most; 512 KiB of it is the index of names
- * that a read of a long book makes, for which the room is taken in any read that checks its book), and no other memory.
+ * that a read of a long book makes, for which the room is taken in any read that checks its book), and no other memory. A plan takes
+ * up to 256 KiB (measured: 213).
  */
 #ifndef GATEWAY_H
 #define GATEWAY_H
@@ -154,6 +155,21 @@ uint8_t gateway_requires_read_modify_write_in(const uint8_t *book, size_t book_l
 /* gateway_missing_types in a checked book: 0 or 6; after 6 scratch and list are as before. */
 uint8_t gateway_missing_types_in(const uint8_t *book, size_t book_len, const uint32_t *index, size_t index_len,
                                  uint8_t width, uint32_t root, uint32_t *scratch, size_t scratch_len, uint32_t *list, size_t list_len, uint64_t *values, size_t values_len);
+
+/* ---- the plan of a save: one call for all asks and adds */
+
+/* Completes our book (in `buffer`) for a save of the root: adds, from the controller's book in the first `theirs` bytes of `controller`,
+ * every type that the root is made of and our book lacks, until none lacks; then decides. 16,384 numbers of scratch; the index may have any
+ * length and hold anything, four elements for each type of both books serve well. `len` + `theirs` bytes of buffer are always enough.
+ * 0: values: 1 where the memory must be read, changed and written back, else 0; the new length of our book.
+ * Else 1 to 5 of our book and the root, 1 to 4 of the controller's book, 6; then 7 (a type that neither book has: values: the block of our
+ * book, as it is then, whose type name is not found; the length), 8, 9, 15. Unlike in the other calls values[0] is the length of our book
+ * with every refusal but 7. No refusal means "no".
+ * 1 to 6 leave buffer, scratch and index as before. Else the buffer holds our book, then the definitions that were added, up to the new
+ * length (a valid book, after 7, 8, 9 and 15 too), then its bytes as before; scratch and index are all zero. */
+uint8_t gateway_plan_save(uint8_t *buffer, size_t buffer_len, size_t len, const uint8_t *controller, size_t controller_len, size_t theirs,
+                          uint8_t width, uint64_t root, uint32_t *scratch, size_t scratch_len, uint32_t *index, size_t index_len,
+                          uint64_t *values, size_t values_len);
 
 /* ---- read */
 

@@ -1,4 +1,4 @@
-//! Times the port against the original Rust: both walks, reads by a visitor that accepts all, and writes of what was read. The book is checked (the
+//! Times the port against the original Rust: both walks, plans of a save, reads by a visitor that accepts all, and writes of what was read. The book is checked (the
 //! port) and decoded into the library's own descriptions behind a HashMap (the original) beforehand; what that takes is
 //! printed beside.
 
@@ -298,6 +298,56 @@ fn prepared(bytes: &[u8]) {
     );
 }
 
+/// The gateway of today: asks by the library's walk over its HashMap, inserts the listed types, decoded from the controller's list, asks again,
+/// until none is listed; then read-modify-write.
+fn loop_of_today(ours: &[u8], controller: &twin::Book) -> bool {
+    let mut cache = cache(ours);
+    let root = root(&cache, ours);
+    loop {
+        let names = missing_types(&root, &cache);
+        if names.is_empty() {
+            return requires_read_modify_write(&root, &cache).expect("no refusal");
+        }
+        let found = names.iter().filter_map(|name| controller.find(name.as_bytes()));
+        cache.insert_all(found.map(|t| described(controller.bytes, t)));
+    }
+}
+
+fn plan(what: &str, rounds: usize, ours: &[u8], controller: &[u8]) {
+    let (len, theirs) = (ours.len(), controller.len());
+    let mut buffer = [ours, &vec![0; theirs]].concat();
+    let (mine, whole) = (
+        TypeBook::new(ours).expect("valid"),
+        TypeBook::new(controller).expect("valid"),
+    );
+    let types = mine.types().count() + whole.types().count();
+    let (mut scratch, mut index, mut values) = (vec![0; 16_384], vec![0; 4 * types], [0; 2]);
+    let (s, i, v) = (&mut scratch, &mut index, &mut values);
+    pair(
+        what,
+        rounds,
+        || typebook::calls::plan_save(&mut buffer, len, controller, theirs, WIDTH, 0, s, i, v),
+        || loop_of_today(ours, &twin::Book::new(controller)),
+    );
+    assert_eq!(
+        (values[0] == 1, values[1]),
+        (loop_of_today(ours, &twin::Book::new(controller)), theirs as u64)
+    );
+}
+
+fn plans() {
+    head("plan_save, whole call; asks and inserts", "original");
+    let all = speed::reached();
+    plan(
+        "from the root alone to 4,096 types of four fields",
+        15,
+        &all[..5 * 512],
+        &all,
+    );
+    let (ours, all) = speed::alternating(2_000);
+    plan("types of ours alternate with lacking ones, 2,000 times", 1, &ours, &all);
+}
+
 fn reads(what: &str, (bytes, memory): (Vec<u8>, Vec<u8>)) {
     let (book, cache) = (TypeBook::new(&bytes[..]).expect("valid"), cache(&bytes));
     let (port, original) = (book.root(0).expect("a type"), root(&cache, &bytes));
@@ -537,6 +587,9 @@ fn main() {
     let wanted = |table: &str| named.is_empty() || named.iter().any(|n| n == table);
     if wanted("walks") {
         walks();
+    }
+    if wanted("plan") {
+        plans();
     }
     if wanted("struct") {
         reads("a struct of 200 fields among 4,096 types", speed::struct_of_200());

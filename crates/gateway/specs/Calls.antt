@@ -21,6 +21,8 @@ use Rattle.steps.specs.Answer.{readNumbers, ReadIs}
 use Rattle.ser.specs.declared.WriteAnswer.{WriteAnswer}
 use Rattle.ser.specs.Write.{Outcome}
 use Rattle.ser.specs.Call.{writeNumbers, Wrote}
+use Rattle.plan_save.specs.declared.Plan.{Plan}
+use Rattle.plan_save.specs.Call.{planNumbers, planRefusal, PlanIs}
 use Rattle.lent_values.specs.Values.{Gives}
 
 -- what appending answers, as a number and values, and the buffer that it leaves
@@ -75,3 +77,10 @@ pub record WriteGiven (outcome : Outcome) (image output before : List ℕ) (r : 
   pub answer : WriteAnswer
   pub by : Wrote outcome image output answer output′
   pub gives : Gives (writeNumbers answer) before r after
+
+-- what the plan of a save answers, as a number and values, and our buffer, the scratch and the index that it leaves
+pub record PlanGiven (buffer : List ℕ) (len : ℕ) (controller : List ℕ) (theirs width root : ℕ) (scratch index before : List ℕ) (r : ℕ)
+    (buffer′ scratch′ index′ after : List ℕ) : Type 0 where
+  pub answer : Plan
+  pub by : PlanIs (planRefusal buffer len controller theirs root scratch) buffer len controller theirs width root scratch index answer buffer′ scratch′ index′
+  pub gives : Gives (planNumbers answer) before r after

@@ -13,6 +13,7 @@ ghost use Rattle.number.specs.Answer.{refusalOf, truthNumber};
 ghost use Rattle.gateway.specs.Numbers.{WroteAs, FoundAs};
 
 pub mod book;
+pub mod plan;
 pub mod read;
 pub mod resolve;
 pub mod walk;

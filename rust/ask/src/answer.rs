@@ -1,7 +1,7 @@
 //! What each request answers.
 
 use std::fmt::Write;
-use typebook::{Missing, Refusal, Room, Tape, TypeBook, TypeRef, Value, calls};
+use typebook::{Missing, Plan, PlanError, Refusal, Room, Tape, TypeBook, TypeRef, Value, calls};
 
 fn hex(bytes: &[u8]) -> String {
     bytes.iter().fold(String::new(), |mut out, b| {
@@ -14,7 +14,7 @@ fn hex_or_dash(bytes: &[u8]) -> String {
     if bytes.is_empty() { "-".into() } else { hex(bytes) }
 }
 
-/// What a request takes besides the book: a memory, and a read's room or a write's tape and text.
+/// What a request takes besides the book: a memory, or the controller's book of a plan, and a read's room or a write's tape and text.
 pub struct More {
     pub memory: Vec<u8>,
     pub room: Room,
@@ -50,6 +50,7 @@ pub fn answer(request: &str, width: u8, bytes: &[u8], root: u32, more: &More) ->
             .read_within(width, memory, more.room)
             .map(|tape| events(&book, t, width, memory, &tape)),
         "write" => written(&book, t, width, more),
+        "plan" => Ok(planned(&book, t, width, memory)),
         _ => return None,
     };
     Some(told.unwrap_or_else(|refusal| refused(&book, refusal)))
@@ -191,6 +192,58 @@ fn written(book: &TypeBook, t: TypeRef, width: u8, more: &More) -> Result<String
     match same(number, values[0], &result) && output == other && kept {
         true => result.map(|()| format!("ok {}", hex_or_dash(&output))),
         false => Ok("differ".into()),
+    }
+}
+
+/// Yes or no, after which the completed book must lack nothing; or the refusal, 7 with the missing name.
+fn planned(book: &TypeBook, t: TypeRef, width: u8, controller: &[u8]) -> String {
+    let controller = match TypeBook::new(controller) {
+        Ok(controller) => controller,
+        Err(refusal) => return format!("err {}", refusal.number()),
+    };
+    let result = book.plan(&controller, width, t.block().into());
+    if !plans_alike(book, t, width, &controller, &result) {
+        return "differ".into();
+    }
+    match result {
+        Ok(plan) => if plan.read_modify_write { "yes" } else { "no" }.into(),
+        Err(PlanError::Missing { name }) => format!("err 7 {}", hex_or_dash(name.as_bytes())),
+        Err(refused) => format!("err {}", refused.number()),
+    }
+}
+
+/// Whether the call by numbers, over a short index and used buffers, says the same and leaves the same book.
+fn plans_alike(
+    book: &TypeBook,
+    t: TypeRef,
+    width: u8,
+    controller: &TypeBook,
+    result: &Result<Plan, PlanError>,
+) -> bool {
+    let (len, theirs) = (book.bytes().len(), controller.bytes());
+    let mut buffer = [book.bytes(), &vec![1; theirs.len()]].concat();
+    let (mut scratch, mut index, mut values) = (vec![1; 16_384], vec![1; 9], [0; 2]);
+    let number = calls::plan_save(
+        &mut buffer,
+        len,
+        theirs,
+        theirs.len(),
+        width,
+        t.block().into(),
+        &mut scratch,
+        &mut index,
+        &mut values,
+    );
+    match result {
+        Ok(plan) => {
+            let lacks_none = plan.book.root(t.block().into()).and_then(|t| t.missing_types(width));
+            let bytes = plan.book.bytes();
+            number == 0
+                && values == [u64::from(plan.read_modify_write), bytes.len() as u64]
+                && buffer.starts_with(bytes)
+                && lacks_none.is_ok_and(|missing| missing.whole && missing.blocks.is_empty())
+        }
+        Err(refused) => number == refused.number(),
     }
 }
 

@@ -2,8 +2,9 @@
 //! against each other line by line (tools/compare_oracle.py).
 //!
 //! A request is `cat|alias|indir|rmw|missing|fields|read WIDTH BOOK ROOT [MEMORY [RECORDS [TEXT]]]`; bytes are hex, `-` for none,
-//! `=` for the book of the line before. Or `write WIDTH BOOK ROOT IMAGE TAPE TEXT`. Every call is made in its checked form and in the one for a checked book, and both must
-//! agree: else the answer is `differ`.
+//! `=` for the book of the line before. Or `write WIDTH BOOK ROOT IMAGE TAPE TEXT`. Or `plan WIDTH BOOK ROOT CONTROLLER`, with our book and the
+//! controller's: `yes`, `no`, or `err NUMBER`, 7 with the missing name. Every call is made in its checked form and in the one for a checked
+//! book, and both must agree: else the answer is `differ`.
 
 mod answer;
 

@@ -23,6 +23,18 @@ pub fn reached() -> Vec<u8> {
     book(&types)
 }
 
+/// So many types of ours, each of which names a type that our book lacks, which names the next of ours: our book and the controller's.
+pub fn alternating(pairs: usize) -> (Vec<u8>, Vec<u8>) {
+    let link = |from: String, to: String| Type::new(&from).size(4).field("nField", &to, 0, 4);
+    let ours: Vec<Type> = (0..pairs)
+        .map(|n| link(name(n), format!("ST_Lacking{n}")))
+        .chain([Type::new(&name(pairs)).id(2).size(2)])
+        .collect();
+    let lacking = (0..pairs).map(|n| link(format!("ST_Lacking{n}"), name(n + 1)));
+    let all: Vec<Type> = ours.iter().cloned().chain(lacking).collect();
+    (book(&ours), book(&all))
+}
+
 /// The leaves of the reads: name, id, size.
 pub const LEAVES: [(&str, u32, u32); 8] = [
     ("INT", 2, 2),

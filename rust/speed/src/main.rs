@@ -1,6 +1,6 @@
 //! Times the static library against the plain twin: walks, reads, writes, look-ups, checks, encodings.
 //!
-//!     cargo run --release --offline -p speed
+//!     cargo run --release --offline -p speed             # all; with the word plan the plans alone
 //!
 //! Medians of rounds in which the two sides take turns; above 1 the port is quicker. Nothing of the gate needs it.
 
@@ -56,6 +56,57 @@ fn whole_walk(bytes: &[u8]) {
         || calls::missing_types(bytes, bytes.len(), WIDTH, 0, &mut scratch, &mut list, &mut [0; 3]),
         || twin::calls::missing_types(bytes, bytes.len(), WIDTH, 0, &mut others, &mut other_list, &mut [0; 3]),
     );
+}
+
+/// A plan from our book by the controller's: the whole call, with the checks of both books, against the twin's with and without them.
+fn plan(what: &str, rounds: usize, ours: &[u8], controller: &[u8]) {
+    let (len, theirs) = (ours.len(), controller.len());
+    let mut buffer = [ours, &vec![0; theirs]].concat();
+    let (mut other, mut third) = (buffer.clone(), buffer.clone());
+    let (mine, whole) = (
+        TypeBook::new(ours).expect("valid"),
+        TypeBook::new(controller).expect("valid"),
+    );
+    let types = mine.types().count() + whole.types().count();
+    let (mut scratch, mut index) = (vec![0; 16_384], vec![0; 4 * types]);
+    let (mut scratches, mut indexes, mut values, mut wanted) = (scratch.clone(), index.clone(), [0; 2], [1; 2]);
+    let t = turns(
+        rounds,
+        &mut [
+            &mut || {
+                let (s, i) = (&mut scratch, &mut index);
+                let number = calls::plan_save(&mut buffer, len, controller, theirs, WIDTH, 0, s, i, &mut values);
+                assert_eq!(number, 0);
+            },
+            &mut || {
+                let (s, i) = (&mut scratches, &mut indexes);
+                twin::calls::plan_save(&mut other, len, controller, theirs, WIDTH, 0, s, i, &mut wanted);
+            },
+            &mut || keep(twin::plan::plan(&mut third, len, controller, WIDTH, 0)),
+            &mut || keep(mine.plan(&whole, WIDTH, 0)),
+        ],
+    );
+    assert!(buffer == other && buffer == third && values == wanted);
+    line(what, t[0], t[1]);
+    line("  against the loop without checks of the books", t[0], t[2]);
+    line(
+        "  TypeBook::plan, which also checks and indexes the new book",
+        t[3],
+        t[1],
+    );
+}
+
+fn plans() {
+    head("plan_save, whole call; asks by a HashMap, inserts", "twin");
+    let all = speed::reached();
+    plan(
+        "from the root alone to 4,096 types of four fields",
+        15,
+        &all[..5 * 512],
+        &all,
+    );
+    let (ours, all) = speed::alternating(2_000);
+    plan("types of ours alternate with lacking ones, 2,000 times", 1, &ours, &all);
 }
 
 fn reads(what: &str, (bytes, memory): (Vec<u8>, Vec<u8>)) {
@@ -223,7 +274,11 @@ fn texts(what: &str, text: &str) {
 }
 
 fn main() {
+    if std::env::args().nth(1).as_deref() == Some("plan") {
+        return plans();
+    }
     walks();
+    plans();
     reads("a struct of 200 fields among 4,096 types", speed::struct_of_200());
     reads("an array of 10,000 structs of 6 fields", speed::array_of_10_000());
     long_read(speed::struct_among_60_000());

@@ -3,7 +3,7 @@
 use crate::read::{Reader, Sink};
 use crate::resolve::{fields_within, resolve};
 use crate::write::{Writer, well_formed};
-use crate::{Book, Stop, block, category, check, text, walk};
+use crate::{Book, Stop, block, category, check, plan, text, walk};
 
 const SCRATCH: usize = 16_384;
 const LIST: usize = 4_096;
@@ -152,6 +152,47 @@ pub fn missing_types(
             missing.count as u64,
         ],
     )
+}
+
+/// As the library's `plan_save`.
+#[allow(clippy::too_many_arguments)]
+pub fn plan_save(
+    buffer: &mut [u8],
+    len: usize,
+    controller: &[u8],
+    theirs: usize,
+    width: u8,
+    root: u64,
+    scratch: &mut [u32],
+    index: &mut [u32],
+    values: &mut [u64],
+) -> u8 {
+    let checked = check::check_root(buffer, len, root).and_then(|root| match check::check_book(controller, theirs) {
+        0 if scratch.len() < SCRATCH => Err(6),
+        0 => Ok(root),
+        number => Err(number),
+    });
+    let root = match checked {
+        Ok(root) => root,
+        Err(number) => {
+            lay(values, &[len as u64]);
+            return number;
+        }
+    };
+    let (answer, len) = plan::plan(buffer, len, &controller[..theirs], width, root);
+    scratch.fill(0);
+    index.fill(0);
+    match answer {
+        Ok(yes) => lay(values, &[u64::from(yes), len as u64]),
+        Err(Stop::Missing(by)) => {
+            lay(values, &[u64::from(by), len as u64]);
+            7
+        }
+        Err(Stop::Number(number)) => {
+            lay(values, &[len as u64]);
+            number
+        }
+    }
 }
 
 /// As the library's `read`.

@@ -9,6 +9,7 @@ pub mod calls;
 pub mod category;
 pub mod check;
 pub mod make;
+pub mod plan;
 pub mod random;
 pub mod read;
 pub mod resolve;
@@ -28,34 +29,57 @@ pub enum Stop {
     Number(u8),
 }
 
+/// The type block of each name.
+pub type Names<'a> = HashMap<&'a [u8], u32>;
+
+/// How look-ups go.
+enum By<'a> {
+    Map(Names<'a>),
+    Lent(&'a Names<'a>),
+    Search,
+}
+
 /// A valid book, mostly with a map of its names.
 pub struct Book<'a> {
     /// The book's bytes.
     pub bytes: &'a [u8],
-    names: Option<HashMap<&'a [u8], u32>>,
+    by: By<'a>,
 }
 
 impl<'a> Book<'a> {
+    /// A map of the names of a book.
+    pub fn names_of(bytes: &'a [u8]) -> Names<'a> {
+        let types = (0..block::count(bytes)).filter(|&n| block::kind(bytes, n) == 1);
+        types.map(|n| (block::name(bytes, n), n)).collect()
+    }
+
     /// The book of bytes that passed the checks.
     pub fn new(bytes: &'a [u8]) -> Self {
-        let types = (0..block::count(bytes)).filter(|&n| block::kind(bytes, n) == 1);
-        let names = types.map(|n| (block::name(bytes, n), n)).collect();
         Self {
             bytes,
-            names: Some(names),
+            by: By::Map(Self::names_of(bytes)),
+        }
+    }
+
+    /// The same with a map that is there already.
+    pub fn lent(bytes: &'a [u8], names: &'a Names<'a>) -> Self {
+        Self {
+            bytes,
+            by: By::Lent(names),
         }
     }
 
     /// The same without a map: each look-up searches all blocks.
     pub fn without_map(bytes: &'a [u8]) -> Self {
-        Self { bytes, names: None }
+        Self { bytes, by: By::Search }
     }
 
     /// The type block of a name.
     pub fn find(&self, name: &[u8]) -> Option<u32> {
-        match &self.names {
-            Some(names) => names.get(name).copied(),
-            None => calls::find(self.bytes, name),
+        match &self.by {
+            By::Map(names) => names.get(name).copied(),
+            By::Lent(names) => names.get(name).copied(),
+            By::Search => calls::find(self.bytes, name),
         }
     }
 }

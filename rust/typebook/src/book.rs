@@ -8,8 +8,8 @@ use std::borrow::Cow;
 use std::collections::HashMap;
 use std::fmt;
 
-const BLOCK: usize = 512;
-const SCRATCH: usize = 16_384;
+pub(crate) const BLOCK: usize = 512;
+pub(crate) const SCRATCH: usize = 16_384;
 const LIST: usize = 4_096;
 
 /// 0 as success, any other number as its refusal.
@@ -76,6 +76,11 @@ impl<'a> TypeBook<'a> {
         self.checked.into_bytes()
     }
 
+    /// How long an index of the book's names serves well.
+    pub(crate) fn slots(&self) -> usize {
+        self.checked.slots()
+    }
+
     /// The number of blocks; types, fields and enumeration entries have one each.
     pub fn blocks(&self) -> u32 {
         (self.bytes().len() / BLOCK) as u32
@@ -120,7 +125,12 @@ impl<'a> TypeBook<'a> {
 
     /// All types, in the order of the book.
     pub fn types(&self) -> impl Iterator<Item = TypeRef<'_>> {
-        (0..self.blocks())
+        self.types_from(0)
+    }
+
+    /// The types from a block on.
+    pub(crate) fn types_from(&self, block: u32) -> impl Iterator<Item = TypeRef<'_>> {
+        (block..self.blocks())
             .filter_map(|n| self.checked.type_block(n))
             .map(|block| TypeRef { block })
     }

@@ -117,6 +117,22 @@ mod raw {
             values: *mut u64,
             values_len: usize,
         ) -> u8;
+        pub fn gateway_plan_save(
+            buffer: *mut u8,
+            buffer_len: usize,
+            len: usize,
+            controller: *const u8,
+            controller_len: usize,
+            theirs: usize,
+            width: u8,
+            root: u64,
+            scratch: *mut u32,
+            scratch_len: usize,
+            index: *mut u32,
+            index_len: usize,
+            values: *mut u64,
+            values_len: usize,
+        ) -> u8;
         pub fn gateway_read(
             buffer: *const u8,
             buffer_len: usize,
@@ -447,6 +463,42 @@ pub mod total {
         }
     }
 
+    /// Completes our book, in the first `len` bytes of the buffer, by types of the controller's, in the first `theirs` bytes of its own,
+    /// and decides. Values: 1 if the memory must be read before it is written, else 0, and our book's new length; with 7 the block and that
+    /// length; with any other refusal that length alone. The index may have any length; four numbers for each type of both books
+    /// serve well.
+    #[allow(clippy::too_many_arguments)]
+    pub fn plan_save(
+        buffer: &mut [u8],
+        len: usize,
+        controller: &[u8],
+        theirs: usize,
+        width: u8,
+        root: u64,
+        scratch: &mut [u32],
+        index: &mut [u32],
+        values: &mut [u64],
+    ) -> u8 {
+        unsafe {
+            raw::gateway_plan_save(
+                buffer.as_mut_ptr(),
+                buffer.len(),
+                len,
+                controller.as_ptr(),
+                controller.len(),
+                theirs,
+                width,
+                root,
+                scratch.as_mut_ptr(),
+                scratch.len(),
+                index.as_mut_ptr(),
+                index.len(),
+                values.as_mut_ptr(),
+                values.len(),
+            )
+        }
+    }
+
     /// Values: records on the tape, bytes in the text buffer.
     #[allow(clippy::too_many_arguments)]
     pub fn read(
@@ -575,6 +627,10 @@ pub mod total {
                 );
                 let (n, m) = (null(), null_mut());
                 assert_eq!(
+                    raw::gateway_plan_save(m, 0, 0, n, 0, 0, 8, 0, null_mut(), 0, null_mut(), 0, null_mut(), 0),
+                    1
+                );
+                assert_eq!(
                     raw::gateway_write(n, 0, 0, 8, 0, n, 0, n, 0, n, 0, m, 0, null_mut(), 0),
                     1
                 );
@@ -615,7 +671,7 @@ impl<'a> Checked<'a> {
     }
 
     /// Four slots a type serve well; more would only fill the processor's caches.
-    fn slots(&self) -> usize {
+    pub(crate) fn slots(&self) -> usize {
         4 * self.bytes.chunks_exact(512).filter(|block| block[0] == 1).count()
     }
 

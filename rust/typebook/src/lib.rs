@@ -40,6 +40,20 @@
 //! # Ok::<(), Box<dyn std::error::Error>>(())
 //! ```
 //!
+//! Before a save, one call completes our book from the controller's type list and says whether the memory must be read first:
+//!
+//! ```
+//! use typebook::TypeBook;
+//! # let folder = concat!(env!("CARGO_MANIFEST_DIR"), "/../../examples/pieces/");
+//! # let list = std::fs::read(format!("{folder}book.bin"))?;
+//! # let root = list[..4 * 512].to_vec();
+//! let controller = TypeBook::new(list)?;
+//! let ours = TypeBook::new(root)?; // the recipe's own type: nothing of what lies in it is known yet
+//! let plan = ours.plan(&controller, 8, 0)?;
+//! assert!(plan.read_modify_write && plan.added.contains(&"FB_PieceCounter".to_string()));
+//! # Ok::<(), Box<dyn std::error::Error>>(())
+//! ```
+//!
 //! A refusal says which of document 01's nineteen it is, and what to do about it:
 //!
 //! ```
@@ -57,6 +71,7 @@ mod category;
 mod edit;
 #[allow(unsafe_code)]
 mod ffi;
+mod plan;
 mod refusal;
 mod tape;
 pub mod text;
@@ -66,5 +81,6 @@ pub use builder::{BuildError, TapeBuilder};
 pub use category::Category;
 pub use edit::{EditError, New, Step};
 pub use ffi::total as calls;
+pub use plan::{Plan, PlanError};
 pub use refusal::Refusal;
 pub use tape::{Record, Records, Tape, Value};

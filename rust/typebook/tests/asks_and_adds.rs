@@ -1,5 +1,6 @@
 //! A save from its beginning: our book begins with little more than the root, asks what it lacks, gets each listed type from the controller's
-//! book, and asks again, until nothing is listed. Then it must answer as the controller's book does.
+//! book, and asks again, until nothing is listed. Then it must answer as the controller's book does, and so must a plan, which makes the whole
+//! list in one call.
 
 use std::collections::BTreeSet;
 use twin::block;
@@ -164,10 +165,17 @@ fn a_book_is_completed_and_then_answers_as_the_controllers() {
         let (book, our_root) = ours(rng, &made.book, made.root);
         let book = TypeBook::new(book).unwrap();
         let lacking = needed.iter().filter(|n| book.find(text(n)).is_none()).count();
+        // One call makes such a list too, and adds exactly the needed names that were lacking.
+        let whole = TypeBook::new(&made.book[..]).unwrap();
+        let plan = book.plan(&whole, made.width, our_root.into()).unwrap();
+        assert!(plan.book.bytes().starts_with(book.bytes()) && plan.added.len() == lacking);
+        assert!(needed.iter().all(|n| plan.book.find(text(n)).is_some()));
         let (book, asks) = complete(rng, book, our_root, made.width, &controller, &needed);
         assert!(asks <= lacking);
         completed += usize::from(lacking > 0);
-        blocks += usize::from(answers_alike(rng, &book, our_root, &made, &reached));
+        let yes = answers_alike(rng, &book, our_root, &made, &reached);
+        assert_eq!(plan.read_modify_write, yes);
+        blocks += usize::from(yes);
     }
     assert!(
         completed > 800 && blocks > 200,

@@ -3,6 +3,10 @@
 use std::path::Path;
 use typebook::{TypeBook, Value};
 
+#[path = "../examples/plan_save.rs"]
+#[allow(dead_code)]
+mod plan_save;
+
 /// The line of a value, as document 01 prints it.
 fn line(value: Value) -> String {
     let hex = |text: &str| text.bytes().map(|b| format!("{b:02X}")).collect::<String>();
@@ -70,4 +74,13 @@ fn the_example_of_document_01() {
     let program = Path::new(env!("CARGO_MANIFEST_DIR")).join("../../crates/adswalk");
     let wanted = std::fs::read_to_string(program.join("stdout")).expect("the lines");
     assert_eq!(printed(&program.join("data")), wanted);
+}
+
+/// The recipe of examples/pieces, whose inner types our book does not know at first: what `tools/run plan` prints.
+#[test]
+fn the_pieces_of_a_shift() {
+    let folder = Path::new(env!("CARGO_MANIFEST_DIR")).join("../../examples/pieces");
+    let wanted = std::fs::read_to_string(folder.join("plan.txt")).expect("the lines");
+    let told = plan_save::told(&folder, &plan_save::FITTED.map(String::from)).expect("a plan");
+    assert_eq!(told, wanted);
 }
