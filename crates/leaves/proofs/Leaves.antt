@@ -47,6 +47,10 @@ pub bool-is : (mem : List ℕ) → length mem ≡ 1 → leaf.Bool (not (eqb (get
 unfolding boolLeaf
 bool-is mem h = rw (eq-eqb (length mem) 1 h)
 
+-- the one byte is there
+pub bool-first : (mem : List ℕ) → length mem ≡ 1 → 0 < length mem
+bool-first mem h = omega arith
+
 -- ---- reals and integers
 
 pub real-single : {v : Real} (x : Float) → v ≡ real.Single x → leaf.Single x ≡ realLeaf v
