@@ -1,14 +1,13 @@
 -- The numbers of a real, and of what a read and a write answer, tell it. Assumes nothing.
-use mathlib.Core.Path.{_≡_, refl, ap}
-use mathlib.Core.Bool.{Bool}
+use mathlib.Core.Path.{_≡_, refl, sym, ap, _∙_}
+use mathlib.Core.Bool.{true, false, cond}
 use mathlib.Core.List.{List, [], _∷_}
 use Prim.Native.Nat.{ℕ}
 use native.Mathlib.Omega.{arith}
-use lib.ListN.{length}
+use lib.Dec.{eqb}
 use lib.IntN.{pos, negsuc}
 use lib.Ieee.{Float, nan, inf, fin, binary32, binary64, toBits}
-use Rattle.number.specs.Answer.{truthNumber}
-use Rattle.number.proofs.Truths.{truth-is}
+use Rattle.number.specs.Answer.{refusalOf}
 use Rattle.float.specs.declared.Real.{Real}
 use Rattle.float.specs.declared.Real.the-variants.{Single, Double, NanSingle, NanDouble}
 use Rattle.float.specs.declared.RealRead.{RealRead}
@@ -17,55 +16,66 @@ use Rattle.float.specs.declared.RealWrite.{RealWrite}
 use Rattle.float.specs.declared.RealWrite.the-variants as write
 use Rattle.float.specs.Float.{floatNumbers, realNumbers, realReadNumbers, realWriteNumbers}
 
--- floats of the same parts are the same
-float-is : (x y : Float) → floatNumbers x ≡ floatNumbers y → x ≡ y
-unfolding floatNumbers
-float-is nan nan e = refl
-float-is nan (inf t) e = absurd (let z : _≡_ {A = ℕ} 0 1 = cc in omega arith)
-float-is nan (fin t n (pos j)) e = absurd (let z : _≡_ {A = ℕ} 0 2 = cc in omega arith)
-float-is nan (fin t n (negsuc j)) e = absurd (let z : _≡_ {A = ℕ} 0 3 = cc in omega arith)
-float-is (inf s) nan e = absurd (let z : _≡_ {A = ℕ} 1 0 = cc in omega arith)
-float-is (inf s) (inf t) e = let p : truthNumber s ≡ truthNumber t = cc in ap inf (truth-is s t p)
-float-is (inf s) (fin t n (pos j)) e = absurd (let z : _≡_ {A = ℕ} 1 2 = cc in omega arith)
-float-is (inf s) (fin t n (negsuc j)) e = absurd (let z : _≡_ {A = ℕ} 1 3 = cc in omega arith)
-float-is (fin s m (pos k)) nan e = absurd (let z : _≡_ {A = ℕ} 2 0 = cc in omega arith)
-float-is (fin s m (pos k)) (inf t) e = absurd (let z : _≡_ {A = ℕ} 2 1 = cc in omega arith)
-float-is (fin s m (pos k)) (fin t n (pos j)) e =
-    let p : truthNumber s ≡ truthNumber t = cc in let q : m ≡ n = cc in let o : k ≡ j = cc in rw (truth-is s t p, q, o)
-float-is (fin s m (pos k)) (fin t n (negsuc j)) e = absurd (let z : _≡_ {A = ℕ} 2 3 = cc in omega arith)
-float-is (fin s m (negsuc k)) nan e = absurd (let z : _≡_ {A = ℕ} 3 0 = cc in omega arith)
-float-is (fin s m (negsuc k)) (inf t) e = absurd (let z : _≡_ {A = ℕ} 3 1 = cc in omega arith)
-float-is (fin s m (negsuc k)) (fin t n (pos j)) e = absurd (let z : _≡_ {A = ℕ} 3 2 = cc in omega arith)
-float-is (fin s m (negsuc k)) (fin t n (negsuc j)) e =
-    let p : truthNumber s ≡ truthNumber t = cc in let q : m ≡ n = cc in let o : k ≡ j = cc in rw (truth-is s t p, q, o)
+-- the float of some parts
+floatFrom : List ℕ → Float
+floatFrom [] = nan
+floatFrom (k ∷ []) = nan
+floatFrom (k ∷ s ∷ []) = inf (eqb s 1)
+floatFrom (k ∷ s ∷ m ∷ []) = nan
+floatFrom (k ∷ s ∷ m ∷ e ∷ more) = fin (eqb s 1) m (cond (eqb k 2) (pos e) (negsuc e))
 
--- a float has a part
-some-part : (x : Float) → floatNumbers x ≡ [] → ⊥
-unfolding floatNumbers
-some-part nan e = let z : _≡_ {A = ℕ} 1 0 = ap length e in omega arith
-some-part (inf s) e = let z : _≡_ {A = ℕ} 2 0 = ap length e in omega arith
-some-part (fin s m (pos k)) e = let z : _≡_ {A = ℕ} 4 0 = ap length e in omega arith
-some-part (fin s m (negsuc k)) e = let z : _≡_ {A = ℕ} 4 0 = ap length e in omega arith
+-- the real of some numbers
+pub realFrom : List ℕ → Real
+realFrom [] = NanSingle 0
+realFrom (k ∷ []) = NanSingle 0
+realFrom (k ∷ n ∷ []) = cond (eqb k 9) (NanSingle n) (NanDouble n)
+realFrom (k ∷ n ∷ part ∷ parts) = cond (eqb k 9) (Single (floatFrom (part ∷ parts))) (Double (floatFrom (part ∷ parts)))
+
+-- a real's numbers give it back
+pub real-from : (v : Real) → realFrom (realNumbers v) ≡ v
+unfolding floatFrom realFrom realNumbers floatNumbers
+real-from (Single nan) = refl
+real-from (Single (inf true)) = refl
+real-from (Single (inf false)) = refl
+real-from (Single (fin true m (pos k))) = refl
+real-from (Single (fin false m (pos k))) = refl
+real-from (Single (fin true m (negsuc k))) = refl
+real-from (Single (fin false m (negsuc k))) = refl
+real-from (Double nan) = refl
+real-from (Double (inf true)) = refl
+real-from (Double (inf false)) = refl
+real-from (Double (fin true m (pos k))) = refl
+real-from (Double (fin false m (pos k))) = refl
+real-from (Double (fin true m (negsuc k))) = refl
+real-from (Double (fin false m (negsuc k))) = refl
+real-from (NanSingle n) = refl
+real-from (NanDouble n) = refl
 
 -- reals of the same numbers are the same
 pub real-is : (v u : Real) → realNumbers v ≡ realNumbers u → v ≡ u
+real-is v u e = sym (real-from v) ∙ ap realFrom e ∙ real-from u
+
+-- the numbers of each kind of real
+pub single-numbers : (x : Float) → realNumbers (Single x) ≡ 9 ∷ toBits binary32 x ∷ floatNumbers x
 unfolding realNumbers
-real-is (Single x) (Single y) e = let q : floatNumbers x ≡ floatNumbers y = cc in ap Single (float-is x y q)
-real-is (Single x) (Double y) e = absurd (let z : _≡_ {A = ℕ} 9 10 = cc in omega arith)
-real-is (Single x) (NanSingle m) e = absurd (some-part x cc)
-real-is (Single x) (NanDouble m) e = absurd (let z : _≡_ {A = ℕ} 9 10 = cc in omega arith)
-real-is (Double x) (Single y) e = absurd (let z : _≡_ {A = ℕ} 10 9 = cc in omega arith)
-real-is (Double x) (Double y) e = let q : floatNumbers x ≡ floatNumbers y = cc in ap Double (float-is x y q)
-real-is (Double x) (NanSingle m) e = absurd (let z : _≡_ {A = ℕ} 10 9 = cc in omega arith)
-real-is (Double x) (NanDouble m) e = absurd (some-part x cc)
-real-is (NanSingle n) (Single y) e = absurd (some-part y cc)
-real-is (NanSingle n) (Double y) e = absurd (let z : _≡_ {A = ℕ} 9 10 = cc in omega arith)
-real-is (NanSingle n) (NanSingle m) e = let q : n ≡ m = cc in ap NanSingle q
-real-is (NanSingle n) (NanDouble m) e = absurd (let z : _≡_ {A = ℕ} 9 10 = cc in omega arith)
-real-is (NanDouble n) (Single y) e = absurd (let z : _≡_ {A = ℕ} 10 9 = cc in omega arith)
-real-is (NanDouble n) (Double y) e = absurd (some-part y cc)
-real-is (NanDouble n) (NanSingle m) e = absurd (let z : _≡_ {A = ℕ} 10 9 = cc in omega arith)
-real-is (NanDouble n) (NanDouble m) e = let q : n ≡ m = cc in ap NanDouble q
+single-numbers x = refl
+
+pub double-numbers : (x : Float) → realNumbers (Double x) ≡ 10 ∷ toBits binary64 x ∷ floatNumbers x
+unfolding realNumbers
+double-numbers x = refl
+
+pub nan-single-numbers : (n : ℕ) → realNumbers (NanSingle n) ≡ 9 ∷ n ∷ []
+unfolding realNumbers
+nan-single-numbers n = refl
+
+pub nan-double-numbers : (n : ℕ) → realNumbers (NanDouble n) ≡ 10 ∷ n ∷ []
+unfolding realNumbers
+nan-double-numbers n = refl
+
+-- the number of a read's refusal of a size
+pub real-size-number : refusalOf (realReadNumbers read.Size) ≡ 10
+unfolding realReadNumbers
+real-size-number = refl
 
 -- reads' answers of the same numbers are the same
 pub real-read-is : (r a : RealRead) → realReadNumbers r ≡ realReadNumbers a → r ≡ a

@@ -4,7 +4,7 @@ use mathlib.Core.Logic.{_⊎_, inl, inr, ⊎-elim}
 use mathlib.Core.Bool.{Bool, true, false, cond, not}
 use mathlib.Core.List.{List, [], append-nil}
 use Prim.Native.Nat.{ℕ, _*_, _%_, _^_, _≤_, _<_, min}
-use native.Mathlib.Nat.{mod-eq-of-lt}
+use native.Mathlib.Nat.{mod-lt, mod-eq-of-lt}
 use native.Mathlib.Omega.{arith}
 use lib.ListN.{length, take, drop, drop-of-length-le}
 use lib.Seq.{take-all}
@@ -18,11 +18,12 @@ use Rattle.type_id.specs.declared.AdsTypeId.the-variants.{Void, Int16, Int32, R
 use Rattle.float.specs.declared.Real.{Real}
 use Rattle.float.specs.declared.Real.the-variants.{Single, Double, NanSingle, NanDouble}
 use Rattle.float.specs.declared.RealRead.the-variants as read
+use Rattle.float.specs.declared.RealWrite.{RealWrite}
 use Rattle.float.specs.declared.RealWrite.the-variants as write
 use Rattle.number.specs.Le.{Bytes, leValue, leBytes, leStored}
 use Rattle.float.specs.Float.{realWidth, singleOf, doubleOf, realOf, realBits, realSize, readReal, writeReal, realAfter, RealWritten}
-use Rattle.float.proofs.Numbers.{real-write-says}
-use Rattle.number.proofs.ByteOrder.{leValue-below, leBytes-leValue}
+use Rattle.float.proofs.Numbers.{real-write-is, real-write-says}
+use Rattle.number.proofs.ByteOrder.{leValue-below, leBytes-mod, leBytes-leValue}
 
 -- ---- a pattern and its real
 
@@ -63,6 +64,35 @@ module _ (n : ℕ) where
 
   pub double-number : n % 0x8000_0000_0000_0000 ≤ 0x7ff0_0000_0000_0000 → T (not (nanBits binary64 n))
   double-number h = not-nan binary64 n (double-not h)
+
+-- what holds of every NaN's pattern and of every float that a real holds, holds of the real of a pattern
+pub single-by : (P : Real → Type 0) → ((m : ℕ) → P (NanSingle m)) → ((x : Float) → P (Single x)) → (n : ℕ) → P (singleOf n)
+unfolding singleOf
+single-by P k h n = by (nanBits binary32 n)
+  where
+    by : (b : Bool) → P (cond b (NanSingle n) (Single (ofBits binary32 n)))
+    by true = k n
+    by false = h (ofBits binary32 n)
+
+pub double-by : (P : Real → Type 0) → ((m : ℕ) → P (NanDouble m)) → ((x : Float) → P (Double x)) → (n : ℕ) → P (doubleOf n)
+unfolding doubleOf
+double-by P k h n = by (nanBits binary64 n)
+  where
+    by : (b : Bool) → P (cond b (NanDouble n) (Double (ofBits binary64 n)))
+    by true = k n
+    by false = h (ofBits binary64 n)
+
+single-size : (n : ℕ) → realSize (singleOf n) ≡ 4
+single-size n = single-by (λ (r : Real). realSize r ≡ 4) (λ m. refl) (λ x. refl) n
+
+double-size : (n : ℕ) → realSize (doubleOf n) ≡ 8
+double-size n = double-by (λ (r : Real). realSize r ≡ 8) (λ m. refl) (λ x. refl) n
+
+-- how many bytes the real of a pattern fills
+pub pattern-size : (d : Bool) (n : ℕ) → realSize (realOf d n) ≡ cond d 8 4
+unfolding realOf
+pattern-size true n = double-size n
+pattern-size false n = single-size (n % 2 ^ 32)
 
 module _ (d : Bool) (n : ℕ) (r : Real) where
   pub real-double : d ≡ true → r ≡ doubleOf n → r ≡ realOf d n
@@ -114,6 +144,14 @@ pub double-back : (n : ℕ) → n < 2 ^ 64 → realBits (doubleOf n) ≡ n
 unfolding doubleOf
 double-back n l = pattern-back binary64 NanDouble Double (λ m. refl) (λ x. refl) n l
 
+-- the bytes of the real of a pattern are the pattern's
+pub pattern-bytes : (d : Bool) (n : ℕ) → n < 2 ^ 64 → leBytes (realSize (realOf d n)) (realBits (realOf d n)) ≡ leBytes (cond d 8 4) n
+unfolding realOf
+pattern-bytes true n l = rw (double-size n, double-back n l)
+pattern-bytes false n l =
+    let s : n % 2 ^ 32 < 2 ^ 32 = mod-lt n (omega arith) in
+    rw (single-size (n % 2 ^ 32), single-back (n % 2 ^ 32) s) (leBytes-mod 4 n)
+
 -- ---- reading and writing
 
 real-widths : (t : AdsTypeId) → (realWidth t ≡ 0) ⊎ ((realWidth t ≡ 4) ⊎ (realWidth t ≡ 8))
@@ -155,6 +193,15 @@ module _ (t : AdsTypeId) (bs : List ℕ) (w : ℕ) (ew : w ≡ realWidth t) wher
         let e : n ≡ leValue bs = en ∙ ap leValue (take-all 8 bs (omega (arith, real-width-small t))) in
         rw (← ew, ne-eqb w 0 some, eq-eqb (length bs) w l, ← e, ← er)
 
+-- four bytes of a Real32, eight of a Real64
+pub read-single : (bs : List ℕ) → length bs ≡ 4 → read.Value (singleOf (leValue bs % 2 ^ 32)) ≡ readReal Real32 bs
+unfolding readReal realOf
+read-single bs l = rw l
+
+pub read-double : (bs : List ℕ) → length bs ≡ 8 → read.Value (doubleOf (leValue bs)) ≡ readReal Real64 bs
+unfolding readReal realOf
+read-double bs l = rw l
+
 size-small : (v : Real) → realSize v ≤ 8
 size-small (Single x) = omega arith
 size-small (Double x) = omega arith
@@ -175,6 +222,42 @@ module _ (v : Real) (out : List ℕ) (w : ℕ) (ew : w ≡ realSize v) where
       let e : new ≡ leBytes w b = en ∙ rw (m, d, append-nil (leBytes w b)) in
       record { answer = real-write-says _ _ (rw (← ew, eq-eqb (length out) w l)); buffer = rw (← ew, eq-eqb (length out) w l, ← ew, ← eb) e }
 
+-- ---- what a write's answer tells
+
+told-done : (c : Bool) → cond c write.Done write.Size ≡ write.Done → c ≡ true
+told-done true e = refl
+told-done false e = absurd (let z : _≡_ {A = ℕ} 0 1 = cc in omega arith)
+
+told-size : (c : Bool) → cond c write.Done write.Size ≡ write.Size → c ≡ false
+told-size false e = refl
+told-size true e = absurd (let z : _≡_ {A = ℕ} 0 1 = cc in omega arith)
+
+-- done: there were as many bytes as the real fills, and they are the real's
+pub record WroteReal (v : Real) (old new : List ℕ) : Type 0 where
+  pub size : length old ≡ realSize v
+  pub bytes : new ≡ leBytes (realSize v) (realBits v)
+
+-- refused: there were not, and they stay
+pub record LeftReal (v : Real) (old new : List ℕ) : Type 0 where
+  pub size : length old ≡ realSize v → ⊥
+  pub bytes : new ≡ old
+
+module _ (v : Real) (old : List ℕ) {r : RealWrite} {new : List ℕ} (x : RealWritten v old r new) where
+  answer-is : writeReal v old ≡ r
+  answer-is = sym (real-write-is _ _ (x .answer))
+
+  pub wrote-real : r ≡ write.Done → WroteReal v old new
+  unfolding writeReal realAfter
+  wrote-real e =
+      let q : writeReal v old ≡ write.Done = answer-is ∙ e in
+      record { size = eqb-true (length old) (realSize v) (told-done (eqb (length old) (realSize v)) q); bytes = x .buffer ∙ rw q }
+
+  pub left-real : r ≡ write.Size → LeftReal v old new
+  unfolding writeReal realAfter
+  left-real e =
+      let q : writeReal v old ≡ write.Size = answer-is ∙ e in
+      record { size = eqb-false (length old) (realSize v) (told-size (eqb (length old) (realSize v)) q); bytes = x .buffer ∙ rw q }
+
 -- ---- there and back
 
 -- a pattern of 8 or 4 bytes gives a real of that size and that pattern
@@ -182,22 +265,15 @@ record Held (w n : ℕ) (v : Real) : Type 0 where
   size : realSize v ≡ w
   bits : realBits v ≡ n
 
-held-by : (f : Format) (w n : ℕ) (kept : ℕ → Real) (held : Float → Real) → ((m : ℕ) → realSize (kept m) ≡ w) → ((x : Float) → realSize (held x) ≡ w) → realSize (cond (nanBits f n) (kept n) (held (ofBits f n))) ≡ w
-held-by f w n kept held k h = by (nanBits f n)
-  where
-    by : (b : Bool) → realSize (cond b (kept n) (held (ofBits f n))) ≡ w
-    by true = k n
-    by false = h (ofBits f n)
-
 held-single : (n : ℕ) → n < 2 ^ 32 → Held 4 n (realOf false n)
-unfolding realOf singleOf
+unfolding realOf
 held-single n l =
     let m : n % 0x1_0000_0000 ≡ n = mod-eq-of-lt l in
-    rw m (record { size = held-by binary32 4 n NanSingle Single (λ k. refl) (λ x. refl); bits = single-back n l })
+    rw m (record { size = single-size n; bits = single-back n l })
 
 held-double : (n : ℕ) → n < 2 ^ 64 → Held 8 n (realOf true n)
-unfolding realOf doubleOf
-held-double n l = record { size = held-by binary64 8 n NanDouble Double (λ k. refl) (λ x. refl); bits = double-back n l }
+unfolding realOf
+held-double n l = record { size = double-size n; bits = double-back n l }
 
 record ReadAs (t : AdsTypeId) (bs : List ℕ) (v : Real) : Type 0 where
   some : realWidth t ≡ 0 → ⊥

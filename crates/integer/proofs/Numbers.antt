@@ -1,8 +1,9 @@
 -- The numbers of an integer, and of what a read and a write answer, tell it. Assumes nothing.
 use mathlib.Core.Path.{_≡_, refl, ap}
-use mathlib.Core.List.{List}
+use mathlib.Core.List.{List, [], _∷_}
 use Prim.Native.Nat.{ℕ}
 use native.Mathlib.Omega.{arith}
+use Rattle.number.specs.Answer.{refusalOf}
 use Rattle.integer.specs.declared.Integer.{Integer}
 use Rattle.integer.specs.declared.Integer.the-variants.{Signed, Unsigned}
 use Rattle.integer.specs.declared.IntegerRead.{IntegerRead}
@@ -10,6 +11,36 @@ use Rattle.integer.specs.declared.IntegerRead.the-variants as read
 use Rattle.integer.specs.declared.IntegerWrite.{IntegerWrite}
 use Rattle.integer.specs.declared.IntegerWrite.the-variants as write
 use Rattle.integer.specs.Integer.{integerNumbers, integerReadNumbers, integerWriteNumbers}
+
+-- the numbers of each kind of integer
+pub signed-numbers : (w b : ℕ) → integerNumbers (Signed w b) ≡ 7 ∷ w ∷ b ∷ []
+unfolding integerNumbers
+signed-numbers w b = refl
+
+pub unsigned-numbers : (w n : ℕ) → integerNumbers (Unsigned w n) ≡ 8 ∷ w ∷ n ∷ []
+unfolding integerNumbers
+unsigned-numbers w n = refl
+
+-- the numbers of the refusals
+pub read-size-number : refusalOf (integerReadNumbers read.Size) ≡ 10
+unfolding integerReadNumbers
+read-size-number = refl
+
+pub read-unsupported-number : refusalOf (integerReadNumbers read.Unsupported) ≡ 11
+unfolding integerReadNumbers
+read-unsupported-number = refl
+
+pub write-range-number : refusalOf (integerWriteNumbers write.OutOfRange) ≡ 19
+unfolding integerWriteNumbers
+write-range-number = refl
+
+pub write-size-number : refusalOf (integerWriteNumbers write.Size) ≡ 10
+unfolding integerWriteNumbers
+write-size-number = refl
+
+pub write-unsupported-number : refusalOf (integerWriteNumbers write.Unsupported) ≡ 17
+unfolding integerWriteNumbers
+write-unsupported-number = refl
 
 -- integers of the same numbers are the same
 pub integer-is : (v u : Integer) → integerNumbers v ≡ integerNumbers u → v ≡ u

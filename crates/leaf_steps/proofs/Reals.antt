@@ -1,19 +1,17 @@
 -- A real on the tape: the trace of a type with id Real32 (4) over 4 bytes is one record of kind 9, of Real64 (5) over 8 bytes one of kind 10;
 -- B is the little-endian number of the bytes, whatever they are, NaNs included. Assumes nothing.
 use mathlib.Core.Path.{_≡_, refl, ap, _∙_}
-use mathlib.Core.Bool.{Bool, true, false, cond}
 use mathlib.Core.List.{List}
 use Prim.Native.Nat.{ℕ, _%_, _^_, _<_}
 use native.Mathlib.Omega.{arith}
 use lib.ListN.{length}
-use lib.Ieee.{binary32, binary64, ofBits, nanBits}
 use Rattle.number.specs.Le.{Bytes, leValue}
 use Rattle.number.proofs.ByteOrder.{leValue-below}
-use Rattle.type_id.specs.TypeId.{idOf}
-use Rattle.float.specs.Float.{realBits, singleOf, doubleOf, realOf, readReal}
+use Rattle.type_id.specs.declared.AdsTypeId.the-variants.{Real32, Real64}
+use Rattle.type_id.proofs.TypeIds.{named}
+use Rattle.float.specs.Float.{realBits, singleOf, doubleOf}
 use Rattle.float.specs.declared.Real.{Real}
-use Rattle.float.specs.declared.Real.the-variants as real
-use Rattle.float.proofs.Reals.{single-back, double-back}
+use Rattle.float.proofs.Reals.{single-by, double-by, single-back, double-back, read-single, read-double}
 use Rattle.typebook.specs.Book.{typeIdOf}
 use Rattle.type_category.specs.Category.{categoryOf}
 use Rattle.tape.specs.Record.{newRecord}
@@ -24,20 +22,10 @@ use Rattle.leaf_steps.specs.Leaves.{traceOf}
 
 module _ (mem : List ℕ) where
   single-trace : (n : ℕ) → traceOf (realLeaf (singleOf n)) mem ≡ one (rec (newRecord 9 0 0 (realBits (singleOf n))))
-  unfolding singleOf
-  single-trace n = by (nanBits binary32 n)
-    where
-      by : (b : Bool) → traceOf (realLeaf (cond b (real.NanSingle n) (real.Single (ofBits binary32 n)))) mem ≡ one (rec (newRecord 9 0 0 (realBits (cond b (real.NanSingle n) (real.Single (ofBits binary32 n))))))
-      by true = refl
-      by false = refl
+  single-trace n = single-by (λ (v : Real). traceOf (realLeaf v) mem ≡ one (rec (newRecord 9 0 0 (realBits v)))) (λ m. refl) (λ x. refl) n
 
   double-trace : (n : ℕ) → traceOf (realLeaf (doubleOf n)) mem ≡ one (rec (newRecord 10 0 0 (realBits (doubleOf n))))
-  unfolding doubleOf
-  double-trace n = by (nanBits binary64 n)
-    where
-      by : (b : Bool) → traceOf (realLeaf (cond b (real.NanDouble n) (real.Double (ofBits binary64 n)))) mem ≡ one (rec (newRecord 10 0 0 (realBits (cond b (real.NanDouble n) (real.Double (ofBits binary64 n))))))
-      by true = refl
-      by false = refl
+  double-trace n = double-by (λ (v : Real). traceOf (realLeaf v) mem ≡ one (rec (newRecord 10 0 0 (realBits v)))) (λ m. refl) (λ x. refl) n
 
 -- a resolved type t that is read by its id
 module _ (book : List ℕ) (width t : ℕ) (mem : List ℕ) (by-id : kindOfLeaf (categoryOf book width t) ≡ kind.Number) (bytes : Bytes mem) where
@@ -46,12 +34,12 @@ module _ (book : List ℕ) (width t : ℕ) (mem : List ℕ) (by-id : kindOfLeaf 
   by-number = rw by-id
 
   single-leaf : typeIdOf book t ≡ 4 → length mem ≡ 4 → numberLeaf book t mem ≡ realLeaf (singleOf (leValue mem % 2 ^ 32))
-  unfolding numberLeaf realOr idOf readReal realOf
-  single-leaf e l = rw (e, l)
+  unfolding numberLeaf realOr
+  single-leaf e l = rw (e, ← named Real32 tt 4 refl, ← read-single mem l)
 
   double-leaf : typeIdOf book t ≡ 5 → length mem ≡ 8 → numberLeaf book t mem ≡ realLeaf (doubleOf (leValue mem))
-  unfolding numberLeaf realOr idOf readReal realOf
-  double-leaf e l = rw (e, l)
+  unfolding numberLeaf realOr
+  double-leaf e l = rw (e, ← named Real64 tt 5 refl, ← read-double mem l)
 
   pub real32-trace : typeIdOf book t ≡ 4 → length mem ≡ 4 → traceOf (leafAt book width t mem) mem ≡ one (rec (newRecord 9 0 0 (leValue mem)))
   real32-trace e l =

@@ -10,8 +10,10 @@ use lib.Ieee.{Float}
 use borrow.Author.Tests.{eq-eqb, ne-eqb}
 use Rattle.type_id.specs.TypeId.{idOf, numberOf}
 use Rattle.type_id.proofs.TypeIds.{number-of-id}
-use Rattle.integer.specs.Integer.{integerReadNumbers, readInteger}
-use Rattle.float.specs.Float.{realReadNumbers, readReal}
+use Rattle.integer.specs.Integer.{readInteger}
+use Rattle.integer.proofs.Numbers.{read-size-number, read-unsupported-number}
+use Rattle.float.specs.Float.{readReal}
+use Rattle.float.proofs.Numbers.{real-size-number}
 use Rattle.type_id.specs.declared.AdsTypeId.{AdsTypeId}
 use Rattle.type_id.specs.declared.AdsTypeId.the-variants.{UInt16, UInt32, UInt64}
 use Rattle.integer.specs.declared.Integer.{Integer}
@@ -47,6 +49,10 @@ pub bool-is : (mem : List ℕ) → length mem ≡ 1 → leaf.Bool (not (eqb (get
 unfolding boolLeaf
 bool-is mem h = rw (eq-eqb (length mem) 1 h)
 
+-- the one byte is there
+pub bool-first : (mem : List ℕ) → length mem ≡ 1 → 0 < length mem
+bool-first mem h = omega arith
+
 -- ---- reals and integers
 
 pub real-single : {v : Real} (x : Float) → v ≡ real.Single x → leaf.Single x ≡ realLeaf v
@@ -70,24 +76,24 @@ unfolding integerLeaf
 integer-unsigned w n e q = rw (e, q)
 
 pub integer-size : {r : IntegerRead} → r ≡ read.Size → leaf.Refused 10 ≡ integerLeaf r
-unfolding integerLeaf integerReadNumbers
-integer-size e = rw e
+unfolding integerLeaf
+integer-size e = rw (e, read-size-number)
 
 pub integer-id : {r : IntegerRead} → r ≡ read.Unsupported → leaf.Refused 11 ≡ integerLeaf r
-unfolding integerLeaf integerReadNumbers
-integer-id e = rw e
+unfolding integerLeaf
+integer-id e = rw (e, read-unsupported-number)
 
 pub unlisted-value : {r : IntegerRead} (v : Integer) → r ≡ read.Value v → leaf.Refused 12 ≡ unlisted r
 unfolding unlisted
 unlisted-value v e = rw e
 
 pub unlisted-size : {r : IntegerRead} → r ≡ read.Size → leaf.Refused 10 ≡ unlisted r
-unfolding unlisted integerReadNumbers
-unlisted-size e = rw e
+unfolding unlisted
+unlisted-size e = rw (e, read-size-number)
 
 pub unlisted-id : {r : IntegerRead} → r ≡ read.Unsupported → leaf.Refused 11 ≡ unlisted r
-unfolding unlisted integerReadNumbers
-unlisted-id e = rw e
+unfolding unlisted
+unlisted-id e = rw (e, read-unsupported-number)
 
 -- ---- a number by its id
 
@@ -109,8 +115,8 @@ module _ (book : List ℕ) (t : ℕ) (mem : List ℕ) (id : AdsTypeId) (ei : id 
     number-real v q e = number-by (rw q e)
 
     pub number-size : f ≡ realRead.Size → r ≡ leaf.Refused 10 → r ≡ numberLeaf book t mem
-    unfolding realOr realReadNumbers
-    number-size q e = number-by (rw q e)
+    unfolding realOr
+    number-size q e = number-by (rw (q, real-size-number) e)
 
     pub number-integer : f ≡ realRead.Unsupported → (i : IntegerRead) → i ≡ readInteger id mem → r ≡ integerLeaf i → r ≡ numberLeaf book t mem
     unfolding realOr

@@ -3,63 +3,40 @@ use mathlib.Core.Path.{_≡_, refl, sym, ap, _∙_}
 use mathlib.Core.Bool.{true, false, cond}
 use mathlib.Core.List.{List, [], _∷_}
 use Prim.Native.Nat.{ℕ}
+use lib.ListN.{getD}
 use lib.Dec.{eqb}
-use lib.IntN.{pos, negsuc}
-use lib.Ieee.{Float, nan, inf, fin}
-use Rattle.number.specs.Answer.{refusalOf}
-use Rattle.integer.specs.Integer.{integerNumbers}
+use Rattle.integer.proofs.Numbers.{signed-numbers, unsigned-numbers}
+use Rattle.float.proofs.Numbers.{realFrom, real-from, single-numbers, double-numbers, nan-single-numbers, nan-double-numbers}
+use Rattle.float.specs.declared.Real.the-variants as real
 use Rattle.utf_8.specs.declared.TextEnd.the-variants.{Terminated, Unterminated}
 use Rattle.text_decoder.specs.declared.Decoder.the-variants as decoder
-use Rattle.float.specs.Float.{floatNumbers, realNumbers}
 use Rattle.leaves.specs.declared.leaf.LeafValue.{LeafValue}
 use Rattle.leaves.specs.declared.leaf.LeafValue.the-variants as leaf
-use Rattle.leaves.specs.Leaf.{leafNumbers}
+use Rattle.leaves.specs.Leaf.{leafNumbers, realLeaf}
 
--- the float of some parts
-floatOf : List ℕ → Float
-floatOf [] = nan
-floatOf (k ∷ []) = nan
-floatOf (k ∷ s ∷ []) = inf (eqb s 1)
-floatOf (k ∷ s ∷ m ∷ []) = nan
-floatOf (k ∷ s ∷ m ∷ e ∷ more) = fin (eqb s 1) m (cond (eqb k 2) (pos e) (negsuc e))
-
--- the answer of some numbers
+-- the answer of some numbers, by the tape's kind
 answerOf : List ℕ → LeafValue
 answerOf [] = leaf.Unit
 answerOf (n ∷ []) = leaf.Refused n
-answerOf (z ∷ k ∷ []) = leaf.Unit
-answerOf (z ∷ k ∷ a ∷ []) =
-    cond (eqb k 6) (leaf.Bool (eqb a 1))
-    (cond (eqb k 12) (leaf.Entry a)
-    (cond (eqb k 9) (leaf.NanSingle a) (leaf.NanDouble a)))
-answerOf (z ∷ k ∷ a ∷ b ∷ more) =
-    cond (eqb k 7) (leaf.Signed a b)
-    (cond (eqb k 8) (leaf.Unsigned a b)
-    (cond (eqb k 11) (leaf.Text (cond (eqb a 30) decoder.Windows1252 decoder.Utf16) (cond (eqb b 1) (Terminated (refusalOf more)) (Unterminated (refusalOf more))))
-    (cond (eqb k 9) (leaf.Single (floatOf (b ∷ more))) (leaf.Double (floatOf (b ∷ more))))))
+answerOf (z ∷ k ∷ rest) =
+    cond (eqb k 6) (leaf.Bool (eqb (getD rest 0 0) 1))
+    (cond (eqb k 7) (leaf.Signed (getD rest 0 0) (getD rest 1 0))
+    (cond (eqb k 8) (leaf.Unsigned (getD rest 0 0) (getD rest 1 0))
+    (cond (eqb k 9) (realLeaf (realFrom (k ∷ rest)))
+    (cond (eqb k 10) (realLeaf (realFrom (k ∷ rest)))
+    (cond (eqb k 11) (leaf.Text (cond (eqb (getD rest 0 0) 30) decoder.Windows1252 decoder.Utf16) (cond (eqb (getD rest 1 0) 1) (Terminated (getD rest 2 0)) (Unterminated (getD rest 2 0))))
+    (cond (eqb k 12) (leaf.Entry (getD rest 0 0)) leaf.Unit))))))
 
 back : (v : LeafValue) → answerOf (leafNumbers v) ≡ v
-unfolding answerOf floatOf leafNumbers integerNumbers realNumbers floatNumbers
-back (leaf.Signed w b) = refl
-back (leaf.Unsigned w n) = refl
+unfolding answerOf leafNumbers
+back (leaf.Signed w b) = rw (signed-numbers w b)
+back (leaf.Unsigned w n) = rw (unsigned-numbers w n)
 back (leaf.Bool true) = refl
 back (leaf.Bool false) = refl
-back (leaf.Single nan) = refl
-back (leaf.Single (inf true)) = refl
-back (leaf.Single (inf false)) = refl
-back (leaf.Single (fin true m (pos k))) = refl
-back (leaf.Single (fin false m (pos k))) = refl
-back (leaf.Single (fin true m (negsuc k))) = refl
-back (leaf.Single (fin false m (negsuc k))) = refl
-back (leaf.Double nan) = refl
-back (leaf.Double (inf true)) = refl
-back (leaf.Double (inf false)) = refl
-back (leaf.Double (fin true m (pos k))) = refl
-back (leaf.Double (fin false m (pos k))) = refl
-back (leaf.Double (fin true m (negsuc k))) = refl
-back (leaf.Double (fin false m (negsuc k))) = refl
-back (leaf.NanSingle n) = refl
-back (leaf.NanDouble n) = refl
+back (leaf.Single x) = rw (single-numbers x, ← single-numbers x, real-from (real.Single x))
+back (leaf.Double x) = rw (double-numbers x, ← double-numbers x, real-from (real.Double x))
+back (leaf.NanSingle n) = rw (nan-single-numbers n, ← nan-single-numbers n, real-from (real.NanSingle n))
+back (leaf.NanDouble n) = rw (nan-double-numbers n, ← nan-double-numbers n, real-from (real.NanDouble n))
 back (leaf.Text decoder.Windows1252 (Terminated n)) = refl
 back (leaf.Text decoder.Windows1252 (Unterminated n)) = refl
 back (leaf.Text decoder.Utf16 (Terminated n)) = refl

@@ -16,6 +16,8 @@ use type_category::type_category::AdsTypeCategory;
 use type_id::AdsTypeId;
 use type_provider::Found;
 use utf_8::TextEnd;
+use validators::Validity;
+use validators::validate_exact_size;
 
 // A real has cases of its own; a NaN's keeps its bits.
 pub enum LeafValue {
@@ -73,9 +75,9 @@ fn kind_of(category: AdsTypeCategory) -> LeafKind
 fn bool_leaf(bytes: &[u8]) -> LeafValue
     ensures { λ r. ⌜ r ≡ boolLeaf (now (bytes .entry)) ⌝ }
 {
-    if bytes.len() != 1 {
+    let Validity::Valid = validate_exact_size(bytes, 1) else {
         return LeafValue::Refused(10);
-    }
+    };
     LeafValue::Bool(bytes[0] != 0)
 }
 
@@ -149,9 +151,10 @@ fn decoder_of(book: &[u8], t: u32) -> Decoder
 fn text_leaf(book: &[u8], t: u32, bytes: &[u8]) -> LeafValue
     ensures { λ r. ⌜ r ≡ textLeaf (now (book .entry)) t (now (bytes .entry)) ⌝ }
 {
-    if bytes.len() != typebook::block::size(book, t) as usize {
+    let size = typebook::block::size(book, t) as usize;
+    let Validity::Valid = validate_exact_size(bytes, size) else {
         return LeafValue::Refused(10);
-    }
+    };
     let decoder = decoder_of(book, t);
     let end = text_end(decoder, bytes);
     LeafValue::Text(decoder, end)
@@ -173,9 +176,10 @@ fn enum_leaf(book: &[u8], t: u32, bytes: &[u8]) -> LeafValue
     requires { ⌜ t + fieldsOf (now book) t + entriesOf (now book) t < 65536 ⌝ }
     ensures { λ r. ⌜ r ≡ enumLeaf (now (book .entry)) t (now (bytes .entry)) ⌝ }
 {
-    if bytes.len() != typebook::block::size(book, t) as usize {
+    let size = typebook::block::size(book, t) as usize;
+    let Validity::Valid = validate_exact_size(bytes, size) else {
         return LeafValue::Refused(10);
-    }
+    };
     let first = t + 1 + typebook::block::fields(book, t);
     let found = find_entry(book, bytes, first, typebook::block::entries(book, t));
     match found {

@@ -23,6 +23,15 @@ pub leBytes-two : (n : ℕ) → leBytes 2 n ≡ n % 256 ∷ n / 256 % 256 ∷ []
 unfolding leBytes
 leBytes-two n = refl
 
+-- four and eight
+pub leBytes-four : (n : ℕ) → leBytes 4 n ≡ n % 256 ∷ n / 256 % 256 ∷ n / 256 / 256 % 256 ∷ n / 256 / 256 / 256 % 256 ∷ []
+unfolding leBytes
+leBytes-four n = refl
+
+pub leBytes-eight : (n : ℕ) → leBytes 8 n ≡ leBytes 4 n ++ leBytes 4 (n / 256 / 256 / 256 / 256)
+unfolding leBytes
+leBytes-eight n = refl
+
 pub leValue-two : (x y : ℕ) → leValue (x ∷ y ∷ []) ≡ x + y * 256
 unfolding leValue
 leValue-two x y = omega arith

@@ -5,7 +5,7 @@ use mathlib.Core.List.{List, [], _∷_, _++_, append-assoc, append-nil}
 use Prim.Native.Nat.{ℕ, suc, _+_, _-_, _≤_, _<_}
 use native.Mathlib.Omega.{arith}
 use lib.ListN.{length, take, drop, set, length-append, length-drop, take-append-drop}
-use lib.Seq.{take-at, drop-append-add, drop-drop, length-take-le, sets, sets-eq}
+use lib.Seq.{take-at, take-all, drop-append-add, drop-drop, length-take-le, sets, sets-eq, paste}
 use borrow.Author.Tests.{leb-true, leb-false, le-leb, lt-leb}
 use Rattle.utf_8.specs.declared.Put.{Put}
 use Rattle.utf_8.specs.declared.Put.the-variants.{Next, Full}
@@ -41,7 +41,23 @@ pub splice-start : (out xs : List ℕ) → splice out 0 xs ≡ xs ++ drop (lengt
 unfolding splice
 splice-start out xs = let e : 0 + length xs ≡ length xs = omega arith in rw e
 
+-- as a copy of all bytes leaves it
+pub splice-paste : (out : List ℕ) (at : ℕ) (xs : List ℕ) → paste out at xs (length xs) ≡ splice out at xs
+unfolding splice
+splice-paste out at xs = rw (take-all (length xs) xs (omega arith))
+
 -- ---- what fits
+
+-- no bytes fit anywhere
+pub fits-none : (at room : ℕ) → fitsIn [] at room ≡ true
+unfolding fitsIn
+fits-none at room = refl
+
+-- what fits from the start on is no longer than the room
+pub fits-room : (xs : List ℕ) (room : ℕ) → fitsIn xs 0 room ≡ true → length xs ≤ room
+unfolding fitsIn
+fits-room [] room h = omega arith
+fits-room (x ∷ xs) room h = let g : 0 + length (x ∷ xs) ≤ room = leb-true (0 + length (x ∷ xs)) room h in omega arith
 
 pub fits-le : (xs : List ℕ) (at room : ℕ) → at + length xs ≤ room → fitsIn xs at room ≡ true
 unfolding fitsIn

@@ -1,3 +1,4 @@
-use Rattle.leaves.proofs.Leaves.{bool-size, bool-is}
-ruleset exits = (bool-size, bool-is)
-returns.* => search exits
+use Rattle.leaves.proofs.Leaves.{bool-size, bool-is, bool-first}
+use Rattle.validators.proofs.Validities.{size-is, size-other}
+ruleset exits = (bool-size, bool-is, bool-first, size-is, size-other)
+(returns|shared-slice-read).* => search exits

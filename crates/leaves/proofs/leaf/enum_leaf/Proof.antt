@@ -1,26 +1,34 @@
 use mathlib.Core.Path.{refl}
 use Rattle.leaves.proofs.Leaves.{enum-size, enum-found, enum-none}
-use borrow.Author.Needs.{needs}
 use Rattle.integer.proofs.Numbers.{integer-read-is}
+use Rattle.validators.proofs.Validities.{size-is, size-other}
+use borrow.Author.Needs.{needs}
 use Rattle.leaves.proofs.leaf.enum_leaf.Statement.{statement}
 use Rattle.leaves.proofs.leaf.enum_leaf.Tie as tie
 use Rattle.leaves.proofs.leaf.enum_leaf.Reads as reads
 use Rattle.leaves.proofs.leaf.enum_leaf.Lts as lts
+use Rattle.integer.proofs.try_from_le_slice.Reads as try-from-le-slice-reads
 use Rattle.leaves.proofs.enum_access.find_entry.Reads as find-entry-reads
 use Rattle.leaves.proofs.leaf.unlisted_leaf.Reads as unlisted-leaf-reads
-use Rattle.integer.proofs.try_from_le_slice.Reads as try-from-le-slice-reads
 use Rattle.typebook.proofs.block.entries.Reads as entries-reads
 use Rattle.typebook.proofs.block.fields.Reads as fields-reads
 use Rattle.typebook.proofs.block.size.Reads as size-reads
 use Rattle.typebook.proofs.block.type_id.Reads as type-id-reads
+use Rattle.validators.proofs.validate_exact_size.Reads as validate-exact-size-reads
 
-ruleset exits = (enum-size, enum-found, enum-none, refl, integer-read-is)
+ruleset exits = (enum-size, enum-found, enum-none, refl, integer-read-is, size-is, size-other)
 
 size-requires : tie.Need-size-requires
 size-requires c κs = search needs
 
-cast-if1 : tie.Need-cast-if1
-cast-if1 c = search needs
+cast-size : tie.Need-cast-size
+cast-size c = search needs
+
+validate-exact-size-requires : tie.Need-validate-exact-size-requires
+validate-exact-size-requires c κs = search needs
+
+enum-told : tie.Need-enum-told
+enum-told c = search needs
 
 returns : tie.Need-returns
 returns c = search exits
@@ -43,8 +51,8 @@ find-entry-requires c κs = search needs
 enum-known-found : tie.Need-enum-known-found
 enum-known-found c = search needs
 
-enum-told : tie.Need-enum-told
-enum-told c = search needs
+enum-told-2 : tie.Need-enum-told-2
+enum-told-2 c = search needs
 
 type-id-requires : tie.Need-type-id-requires
 type-id-requires c κs = search needs
@@ -66,7 +74,9 @@ enum-leaf-spec =
     tie.close
     (tie.spec
     size-requires
-    cast-if1
+    cast-size
+    validate-exact-size-requires
+    enum-told
     returns
     add-first
     fields-requires
@@ -74,7 +84,7 @@ enum-leaf-spec =
     entries-requires
     find-entry-requires
     enum-known-found
-    enum-told
+    enum-told-2
     type-id-requires
     try-from-le-slice-requires
     unlisted-leaf-requires
