@@ -5,12 +5,12 @@ use mathlib.Core.List.{List, [], _∷_, _++_}
 use Prim.Native.Nat.{ℕ, zero, suc, _+_, _*_, _%_, _-_, _≤_, _<_}
 use native.Mathlib.Omega.{arith}
 use lib.ListN.{length, getD, take, drop, length-drop, take-append-drop, drop-of-length-le}
-use lib.Seq.{take-nil, drop-cons, drop-drop, take-take, take-all, length-take-le, getD-take, getD-drop}
+use lib.Seq.{take-nil, drop-cons, drop-drop, take-take, take-add, take-all, length-take-le, getD-take, getD-drop}
 use lib.Dec.{leb, ltb, eqb, eqb·suc-zero}
 use borrow.Author.Tests.{leb-true, ltb-true, le-leb, lt-leb, lt-ltb, le-ltb, eq-eqb, ne-eqb}
 use Rattle.utf_8.specs.declared.Char.{Char}
 use Rattle.utf_8.specs.declared.Char.the-variants.{Code, Error, End}
-use Rattle.utf_8.specs.Utf8.{Item, scalar, error, State, state, initial, Reply, give, continue, lowerOf, upperOf, leading, following, after, decodeFrom, decode, noError, wellFormed, trail, found, nextFrom, nextAt, ValidTo}
+use Rattle.utf_8.specs.Utf8.{Item, scalar, error, State, state, initial, Reply, give, continue, lowerOf, upperOf, leading, following, after, decodeFrom, decode, noError, wellFormed, trail, found, nextFrom, nextAt, ValidTo, Stretch}
 use Rattle.utf_8.proofs.Items.{next-code, next-error, next-none, formed-again, formed-not, formed-none, formed-end}
 
 never : {X : Type 0} → false ≡ true → X
@@ -213,6 +213,10 @@ part-of-stretch text lo hi a e l m h =
     ∙ part-of (a - lo) (e - a) (hi - lo) (drop lo text) (omega arith)
     ∙ ap (take (e - a)) (drop-drop (a - lo) lo text ∙ ap (λ (k : ℕ). drop k text) z)
 
+-- and so is a part of the text's beginning
+pub part-of-first : (text : List ℕ) (v a e : ℕ) → e ≤ v → take (e - a) (drop a (take v text)) ≡ take (e - a) (drop a text)
+part-of-first text v a e h = part-of a (e - a) v text (omega arith)
+
 -- what `is_trail` answers
 module _ (b : ℕ) where
   pub trail-below : b < 0x80 → false ≡ trail b
@@ -312,3 +316,53 @@ module _ (text : List ℕ) (at : ℕ) (p : Passed text at) where
 
   pub passed-all : length text ≤ at → wellFormed text ≡ eqb at (length text)
   passed-all l = sym (formed-end text at whole l) ∙ sym (eq-eqb at (length text) (omega (arith, p .within)))
+
+-- ---- what follows a well-formed text is decoded as if it stood alone
+
+join-if : (t : Bool) (is js ks ls : List Item) (b : Bool) → (noError ks ≡ true → noError is ≡ b) → (noError ls ≡ true → noError js ≡ b)
+    → noError (cond t ks ls) ≡ true → noError (cond t is js) ≡ b
+join-if true is js ks ls b p q h = p h
+join-if false is js ks ls b p q h = q h
+
+join-reply : (p : Reply) (xs ys : List ℕ) (b : Bool) → ((s : State) → noError (decodeFrom s xs) ≡ true → noError (decodeFrom s (xs ++ ys)) ≡ b)
+    → noError (after p (λ s. decodeFrom s xs)) ≡ true → noError (after p (λ s. decodeFrom s (xs ++ ys))) ≡ b
+unfolding after noError
+join-reply (give (scalar c)) xs ys b k h = k initial h
+join-reply (give error) xs ys b k h = never h
+join-reply (continue s) xs ys b k h = k s h
+
+join-end : (needed code seen lower upper : ℕ) (ys : List ℕ) → noError (decodeFrom (state code seen needed lower upper) []) ≡ true
+    → noError (decodeFrom (state code seen needed lower upper) ys) ≡ wellFormed ys
+unfolding decodeFrom noError
+join-end zero code seen lower upper ys h = ap noError (at-rest code seen lower upper ys)
+join-end (suc needed) code seen lower upper ys h = never (rw (eqb·suc-zero needed) at h)
+
+join : (xs ys : List ℕ) (s : State) → noError (decodeFrom s xs) ≡ true → noError (decodeFrom s (xs ++ ys)) ≡ wellFormed ys
+unfolding decodeFrom noError
+join [] ys (state code seen needed lower upper) h = join-end needed code seen lower upper ys h
+join (x ∷ xs) ys (state code seen needed lower upper) h =
+    join-if (eqb needed 0) _ _ _ _ (wellFormed ys) (join-reply (leading x) xs ys (wellFormed ys) (λ s. join xs ys s))
+    (join-if (leb lower x && leb x upper) _ _ _ _ (wellFormed ys)
+    (join-reply (following code seen needed x) xs ys (wellFormed ys) (λ s. join xs ys s))
+    (λ q. never q)) h
+
+-- a well-formed beginning grows by what is well-formed after it
+pub valid-more : (text : List ℕ) (v e r : ℕ) → ValidTo text v → v ≤ e → e ≤ length text → ValidTo (take (e - v) (drop v text)) r → ValidTo text (v + r)
+valid-more text v e r k l m h =
+    let n : length (take (e - v) (drop v text)) ≡ e - v = length-take-le (e - v) (drop v text) (omega (arith, length-drop v text)) in
+    record {
+      within = omega (arith, n, h .within);
+      begins =
+          ap wellFormed (take-add v r text)
+          ∙ join (take v text) (take r (drop v text)) initial (k .begins)
+          ∙ rw (take-take r (e - v) (drop v text) (omega (arith, n, h .within))) at (h .begins);
+    }
+
+-- no bytes are a well-formed beginning, and a stretch
+pub valid-none : (text : List ℕ) → ValidTo text 0
+unfolding decodeFrom noError
+valid-none text = record { within = omega arith; begins = refl }
+
+pub stretch-none : (text : List ℕ) → Stretch text 0 0
+unfolding decodeFrom noError
+stretch-none text = record { order = omega arith; within = omega arith; formed = refl }

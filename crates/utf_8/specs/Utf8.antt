@@ -2,7 +2,7 @@
 use mathlib.Core.Path.{_≡_}
 use mathlib.Core.Bool.{Bool, true, false, cond, _&&_, _||_}
 use mathlib.Core.List.{List, [], _∷_, map}
-use Prim.Native.Nat.{ℕ, _+_, _*_, _/_, _%_, _≤_}
+use Prim.Native.Nat.{ℕ, _+_, _*_, _/_, _%_, _-_, _≤_}
 use lib.ListN.{length, take, drop}
 use lib.Dec.{eqb, leb, ltb}
 use Rattle.utf_8.specs.declared.Char.{Char}
@@ -85,6 +85,12 @@ wellFormed bytes = noError (decode bytes)
 pub record ValidTo (text : List ℕ) (v : ℕ) : Type 0 where
   pub within : v ≤ length text
   pub begins : wellFormed (take v text) ≡ true
+
+-- the bytes from lo up to hi are in a text, and well-formed by themselves
+pub record Stretch (text : List ℕ) (lo hi : ℕ) : Type 0 where
+  pub order : lo ≤ hi
+  pub within : hi ≤ length text
+  pub formed : wellFormed (take (hi - lo) (drop lo text)) ≡ true
 
 -- a byte that can only follow others in a code point, and never begins one
 unfoldable pub trail : ℕ → Bool
