@@ -1,5 +1,6 @@
 -- Laws of the definitions of specs/. Splices, Lays: the buffer. Encodes: the encoder. Decodes, Items, Scalars, Trips: the decoder, with
--- what is found at each exit of its functions, the items of a text, their values, and the way there and back. Cases: worked examples.
+-- what is found at each exit of its functions, the items of a text, their values, and the way there and back. Cuts: the parts of a
+-- text. Cases: worked examples.
 pub mod Splices
 pub mod Lays
 pub mod Encodes
@@ -7,4 +8,5 @@ pub mod Decodes
 pub mod Items
 pub mod Scalars
 pub mod Trips
+pub mod Cuts
 mod Cases

@@ -1,8 +1,9 @@
 -- UTF-8 by the WHATWG Encoding Standard: the steps of its UTF-8 decoder and of its UTF-8 encoder. Assumes nothing.
+use mathlib.Core.Path.{_≡_}
 use mathlib.Core.Bool.{Bool, true, false, cond, _&&_, _||_}
 use mathlib.Core.List.{List, [], _∷_, map}
-use Prim.Native.Nat.{ℕ, _+_, _*_, _/_, _%_}
-use lib.ListN.{drop}
+use Prim.Native.Nat.{ℕ, _+_, _*_, _/_, _%_, _-_, _≤_}
+use lib.ListN.{length, take, drop}
 use lib.Dec.{eqb, leb, ltb}
 use Rattle.utf_8.specs.declared.Char.{Char}
 use Rattle.utf_8.specs.declared.Char.the-variants.{Code, Error, End}
@@ -79,6 +80,21 @@ noError (error ∷ items) = false
 -- the bytes are well-formed UTF-8
 abbrev pub wellFormed : List ℕ → Bool
 wellFormed bytes = noError (decode bytes)
+
+-- the first v bytes of a text are well-formed by themselves
+pub record ValidTo (text : List ℕ) (v : ℕ) : Type 0 where
+  pub within : v ≤ length text
+  pub begins : wellFormed (take v text) ≡ true
+
+-- the bytes from lo up to hi are in a text, and well-formed by themselves
+pub record Stretch (text : List ℕ) (lo hi : ℕ) : Type 0 where
+  pub order : lo ≤ hi
+  pub within : hi ≤ length text
+  pub formed : wellFormed (take (hi - lo) (drop lo text)) ≡ true
+
+-- a byte that can only follow others in a code point, and never begins one
+unfoldable pub trail : ℕ → Bool
+trail b = leb 0x80 b && ltb b 0xc0
 
 -- the standard's replacement: an error becomes U+FFFD
 abbrev pub replaced : Item → ℕ

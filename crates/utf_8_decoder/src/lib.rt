@@ -1,9 +1,11 @@
 // The UTF-8 decoder, one code point at a time, and whether a text is UTF-8.
 ghost use mathlib.Core.Path.{_≡_};
 ghost use mathlib.Core.Bool.{true};
-ghost use Prim.Native.Nat.{_+_, _<_, _≤_};
-ghost use lib.ListN.{length, getD, drop};
-ghost use Rattle.utf_8.specs.Utf8.{lowerOf, upperOf, state, nextFrom, nextAt, wellFormed};
+ghost use Prim.Native.Nat.{_+_, _-_, _<_, _≤_};
+ghost use lib.ListN.{length, getD, take, drop};
+ghost use lib.Dec.{eqb};
+ghost use Rattle.ascii.specs.Ascii.{ascii};
+ghost use Rattle.utf_8.specs.Utf8.{lowerOf, upperOf, state, nextFrom, nextAt, wellFormed, ValidTo, trail};
 use ascii::is_ascii;
 use utf_8::Char;
 
@@ -122,7 +124,7 @@ pub fn next(text: &[u8], at: usize) -> Char
 // two blocks.
 fn ascii_block(text: &[u8], at: usize) -> bool
     requires { ⌜ at < length (now text) ⌝ }
-    ensures { λ r. ⌜ (r ≡ true → (at + 64 ≤ length (now (text .entry))) × (wellFormed (drop at (now (text .entry))) ≡ wellFormed (drop (at + 64) (now (text .entry))))) ⌝ }
+    ensures { λ r. ⌜ (r ≡ true → (at + 64 ≤ length (now (text .entry))) × (ascii (take 64 (drop at (now (text .entry)))) ≡ true)) ⌝ }
 {
     if at % 64 != 0 {
         return false;
@@ -133,9 +135,10 @@ fn ascii_block(text: &[u8], at: usize) -> bool
     is_ascii(&text[at..at + 64])
 }
 
-// Whether the whole text is UTF-8: no overlong form, no surrogate, no cut code point. ASCII does not need `next`.
-pub fn well_formed(text: &[u8]) -> bool
-    ensures { λ r. ⌜ r ≡ wellFormed (now (text .entry)) ⌝ }
+// How much of a text is UTF-8 from its start on: up to the first error. ASCII does not need `next`.
+pub fn valid_up_to(text: &[u8]) -> usize
+    ensures { λ r. ⌜ ValidTo (now (text .entry)) r ⌝ }
+    ensures whole { λ r. ⌜ wellFormed (now (text .entry)) ≡ eqb r (length (now (text .entry))) ⌝ }
 {
     let mut at = 0;
     while at < text.len() {
@@ -146,10 +149,47 @@ pub fn well_formed(text: &[u8]) -> bool
         } else {
             match next(text, at) {
                 Char::Code(_, e) => at = e,
-                Char::Error(_) => return false,
-                Char::End => return true,
+                Char::Error(_) => return at,
+                Char::End => return at,
             }
         }
+    }
+    at
+}
+
+// Whether the whole text is UTF-8: no overlong form, no surrogate, no cut code point.
+pub fn well_formed(text: &[u8]) -> bool
+    ensures { λ r. ⌜ r ≡ wellFormed (now (text .entry)) ⌝ }
+{
+    valid_up_to(text) == text.len()
+}
+
+// Whether a byte can only follow others in a code point.
+fn is_trail(b: u8) -> bool
+    ensures { λ r. ⌜ r ≡ trail b ⌝ }
+{
+    if b < 0x80 {
+        return false;
+    }
+    b < 0xc0
+}
+
+// Whether a part of a text that is UTF-8 is UTF-8 too. The bytes at its two ends tell, so that it costs the same however long it is.
+pub fn part_well_formed(text: &[u8], a: usize, e: usize) -> bool
+    requires { ⌜ (wellFormed (now text) ≡ true) × (e ≤ length (now text)) ⌝ }
+    ensures { λ r. ⌜ r ≡ wellFormed (take (e - a) (drop a (now (text .entry)))) ⌝ }
+{
+    if e <= a {
+        return true;
+    }
+    if is_trail(text[a]) {
+        return false;
+    }
+    if e == text.len() {
+        return true;
+    }
+    if is_trail(text[e]) {
+        return false;
     }
     true
 }

@@ -1,5 +1,5 @@
 -- `utf_8_decoder::ascii_block` meets its contract: where no block is tried, nothing is promised. Assumes nothing.
-use Rattle.utf_8_decoder.proofs.Blocks.{skip-within, skip-block, not-told}
+use Rattle.utf_8_decoder.proofs.Blocks.{block-inside, block-told, not-told}
 use borrow.Author.Needs.{needs}
 use Rattle.utf_8_decoder.proofs.ascii_block.Statement.{statement}
 use Rattle.utf_8_decoder.proofs.ascii_block.Tie as tie
@@ -29,7 +29,7 @@ is-ascii-requires : tie.Need-is-ascii-requires
 is-ascii-requires c κs = search needs
 
 returns-3 : tie.Need-returns-3
-returns-3 c = search (skip-within, skip-block)
+returns-3 c = search (block-inside, block-told)
 
 pub ascii-block-spec : {M : Type 1} → statement M
 ascii-block-spec =
