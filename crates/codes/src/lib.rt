@@ -1,6 +1,7 @@
 // An answer as one number, for callers that know no enum.
 ghost use mathlib.Core.Path.{_≡_};
 ghost use Rattle.number.specs.Answer.{truthNumber};
+ghost use Rattle.type_provider.specs.Find.{foundNumbers};
 ghost use Rattle.codes.specs.Numbers.{placeNumber, foundNumber};
 use type_provider::Found;
 use utf_8::Put;
@@ -17,7 +18,7 @@ pub fn place(p: Put) -> u64
 
 // The block, or 2^32 - 1 where there is none.
 pub fn found(f: Found) -> u32
-    ensures { λ r. ⌜ r ≡ foundNumber f ⌝ }
+    ensures { λ r. ⌜ r ≡ foundNumber (foundNumbers f) ⌝ }
 {
     match f {
         Found::At(n) => n,

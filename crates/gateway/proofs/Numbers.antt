@@ -10,7 +10,6 @@ use Rattle.utf_8.specs.declared.Put.the-variants.{Next, Full}
 use Rattle.type_index.specs.Index.{FoundBy}
 use Rattle.type_provider.specs.declared.Found.{Found}
 use Rattle.type_provider.specs.Find.{foundNumbers}
-use Rattle.type_provider.proofs.Numbers.{found-is}
 use Rattle.codes.specs.Numbers.{placeNumber, foundNumber}
 use Rattle.gateway.specs.Numbers.{WroteAs, FoundAs}
 
@@ -21,8 +20,8 @@ by false n = refl
 pub wrote-number : {xs out out′ : List ℕ} {at : ℕ} {p : Put} {r : ℕ} → Wrote xs out at p out′ → r ≡ placeNumber p → WroteAs xs out at r out′
 wrote-number {xs} {out} {out′} {at} {p} {r} w e = record { answer = e ∙ ap placeNumber (w .answer) ∙ by (fitsIn xs at (length out)) (at + length xs); buffer = w .buffer }
 
-pub find-number : (f g : Found) (r : ℕ) → foundNumbers f ≡ foundNumbers g → r ≡ foundNumber f → r ≡ foundNumber g
-find-number f g r e q = q ∙ ap foundNumber (found-is f g e)
+pub find-number : (f g : Found) (r : ℕ) → foundNumbers f ≡ foundNumbers g → r ≡ foundNumber (foundNumbers f) → r ≡ foundNumber (foundNumbers g)
+find-number f g r e q = q ∙ ap foundNumber e
 
-pub found-number : {book name : List ℕ} {f : Found} {r : ℕ} → FoundBy book name f → r ≡ foundNumber f → FoundAs book name r
+pub found-number : {book name : List ℕ} {f : Found} {r : ℕ} → FoundBy book name f → r ≡ foundNumber (foundNumbers f) → FoundAs book name r
 found-number {f = f} w e = record { found = f; by = w; number = e }

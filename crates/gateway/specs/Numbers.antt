@@ -7,6 +7,7 @@ use lib.ListN.{length}
 use Rattle.utf_8.specs.Buffer.{splice, fitsIn}
 use Rattle.type_index.specs.Index.{FoundBy}
 use Rattle.type_provider.specs.declared.Found.{Found}
+use Rattle.type_provider.specs.Find.{foundNumbers}
 use Rattle.codes.specs.Numbers.{foundNumber}
 
 -- `xs` written into `out` from `at` on, or the buffer as it was where it does not fit
@@ -14,8 +15,8 @@ pub record WroteAs (xs out : List ℕ) (at r : ℕ) (out′ : List ℕ) : Type 0
   pub answer : r ≡ cond (fitsIn xs at (length out)) (at + length xs) 0xffff_ffff_ffff_ffff
   pub buffer : out′ ≡ cond (fitsIn xs at (length out)) (splice out at xs) out
 
--- the number of what a look-up by an index answers
+-- what a look-up by an index answers, by its numbers
 pub record FoundAs (book name : List ℕ) (r : ℕ) : Type 0 where
   pub found : Found
   pub by : FoundBy book name found
-  pub number : r ≡ foundNumber found
+  pub number : r ≡ foundNumber (foundNumbers found)

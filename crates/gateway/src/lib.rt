@@ -4,7 +4,7 @@ ghost use mathlib.Core.Path.{_≡_};
 ghost use Rattle.windows_1252.specs.Text as windows1252;
 ghost use Rattle.utf_16.specs.Decode as utf16Decode;
 ghost use Rattle.utf_16.specs.Encode as utf16Encode;
-ghost use Rattle.type_provider.specs.Find.{find as findIn};
+ghost use Rattle.type_provider.specs.Find.{find as findIn, foundNumbers};
 ghost use Rattle.type_index.specs.Index.{IndexOf};
 ghost use Rattle.utf_8.specs.Utf8.{wellFormed};
 ghost use Rattle.book_check.specs.Check.{checkBook, bookNumbers};
@@ -49,7 +49,7 @@ pub extern "C" fn gateway_utf_16_encode(text: &[u8], out: &mut [u8]) -> u64
 
 #[no_mangle]
 pub extern "C" fn gateway_find(book: &[u8], name: &[u8]) -> u32
-    ensures { λ r. ⌜ r ≡ foundNumber (findIn (now (book .entry)) (now (name .entry))) ⌝ }
+    ensures { λ r. ⌜ r ≡ foundNumber (foundNumbers (findIn (now (book .entry)) (now (name .entry)))) ⌝ }
 {
     codes::found(type_provider::find(book, name))
 }

@@ -1,0 +1,2 @@
+-- Laws that the functions' proofs cite. Blocks: the number of a look-up's answer.
+mod Blocks
