@@ -10,6 +10,7 @@ use Rattle.book_check.specs.Check.{ValidBook, checkRoot}
 use Rattle.book_check.specs.declared.RootCheck.{RootCheck}
 use Rattle.book_check.specs.declared.RootCheck.the-variants as root
 use Rattle.book_check.proofs.Valid.{root-valid}
+use Rattle.book_check.proofs.Roots.{at-refused, at-block}
 use Rattle.resolvers.proofs.Calls.{root-fits}
 use Rattle.resolvers.specs.Resolve.{resolveAlias, ResolvedIs}
 use Rattle.resolvers.specs.declared.Resolved.{Resolved}
@@ -22,7 +23,7 @@ use Rattle.type_category.specs.Category.{categoryOf}
 use Rattle.type_category.specs.declared.type_category.AdsTypeCategory.{AdsTypeCategory}
 use Rattle.array_elements.specs.Element.{whole}
 use Rattle.de.specs.Walk.{Ctx, ctx, walk}
-use Rattle.de.specs.Read.{rootBy, rootTrace, checkedTrace, readTrace}
+use Rattle.de.specs.Read.{rootBy, rootTrace, readTrace}
 use Rattle.resolvers.proofs.Numbers.{resolved-is}
 use Rattle.steps.specs.Answer.{ReadIs, Finished}
 use Rattle.steps.proofs.Answers.{read-by, read-refused, read-as}
@@ -49,12 +50,12 @@ module _ (c : Ctx) (n : ℕ) (mem : List ℕ) (k : Resolved) (q : ResolvedIs (c 
 
 module _ (buffer : List ℕ) (len width n : ℕ) (mem : List ℕ) (k : RootCheck) (q : k ≡ checkRoot buffer len n) {tape txt tape₂ txt₂ : List ℕ} {r : ReadAnswer} where
   pub call-refused : (m : ℕ) → k ≡ root.Refused m → Finished (Stop m 0) tape txt r tape₂ txt₂ → ReadIs (readTrace buffer len width n mem) tape txt r tape₂ txt₂
-  unfolding readTrace checkedTrace
-  call-refused m e f = read-as (rw (← q, e)) (read-refused m 0 f)
+  unfolding readTrace
+  call-refused m e f = read-as (sym (at-refused _ _ k q m e)) (read-refused m 0 f)
 
   pub call-root : (m : ℕ) → k ≡ root.Root m → ReadIs (rootTrace (ctx (take (len - 0) (drop 0 buffer)) width) m mem) tape txt r tape₂ txt₂ → ReadIs (readTrace buffer len width n mem) tape txt r tape₂ txt₂
-  unfolding readTrace checkedTrace
-  call-root m e f = let z : len - 0 ≡ len = omega arith in read-as (rw (← q, e)) (rw z at f)
+  unfolding readTrace
+  call-root m e f = let z : len - 0 ≡ len = omega arith in read-as (sym (at-block _ _ k q m e)) (rw z at f)
 
 -- ---- what calls ask
 

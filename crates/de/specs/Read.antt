@@ -2,9 +2,7 @@
 use mathlib.Core.List.{List}
 use Prim.Native.Nat.{ℕ}
 use lib.ListN.{take}
-use Rattle.book_check.specs.Check.{checkRoot}
-use Rattle.book_check.specs.declared.RootCheck.{RootCheck}
-use Rattle.book_check.specs.declared.RootCheck.the-variants as root
+use Rattle.book_check.specs.Check.{checkRoot, atRoot}
 use Rattle.resolvers.specs.Resolve.{resolveAlias}
 use Rattle.resolvers.specs.declared.Resolved.{Resolved}
 use Rattle.resolvers.specs.declared.Resolved.the-variants as resolved
@@ -22,11 +20,6 @@ rootBy c n mem resolved.TooLong = refuse 8 0
 unfoldable pub rootTrace : Ctx → ℕ → List ℕ → Trace
 rootTrace c n mem = rootBy c n mem (resolveAlias (c .book) (c .width) n)
 
--- 1 to 5 come before the walk
-unfoldable pub checkedTrace : List ℕ → ℕ → List ℕ → RootCheck → Trace
-checkedTrace book width mem (root.Root n) = rootTrace (ctx book width) n mem
-checkedTrace book width mem (root.Refused k) = refuse k 0
-
--- what a call reads: a lent buffer with the book's length, the pointer width, the root's number, the memory
+-- what a call reads, 1 to 5 before the walk: a lent buffer with the book's length, the pointer width, the root's number, the memory
 unfoldable pub readTrace : List ℕ → ℕ → ℕ → ℕ → List ℕ → Trace
-readTrace buffer len width n mem = checkedTrace (take len buffer) width mem (checkRoot buffer len n)
+readTrace buffer len width n mem = atRoot (λ k. refuse k 0) (λ t. rootTrace (ctx (take len buffer) width) t mem) (checkRoot buffer len n)

@@ -11,7 +11,8 @@ use lib.Seq.{sets, length-sets, sets-eq}
 use Rattle.typebook.specs.Book.{fieldsOf}
 use Rattle.book_check.specs.declared.RootCheck.{RootCheck}
 use Rattle.book_check.specs.declared.RootCheck.the-variants as checked
-use Rattle.book_check.specs.Check.{checkRoot, atRoot}
+use Rattle.book_check.specs.Check.{checkRoot}
+use Rattle.book_check.proofs.Roots.{at-refused, at-block}
 use Rattle.field_types.specs.declared.ResolvedField.{ResolvedField}
 use Rattle.field_types.specs.declared.FieldAnswer.{FieldAnswer}
 use Rattle.field_types.specs.declared.FieldAnswer.the-variants as answer
@@ -195,20 +196,25 @@ module _ (book : List ℕ) (width t : ℕ) (before : List ℕ) (r : FieldsAnswer
 module _ (buffer : List ℕ) (len root : ℕ) (k : RootCheck) (e : k ≡ checkRoot buffer len root) (width : ℕ) (before : List ℕ) where
   pub fields-refused : (n : ℕ) → k ≡ checked.Refused n
       → Filled (rootFields buffer len width root (length before / 4)) (rootRecords buffer len width root) before (fields.Refused n) before
-  unfolding rootFields atRoot storedIn
-  fields-refused n h = record { is = fields-says _ _ (rw (← e, h)); records = rw (← e, h) }
+  unfolding rootFields storedIn
+  fields-refused n h =
+      let z : fields.Refused n ≡ rootFields buffer len width root (length before / 4) = at-refused fields.Refused _ k e n h in
+      record { is = fields-says _ _ z; records = rw (← z) }
 
   pub fields-root : (t : ℕ) → k ≡ checked.Root t → (r : FieldsAnswer) (after : List ℕ)
       → Filled (fieldsAnswer (take len buffer) width t (length before / 4)) (fieldRecords (take len buffer) width t) before r after
       → Filled (rootFields buffer len width root (length before / 4)) (rootRecords buffer len width root) before r after
-  unfolding rootFields rootRecords atRoot
-  fields-root t h r after q = record { is = rw (← e, h) (q .is); records = rw (← e, h) (q .records) }
+  unfolding rootFields rootRecords
+  fields-root t h r after q =
+      let z : fieldsAnswer (take len buffer) width t (length before / 4) ≡ rootFields buffer len width root (length before / 4) = at-block fields.Refused _ k e t h in
+      let y : fieldRecords (take len buffer) width t ≡ rootRecords buffer len width root = at-block (λ n. []) _ k e t h in
+      record { is = rw (← z) (q .is); records = rw (← z, ← y) (q .records) }
 
 module _ (buffer : List ℕ) (len root : ℕ) (k : RootCheck) (e : k ≡ checkRoot buffer len root) (width room : ℕ) where
   pub check-refused : (n : ℕ) → k ≡ checked.Refused n → fields.Refused n ≡ rootFields buffer len width root room
-  unfolding rootFields atRoot
-  check-refused n h = rw (← e, h)
+  unfolding rootFields
+  check-refused n h = at-refused fields.Refused _ k e n h
 
   pub check-at : (t : ℕ) → k ≡ checked.Root t → (r : FieldsAnswer) → r ≡ fieldsAnswer (take len buffer) width t room → r ≡ rootFields buffer len width root room
-  unfolding rootFields atRoot
-  check-at t h r q = rw (← e, h) q
+  unfolding rootFields
+  check-at t h r q = q ∙ at-block fields.Refused _ k e t h

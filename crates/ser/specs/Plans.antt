@@ -14,13 +14,14 @@ use Rattle.field_plan.specs.declared.PlannedField.{PlannedField}
 use Rattle.shape.specs.declared.Shape.the-variants as shape
 use Rattle.shape.specs.Value.{shapeOf}
 use Rattle.shape.specs.Array.{isLast, strideOf}
+use Rattle.array_elements.specs.Element.{whole, cut, elementItem}
 use Rattle.tape.specs.declared.cursor.Cursor.{Cursor}
 use Rattle.first_fields.specs.Firsts.{Firsts}
 use Rattle.ser.specs.declared.array_writer.Counted.{Counted}
 use Rattle.ser.specs.declared.array_writer.Counted.the-variants as counted
 use Rattle.ser.specs.declared.map_writer.Keyed.{Keyed}
 use Rattle.ser.specs.declared.map_writer.Keyed.the-variants as keyed
-use Rattle.ser.specs.Write.{Ctx, ctx, Outcome, refused, whole, Child, cut, placed, fieldValue, keyOf, elementItem, elementsFrom, dimensionOf}
+use Rattle.ser.specs.Write.{Ctx, ctx, Outcome, refused, Child, placed, fieldValue, keyOf, elementsFrom, dimensionOf}
 
 -- the plan of a type that has fields is empty, or none of them is refused
 pub record Given (book : List ℕ) (width t : ℕ) (plan : List ℕ) : Type 0 where
@@ -32,7 +33,7 @@ pub record GivenElement (book : List ℕ) (width d t e : ℕ) (plan : List ℕ) 
 
 -- the elements that a dimension has on the tape, or the refusal
 unfoldable pub countedValue : Child → Ctx → ℕ → ℕ → ℕ → List ℕ → Counted → Outcome
-countedValue child c d t e bytes (counted.Elements k next) = elementsFrom child c (elementItem c d t e) (strideOf (c .book) d t e) (countOf (c .book) t d) 0 0 k next bytes
+countedValue child c d t e bytes (counted.Elements k next) = elementsFrom child c (elementItem (c .book) d t e) (strideOf (c .book) d t e) (countOf (c .book) t d) 0 0 k next bytes
 countedValue child c d t e bytes (counted.Stop n b) = refused n b bytes
 
 -- the answer is dimension d of array t at the cursor, whatever is written in its place; before its elements plan and bits are theirs

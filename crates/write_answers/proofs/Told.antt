@@ -17,7 +17,9 @@ use Rattle.type_category.specs.Category.{categoryOf}
 use Rattle.book_check.specs.Check.{bookNumbers, checkBook, checkRoot, rootOf}
 use Rattle.book_check.specs.declared.BookCheck.{BookCheck}
 use Rattle.book_check.specs.declared.BookCheck.the-variants as checked-book
+use Rattle.book_check.specs.declared.RootCheck.{RootCheck}
 use Rattle.book_check.specs.declared.RootCheck.the-variants.{Root, Refused}
+use Rattle.book_check.proofs.Roots.{at-each}
 use Rattle.resolvers.specs.Resolve.{resolveAlias, lookUp}
 use Rattle.resolvers.specs.declared.Resolved.{Resolved}
 use Rattle.resolvers.specs.declared.Resolved.the-variants as resolved
@@ -47,9 +49,10 @@ use Rattle.ser_leaf.specs.Leaf.{Leaf, holds, exactly, boolLeaf, realLeaf, integ
 use Rattle.ser_leaf.specs.Leaf as leaf
 use Rattle.ser.specs.declared.array_writer.Entered.{Entered}
 use Rattle.ser.specs.declared.array_writer.Entered.the-variants as entered
-use Rattle.ser.specs.Write.{Ctx, ctx, Outcome, went, refused, _then_, Item, whole, further, Child, placed, takenBy, taken, endBy, leafEnd, leafOf, shapeAt, checked, fieldValue, foundValue, keyBy, keyOf, keysFrom, mapBy, mapOf, elementItem, elementCheck, elementsFrom, elementsBy, dimensionOf, elementType, enteredBy, enteredAt, arrayBy, arrayOf, valueBy, itemWalk, walk}
+use Rattle.array_elements.specs.Element.{Item, whole, further, shapeAt, elementItem, elementCheck}
+use Rattle.ser.specs.Write.{Ctx, ctx, Outcome, went, refused, _then_, Child, placed, takenBy, taken, endBy, leafEnd, leafOf, checked, fieldValue, foundValue, keyBy, keyOf, keysFrom, mapBy, mapOf, elementsFrom, elementsBy, dimensionOf, elementType, enteredBy, enteredAt, arrayBy, arrayOf, valueBy, itemWalk, walk}
 use Rattle.tape_form.specs.Form.{formed}
-use Rattle.ser.specs.Call.{typeWrite, rootBy, rootWrite, bookWrite, checkedWrite, writeCall, answerOf, writeNumbers}
+use Rattle.ser.specs.Call.{typeWrite, rootBy, rootWrite, bookWrite, writeCall, answerOf, writeNumbers}
 use Rattle.ser.specs.declared.WriteAnswer.the-variants.{NotFound}
 use Rattle.ser.specs.declared.WriteAnswer.the-variants as writing
 use Rattle.write_answers.specs.Answers.{among, refusals, Numbered}
@@ -269,7 +272,7 @@ module _ (book : List ℕ) (width : ℕ) (tape text : List ℕ) where
 
   -- ---- with what is written at one level less
 
-  module _ (child : Child) (ih : (i : Item) (at : Cursor) (bytes : List ℕ) → Fine (child i at bytes)) where
+  module _ (child : Child) (ih : (i : Item ℕ) (at : Cursor) (bytes : List ℕ) → Fine (child i at bytes)) where
     field-fine : (at : Cursor) (bytes : List ℕ) (f : FieldAnswer) → Fine (fieldValue child at bytes f)
     unfolding fieldValue
     field-fine at bytes (answer.Field f) =
@@ -302,9 +305,9 @@ module _ (book : List ℕ) (width : ℕ) (tape text : List ℕ) where
 
     map-fine : (t n : ℕ) (at : Cursor) (bytes : List ℕ) → Fine (mapOf child c t n at bytes)
     unfolding mapOf
-    map-fine t n at bytes = map-by t n at bytes (shapeAt c t)
+    map-fine t n at bytes = map-by t n at bytes (shapeAt (c .book) (c .width) t)
 
-    elements-from : (i : Item) (stride n x from k : ℕ) (at : Cursor) (bytes : List ℕ) → Fine (elementsFrom child c i stride n x from k at bytes)
+    elements-from : (i : Item ℕ) (stride n x from k : ℕ) (at : Cursor) (bytes : List ℕ) → Fine (elementsFrom child c i stride n x from k at bytes)
     unfolding elementsFrom
     elements-from i stride n x from zero at bytes = fine-cond (ltb x n) _ _ (fine-refused 17 0 bytes is-17) (fine-end tape at 2 bytes)
     elements-from i stride n x from (suc k) at bytes =
@@ -318,7 +321,7 @@ module _ (book : List ℕ) (width : ℕ) (tape text : List ℕ) where
         checked-fine (elementCheck book width d t e) bytes _
         (fine-taken tape at bytes _ (λ r next.
         fine-cond (eqb (r .kind) 1) _ _
-        (elements-from (elementItem c d t e) (strideOf book d t e) (countOf book t d) 0 0 (r .a) next bytes)
+        (elements-from (elementItem (c .book) d t e) (strideOf book d t e) (countOf book t d) 0 0 (r .a) next bytes)
         (fine-refused 17 0 bytes is-17)))
 
     -- what an array comes to before its first dimension
@@ -348,7 +351,7 @@ module _ (book : List ℕ) (width : ℕ) (tape text : List ℕ) where
     unfolding leafOf
     leaf-fine t r next bytes = mild-fine next bytes _ (mild-leaf book width t bytes (targetOf (categoryOf book width t)) r text)
 
-    item-fine : (i : Item) (at : Cursor) (bytes : List ℕ) → Fine (itemWalk child c i at bytes)
+    item-fine : (i : Item ℕ) (at : Cursor) (bytes : List ℕ) → Fine (itemWalk child c i at bytes)
     unfolding itemWalk valueBy
     item-fine (whole t) at bytes =
         fine-taken tape at bytes _ (λ r next.
@@ -356,7 +359,7 @@ module _ (book : List ℕ) (width : ℕ) (tape text : List ℕ) where
         (fine-cond (eqb (r .kind) 3) _ _ (map-fine t (r .a) next bytes) (leaf-fine t r next bytes)))
     item-fine (further d t e) at bytes = dimension-fine d t e at bytes
 
-  walk-fine : (left : ℕ) (i : Item) (at : Cursor) (bytes : List ℕ) → Fine (walk c left i at bytes)
+  walk-fine : (left : ℕ) (i : Item ℕ) (at : Cursor) (bytes : List ℕ) → Fine (walk c left i at bytes)
   unfolding walk
   walk-fine zero i at bytes = fine-refused 16 0 bytes is-16
   walk-fine (suc left) i at bytes = item-fine (walk c left) (walk-fine left) i at bytes
@@ -376,25 +379,34 @@ module _ (book : List ℕ) (width : ℕ) (tape text : List ℕ) where
 
 -- ---- a call
 
-module _ (book : List ℕ) (width : ℕ) (tape text : List ℕ) (room : ℕ) (image : List ℕ) where
-  root-fine : (b : Bool) (n : ℕ) → Fine (checkedWrite (ctx book width tape text) room image (cond b (Root n) (Refused 5)))
-  unfolding checkedWrite
-  root-fine true n = book-fine book width tape text n room image
-  root-fine false n = fine-refused 5 0 image is-5
+-- a root is not refused, or by a number of the table
+abbrev rootTold : RootCheck → Bool
+rootTold (Root n) = true
+rootTold (Refused n) = among n refusals
 
-  check-fine : (k : BookCheck) (b : Bool) (n : ℕ)
-      → Fine (checkedWrite (ctx book width tape text) room image (cond (eqb (refusalOf (bookNumbers k)) 0) (cond b (Root n) (Refused 5)) (Refused (refusalOf (bookNumbers k)))))
-  unfolding checkedWrite bookNumbers
-  check-fine checked-book.Valid b n = root-fine b n
-  check-fine checked-book.Size b n = fine-refused 1 0 image is-1
-  check-fine checked-book.Sum b n = fine-refused 2 0 image is-2
-  check-fine checked-book.Form b n = fine-refused 3 0 image is-3
-  check-fine checked-book.Doubled b n = fine-refused 4 0 image is-4
+root-told : (b : Bool) (n : ℕ) → rootTold (cond b (Root n) (Refused 5)) ≡ true
+root-told true n = refl
+root-told false n = is-5
+
+check-told : (k : BookCheck) (b : Bool) (n : ℕ)
+    → rootTold (cond (eqb (refusalOf (bookNumbers k)) 0) (cond b (Root n) (Refused 5)) (Refused (refusalOf (bookNumbers k)))) ≡ true
+unfolding bookNumbers
+check-told checked-book.Valid b n = root-told b n
+check-told checked-book.Size b n = is-1
+check-told checked-book.Sum b n = is-2
+check-told checked-book.Form b n = is-3
+check-told checked-book.Doubled b n = is-4
+
+call-told : (buffer : List ℕ) (len n : ℕ) → rootTold (checkRoot buffer len n) ≡ true
+unfolding checkRoot rootOf
+call-told buffer len n = check-told (checkBook buffer len) (ltb n (blocks (take len buffer)) && isType (take len buffer) n) n
 
 call-fine : (buffer : List ℕ) (len width n : ℕ) (image : List ℕ) (room : ℕ) (tape text : List ℕ) → Fine (writeCall buffer len width n image room tape text)
-unfolding writeCall checkRoot rootOf
+unfolding writeCall
 call-fine buffer len width n image room tape text =
-    check-fine (take len buffer) width tape text room image (checkBook buffer len) (ltb n (blocks (take len buffer)) && isType (take len buffer) n) n
+    at-each Fine _ _ (checkRoot buffer len n)
+    (λ k e. fine-refused k 0 image (rw e at (call-told buffer len n)))
+    (λ t e. book-fine (take len buffer) width tape text t room image)
 
 -- ---- its number
 

@@ -41,7 +41,8 @@ use Rattle.ser_leaf.specs.Leaf as leaf
 use Rattle.ser.specs.declared.array_writer.Entered.{Entered}
 use Rattle.ser.specs.declared.array_writer.Entered.the-variants as entered
 use Rattle.ser.specs.declared.WriteAnswer.the-variants.{NotFound, Refused}
-use Rattle.ser.specs.Write.{Ctx, Outcome, went, refused, _then_, Item, whole, further, Child, placed, takenBy, taken, endBy, leafEnd, leafOf, shapeAt, checked, fieldValue, foundValue, keyBy, keyOf, keysFrom, mapBy, mapOf, elementItem, elementCheck, elementsFrom, elementsBy, dimensionOf, elementType, enteredBy, enteredAt, arrayBy, arrayOf, valueBy, itemWalk, walk}
+use Rattle.array_elements.specs.Element.{Item, whole, further, shapeAt, elementItem, elementCheck}
+use Rattle.ser.specs.Write.{Ctx, Outcome, went, refused, _then_, Child, placed, takenBy, taken, endBy, leafEnd, leafOf, checked, fieldValue, foundValue, keyBy, keyOf, keysFrom, mapBy, mapOf, elementsFrom, elementsBy, dimensionOf, elementType, enteredBy, enteredAt, arrayBy, arrayOf, valueBy, itemWalk, walk}
 use Rattle.ser.specs.Call.{typeWrite, rootBy, rootWrite, bookWrite, answerOf}
 use Rattle.write_laws.specs.Laws.{EndsAt, FormedEnds, SixteenIsForm}
 use Rattle.write_laws.proofs.LeafForm.{Mild, mild-leaf}
@@ -224,7 +225,7 @@ formCtx c = form.ctx (c .book) (c .tape) (c .text)
 -- where the form's walk of a value ends, a child ends
 abbrev Follows : Ctx → ℕ → Child → Type 0
 Follows c left child =
-    (i : Item) (at next : Cursor) (bytes : List ℕ) → valueAt (formCtx c) left at ≡ At next → EndsAt (next .at) (child i at bytes)
+    (i : Item ℕ) (at next : Cursor) (bytes : List ℕ) → valueAt (formCtx c) left at ≡ At next → EndsAt (next .at) (child i at bytes)
 
 ends-taken : (tape : List ℕ) (n : ℕ) (at : Cursor) (bytes : List ℕ) (f : Record → Cursor → Outcome) (r : Record) (mid : Cursor)
     → stepAt tape (at .at) ≡ step.Record r mid → EndsAt n (f r mid) → EndsAt n (taken tape at bytes f)
@@ -291,7 +292,7 @@ module _ (c : Ctx) (left : ℕ) (child : Child) (ih : Follows c left child) wher
 
   -- ---- an array
 
-  elements-end : (item : Item) (stride n i from k : ℕ) (at next : Cursor) (bytes : List ℕ) → several (formCtx c) (valueAt (formCtx c) left) 2 k at ≡ At next
+  elements-end : (item : Item ℕ) (stride n i from k : ℕ) (at next : Cursor) (bytes : List ℕ) → several (formCtx c) (valueAt (formCtx c) left) 2 k at ≡ At next
       → EndsAt (next .at) (elementsFrom child c item stride n i from k at bytes)
   unfolding several elementsFrom
   elements-end item stride n i from zero at next bytes h =
@@ -312,9 +313,9 @@ module _ (c : Ctx) (left : ℕ) (child : Child) (ih : Follows c left child) wher
         (ends-taken (c .tape) (next .at) at bytes _ r mid s (by (eqb (r .kind) 1) refl))
       where
         by : (b : Bool) → eqb (r .kind) 1 ≡ b
-            → EndsAt (next .at) (cond b (elementsFrom child c (elementItem c d t e) (strideOf (c .book) d t e) (countOf (c .book) t d) 0 0 (r .a) mid bytes) (refused 17 0 bytes))
+            → EndsAt (next .at) (cond b (elementsFrom child c (elementItem (c .book) d t e) (strideOf (c .book) d t e) (countOf (c .book) t d) 0 0 (r .a) mid bytes) (refused 17 0 bytes))
         by true q =
-            elements-end (elementItem c d t e) (strideOf (c .book) d t e) (countOf (c .book) t d) 0 0 (r .a) mid next bytes
+            elements-end (elementItem (c .book) d t e) (strideOf (c .book) d t e) (countOf (c .book) t d) 0 0 (r .a) mid next bytes
             (array-form (formCtx c) (valueAt (formCtx c) left) r mid next h (eqb-true (r .kind) 1 q))
         by false q = ends-refused (next .at) 17 0 bytes (λ e. omega arith)
 
@@ -338,12 +339,12 @@ module _ (c : Ctx) (left : ℕ) (child : Child) (ih : Follows c left child) wher
             mild-ends (next .at) mid bytes _ (l .same) (mild-leaf (c .book) (c .width) t bytes (targetOf (categoryOf (c .book) (c .width) t)) r (c .text) (l .fine))
 
         three : (b : Bool) → eqb (r .kind) 3 ≡ b → (r .kind ≡ 1 → ⊥)
-            → EndsAt (next .at) (cond b (mapBy child c t (r .a) mid bytes (shapeAt c t)) (leafEnd mid bytes (leafBy (c .book) (c .width) t (targetOf (categoryOf (c .book) (c .width) t)) r (c .text) bytes)))
-        three true q n = map-ends t (r .a) mid next bytes (map-form (formCtx c) (valueAt (formCtx c) left) r mid next h (eqb-true (r .kind) 3 q)) (shapeAt c t)
+            → EndsAt (next .at) (cond b (mapBy child c t (r .a) mid bytes (shapeAt (c .book) (c .width) t)) (leafEnd mid bytes (leafBy (c .book) (c .width) t (targetOf (categoryOf (c .book) (c .width) t)) r (c .text) bytes)))
+        three true q n = map-ends t (r .a) mid next bytes (map-form (formCtx c) (valueAt (formCtx c) left) r mid next h (eqb-true (r .kind) 3 q)) (shapeAt (c .book) (c .width) t)
         three false q n = leaf-ends n (eqb-false (r .kind) 3 q)
 
         one : (b : Bool) → eqb (r .kind) 1 ≡ b
-            → EndsAt (next .at) (cond b (arrayOf child c t at bytes) (cond (eqb (r .kind) 3) (mapBy child c t (r .a) mid bytes (shapeAt c t)) (leafEnd mid bytes (leafBy (c .book) (c .width) t (targetOf (categoryOf (c .book) (c .width) t)) r (c .text) bytes))))
+            → EndsAt (next .at) (cond b (arrayOf child c t at bytes) (cond (eqb (r .kind) 3) (mapBy child c t (r .a) mid bytes (shapeAt (c .book) (c .width) t)) (leafEnd mid bytes (leafBy (c .book) (c .width) t (targetOf (categoryOf (c .book) (c .width) t)) r (c .text) bytes))))
         one true q = array-ends t bytes
         one false q = three (eqb (r .kind) 3) refl (eqb-false (r .kind) 1 q)
 

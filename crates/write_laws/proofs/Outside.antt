@@ -34,7 +34,8 @@ use Rattle.tape.specs.declared.cursor.Step.the-variants as step
 use Rattle.ser_leaf.specs.Leaf.{Leaf, holds, targetOf}
 use Rattle.ser_leaf.specs.Leaf as leaf
 use Rattle.ser.specs.declared.array_writer.Entered.the-variants as entered
-use Rattle.ser.specs.Write.{Ctx, Outcome, went, refused, _then_, Item, whole, further, Child, cut, placed, takenBy, taken, endBy, leafEnd, leafOf, shapeAt, checked, fieldValue, foundValue, keyBy, keyOf, keysFrom, mapBy, mapOf, elementItem, elementCheck, elementsFrom, elementsBy, dimensionOf, elementType, enteredBy, enteredAt, arrayBy, arrayOf, valueBy, itemWalk, walk}
+use Rattle.array_elements.specs.Element.{Item, whole, further, cut, shapeAt, elementItem, elementCheck}
+use Rattle.ser.specs.Write.{Ctx, Outcome, went, refused, _then_, Child, placed, takenBy, taken, endBy, leafEnd, leafOf, checked, fieldValue, foundValue, keyBy, keyOf, keysFrom, mapBy, mapOf, elementsFrom, elementsBy, dimensionOf, elementType, enteredBy, enteredAt, arrayBy, arrayOf, valueBy, itemWalk, walk}
 use Rattle.write_laws.specs.Touched.{Range, Touched, upto, nowhere, after, _and_, recordBy, endAt, fieldTouched, foundTouched, keyTouched, keysTouched, elementsTouched, dimensionTouched, arrayTouched, valueTouched, itemTouched, walkTouched}
 use Rattle.write_laws.specs.Touched as touched
 use Rattle.write_laws.proofs.Sizes.{Sized, sized-leaf}
@@ -136,13 +137,13 @@ agrees-leaf-end from size bytes next e (leaf.refused n) s = agrees-refused from 
 -- ---- the walk
 
 -- a further dimension fills its bytes
-abbrev pub Good : Ctx → Item → ℕ → Type 0
+abbrev pub Good : Ctx → Item ℕ → ℕ → Type 0
 Good c (whole t) size = Unit {0}
 Good c (further d t e) size = Fills (c .book) d t e size
 
 abbrev Children : Ctx → Child → touched.Child → Type 0
 Children c child marks =
-    (i : Item) (at : Cursor) (from size : ℕ) (bytes : List ℕ) → size ≡ length bytes → Good c i size → Agrees from bytes (child i at bytes) (marks i at from size)
+    (i : Item ℕ) (at : Cursor) (from size : ℕ) (bytes : List ℕ) → size ≡ length bytes → Good c i size → Agrees from bytes (child i at bytes) (marks i at from size)
 
 module _ (c : Ctx) (child : Child) (marks : touched.Child) (ih : Children c child marks) where
   -- ---- a map
@@ -190,7 +191,7 @@ module _ (c : Ctx) (child : Child) (marks : touched.Child) (ih : Children c chil
 
   -- ---- an array
 
-  element-good : (d t e : ℕ) → Good c (elementItem c d t e) (strideOf (c .book) d t e)
+  element-good : (d t e : ℕ) → Good c (elementItem (c .book) d t e) (strideOf (c .book) d t e)
   unfolding elementItem
   element-good d t e = by (isLast (c .book) d t) refl
     where
@@ -199,7 +200,7 @@ module _ (c : Ctx) (child : Child) (marks : touched.Child) (ih : Children c chil
       by false q = fills-further (c .book) d t e (strideOf (c .book) d t e) false q refl (record { fills = refl })
 
   -- the elements from index i of n on, at byte `at` of the array's bytes
-  module _ (d t e n stride : ℕ) (q : stride ≡ strideOf (c .book) d t e) (item : Item) (good : Good c item stride) where
+  module _ (d t e n stride : ℕ) (q : stride ≡ strideOf (c .book) d t e) (item : Item ℕ) (good : Good c item stride) where
     elements-agree : (k i at : ℕ) (cur : Cursor) (from place : ℕ) → place ≡ from + at → (bytes : List ℕ) → Along (c .book) d t e n stride at i (length bytes)
         → Agrees from bytes (elementsFrom child c item stride n i at k cur bytes) (elementsTouched marks c item stride k cur place)
     unfolding elementsFrom elementsTouched
@@ -221,7 +222,7 @@ module _ (c : Ctx) (child : Child) (marks : touched.Child) (ih : Children c chil
       checked-agrees from bytes (elementCheck (c .book) (c .width) d t e) _ _
       (agrees-taken c from bytes at _ _ (λ r next.
       agrees-if from bytes (eqb (r .kind) 1) _ 17 0 bytes _ (λ h.
-      elements-agree d t e (countOf (c .book) t d) (strideOf (c .book) d t e) refl (elementItem c d t e) (element-good d t e) (r .a) 0 0 next from from (omega arith) bytes
+      elements-agree d t e (countOf (c .book) t d) (strideOf (c .book) d t e) refl (elementItem (c .book) d t e) (element-good d t e) (r .a) 0 0 next from from (omega arith) bytes
       (record { step = λ l. refl; upto = start }))))
     where
       start : 0 + (countOf (c .book) t d - 0) * strideOf (c .book) d t e ≡ length bytes
@@ -261,7 +262,7 @@ module _ (c : Ctx) (child : Child) (marks : touched.Child) (ih : Children c chil
   unfolding valueBy valueTouched arrayOf enteredAt mapOf leafOf
   value-agrees t at from size bytes e r next =
       agrees-cond from bytes (eqb (r .kind) 1) _ _ _ _ (array-agrees t at from bytes (shapeOf (categoryOf (c .book) (c .width) t)))
-      (agrees-cond from bytes (eqb (r .kind) 3) _ _ _ _ (map-agrees t (r .a) next from bytes (shapeAt c t))
+      (agrees-cond from bytes (eqb (r .kind) 3) _ _ _ _ (map-agrees t (r .a) next from bytes (shapeAt (c .book) (c .width) t))
       (agrees-leaf-end from size bytes next e _ (sized-leaf bytes (c .book) (c .width) t (targetOf (categoryOf (c .book) (c .width) t)) r (c .text))))
 
   item-agrees : Children c (itemWalk child c) (itemTouched marks c)

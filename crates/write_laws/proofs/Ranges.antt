@@ -9,7 +9,8 @@ use borrow.Author.Tests.{leb-true, leb-false, le-leb, lt-ltb}
 use lib.ListN.{length, getD, take, drop, length-append, length-take, length-drop, List·getD-eq-default, List·getD-append}
 use lib.Seq.{getD-append-add, getD-take, getD-drop, length-take-le}
 use lib.Dec.{leb, ltb}
-use Rattle.ser.specs.Write.{cut, putIn}
+use Rattle.array_elements.specs.Element.{cut}
+use Rattle.ser.specs.Write.{putIn}
 use Rattle.write_laws.specs.Touched.{Range, isIn, isTouched, Within, none, more, OnlyIn}
 use Rattle.write_laws.proofs.Plain.{different}
 

@@ -13,9 +13,8 @@ use Rattle.utf_8.specs.Buffer.{fitsIn}
 use Rattle.utf_8.proofs.Splices.{splice-start}
 use Rattle.typebook.specs.Book.{isType}
 use Rattle.book_check.specs.Check.{ValidBook, checkRoot}
-use Rattle.book_check.specs.declared.RootCheck.{RootCheck}
-use Rattle.book_check.specs.declared.RootCheck.the-variants as root
 use Rattle.book_check.proofs.Valid.{root-valid}
+use Rattle.book_check.proofs.Roots.{at-each}
 use Rattle.resolvers.specs.Resolve.{resolveAlias}
 use Rattle.resolvers.specs.declared.Resolved.{Resolved}
 use Rattle.resolvers.specs.declared.Resolved.the-variants as resolved
@@ -34,7 +33,7 @@ use Rattle.steps.specs.Answer.{answerOf, bufferAfter, ReadIs}
 use Rattle.steps.proofs.Numbers.{read-is}
 use Rattle.array_elements.specs.Element.{whole}
 use Rattle.de.specs.Walk.{ctx, typedOf}
-use Rattle.de.specs.Read.{rootBy, rootTrace, checkedTrace, readTrace}
+use Rattle.de.specs.Read.{rootBy, rootTrace, readTrace}
 use Rattle.write_laws.specs.Laws.{ReadIsFormed}
 use Rattle.write_laws.proofs.Plain.{different, and-right}
 use Rattle.write_laws.proofs.ReadTree.{Stands, Value, Emits, bytes-take, base-typed, walk-emits}
@@ -55,14 +54,15 @@ by-root book width n mem v p b (resolved.Base t) h = record { forms = λ buffer 
 by-root book width n mem v p b (resolved.Lacks k) h = reads-refused book 7 k
 by-root book width n mem v p b resolved.TooLong h = reads-refused book 8 0
 
-by-check : (buffer : List ℕ) (len width n : ℕ) (mem : List ℕ) → Bytes buffer → Bytes mem → (k : RootCheck) → checkRoot buffer len n ≡ k
-    → Reads (take len buffer) (checkedTrace (take len buffer) width mem k)
-unfolding checkedTrace rootTrace
-by-check buffer len width n mem p b (root.Root m) e =
+by-check : (buffer : List ℕ) (len width n : ℕ) (mem : List ℕ) → Bytes buffer → Bytes mem → Reads (take len buffer) (readTrace buffer len width n mem)
+unfolding readTrace rootTrace
+by-check buffer len width n mem p b =
+    at-each (Reads (take len buffer)) _ _ (checkRoot buffer len n)
+    (λ k e. reads-refused (take len buffer) k 0)
+    (λ m e.
     let v = root-valid buffer len n m e in
     by-root (take len buffer) width m mem (v .valid) (bytes-take len buffer p) b (resolveAlias (take len buffer) width m)
-    (base-typed (take len buffer) width m (v .kind))
-by-check buffer len width n mem p b (root.Refused k) e = reads-refused (take len buffer) k 0
+    (base-typed (take len buffer) width m (v .kind)))
 
 -- ---- the buffers
 
@@ -175,13 +175,11 @@ pub read-stands : (buffer : List ℕ) (len width n : ℕ) (mem tape txt : List �
     → Bytes buffer → Bytes mem → length txt < 2 ^ 64
     → ReadIs (readTrace buffer len width n mem) tape txt r tape′ txt′ → r ≡ reading.Done k m → m ≤ room
     → Standing tape txt tape′ txt′ k m (readTrace buffer len width n mem) room
-unfolding readTrace
 read-stands buffer len width n mem tape txt r tape′ txt′ k m room p b small h e l =
-    standing tape txt tape′ txt′ k m (take len buffer) _ (by-check buffer len width n mem p b (checkRoot buffer len n) refl)
+    standing tape txt tape′ txt′ k m (take len buffer) _ (by-check buffer len width n mem p b)
     (told tape txt tape′ txt′ k m _ r h e) small room l
 
 pub read-is-formed : ReadIsFormed
-unfolding readTrace
 read-is-formed buffer len width n mem tape txt r tape′ txt′ k m room p b small h e l =
-    stands-formed tape txt tape′ txt′ k m (take len buffer) _ (by-check buffer len width n mem p b (checkRoot buffer len n) refl) room
+    stands-formed tape txt tape′ txt′ k m (take len buffer) _ (by-check buffer len width n mem p b) room
     (read-stands buffer len width n mem tape txt r tape′ txt′ k m room p b small h e l)

@@ -8,15 +8,14 @@ use lib.ListN.{length, take}
 use Rattle.number.specs.Le.{Bytes}
 use Rattle.typebook.specs.Book.{isType}
 use Rattle.book_check.specs.Check.{ValidBook, checkRoot}
-use Rattle.book_check.specs.declared.RootCheck.{RootCheck}
-use Rattle.book_check.specs.declared.RootCheck.the-variants as root
 use Rattle.book_check.proofs.Valid.{root-valid}
+use Rattle.book_check.proofs.Roots.{at-refused, at-block, at-each}
 use Rattle.resolvers.specs.Resolve.{resolveAlias}
 use Rattle.resolvers.specs.declared.Resolved.{Resolved}
 use Rattle.resolvers.specs.declared.Resolved.the-variants as resolved
 use Rattle.tape.specs.declared.cursor.Cursor.{Cursor}
 use Rattle.tape_form.specs.Form.{formed}
-use Rattle.steps.specs.Trace.{Event, done, textBytes, tapeBytes}
+use Rattle.steps.specs.Trace.{Event, done, refuse, textBytes, tapeBytes}
 use Rattle.array_elements.specs.Element.{whole}
 use Rattle.de.specs.Walk as de
 use Rattle.de.specs.Read as reading
@@ -24,7 +23,7 @@ use Rattle.ser.specs.declared.WriteAnswer.{WriteAnswer}
 use Rattle.ser.proofs.Numbers.{write-is}
 use Rattle.ser.specs.Write as ser
 use Rattle.ser.specs.Write.{Outcome, went}
-use Rattle.ser.specs.Call.{typeWrite, rootBy, rootWrite, bookWrite, checkedWrite, writeCall, Wrote}
+use Rattle.ser.specs.Call.{typeWrite, rootBy, rootWrite, bookWrite, writeCall, Wrote}
 use Rattle.write_laws.specs.Trip as trip
 use Rattle.write_laws.specs.Laws.{GivenBack, RoundTrip}
 use Rattle.write_laws.proofs.Plain.{different}
@@ -43,7 +42,7 @@ module _ (book buffer tape : List ℕ) (small : length buffer < 2 ^ 64) (width :
       → de.walk (de.ctx book width) 64 (whole (de.typedOf (de.ctx book width) n t)) mem ≡ done es → Same (typeWrite (ser.ctx book width tape buffer) t mem) mem
   unfolding typeWrite
   by-type v p n t y h e =
-      let g : Emits book buffer (Back book buffer tape (ser.walk (ser.ctx book width tape buffer) 64 (ser.whole t)) mem) (done es) =
+      let g : Emits book buffer (Back book buffer tape (ser.walk (ser.ctx book width tape buffer) 64 (whole t)) mem) (done es) =
       rw e at (walk-back book buffer tape small v p width 64 (whole (de.typedOf (de.ctx book width) n t)) mem y b h) in
       record { at = _; is = g .emits 0 texts .back 0 [] (records ∙ sym (append-nil (tapeBytes 0 es))) }
 
@@ -63,14 +62,16 @@ module _ (book buffer tape : List ℕ) (small : length buffer < 2 ^ 64) (width :
 
 call-same : (buffer : List ℕ) (len width n : ℕ) (mem tape text : List ℕ) → Bytes buffer → Bytes mem → length text < 2 ^ 64 → (es : List Event) → tape ≡ tapeBytes 0 es → Stands text 0 (textBytes es)
     → trip.isKept (de.ctx (take len buffer) width) n mem ≡ true → formed (take len buffer) tape text ≡ true
-    → (k : RootCheck) → checkRoot buffer len n ≡ k → reading.checkedTrace (take len buffer) width mem k ≡ done es
-    → Same (checkedWrite (ser.ctx (take len buffer) width tape text) (length mem) mem k) mem
-unfolding reading.checkedTrace checkedWrite
-call-same buffer len width n mem tape text p b small es records texts h f (root.Root m) e q =
+    → reading.readTrace buffer len width n mem ≡ done es → Same (writeCall buffer len width n mem (length mem) tape text) mem
+unfolding writeCall reading.readTrace
+call-same buffer len width n mem tape text p b small es records texts h f q =
+    at-each (λ o. Same o mem) _ _ (checkRoot buffer len n)
+    (λ k e. let y : refuse k 0 ≡ done es = at-refused (λ i. refuse i 0) _ _ refl k e ∙ q in different cc)
+    (λ m e.
     let v = root-valid buffer len n m e in
     let z : m ≡ n = v .is in
-    book-same (take len buffer) text tape small width mem b es records texts (v .valid) (bytes-take len buffer p) m (v .kind) (rw z h) q f
-call-same buffer len width n mem tape text p b small es records texts h f (root.Refused k) e q = different cc
+    let y : reading.rootTrace (de.ctx (take len buffer) width) m mem ≡ done es = at-block _ (λ t. reading.rootTrace (de.ctx (take len buffer) width) t mem) _ refl m e ∙ q in
+    book-same (take len buffer) text tape small width mem b es records texts (v .valid) (bytes-take len buffer p) m (v .kind) (rw z h) y f)
 
 -- an accepted call's answer and output
 given : (o : Outcome) (mem output : List ℕ) (w : WriteAnswer) (new : List ℕ) → Same o mem → length output ≡ length mem → Wrote o mem output w new → GivenBack w mem new
@@ -81,11 +82,10 @@ given o mem output w new s l x =
     }
 
 pub round-trip : RoundTrip
-unfolding writeCall reading.readTrace
 round-trip buffer len width n mem tape txt r tape′ txt′ k m room output w new p b small h e l kept same x =
     let s = read-stands buffer len width n mem tape txt r tape′ txt′ k m room p b small h e l in
     let f = read-is-formed buffer len width n mem tape txt r tape′ txt′ k m room p b small h e l in
     given _ mem output w new
     (rw same
-    (call-same buffer len width n mem (take (24 * k) tape′) (take room txt′) p b (s .small) (s .events) (s .records) (s .texts) kept f (checkRoot buffer len n) refl (s .is)))
+    (call-same buffer len width n mem (take (24 * k) tape′) (take room txt′) p b (s .small) (s .events) (s .records) (s .texts) kept f (s .is)))
     same x

@@ -40,7 +40,7 @@ use Rattle.tape.proofs.Records.{record-back, length-record}
 use Rattle.leaves.specs.Leaf.{leafAt}
 use Rattle.steps.specs.Trace.{Event, rec, Trace, done, stop, textBytes, tapeBytes, one, refuse}
 use Rattle.steps.proofs.Runs.{tape-then}
-use Rattle.array_elements.specs.Element.{Item, whole, further, shapeAt, shapeCheck, elementItem, elementCheck}
+use Rattle.array_elements.specs.Element.{Item, whole, further, cut, shapeAt, elementItem, elementCheck}
 use Rattle.de.specs.declared.reading.Typed.{Typed}
 use Rattle.de.specs.Walk as de
 use Rattle.ser_leaf.specs.Leaf.{targetOf}
@@ -53,18 +53,13 @@ use Rattle.write_laws.proofs.TripLeaf.{LeafBack, leaf-back, rec-of, hel
 
 -- ---- the bytes of a part, put back
 
-put-back : (from size : ℕ) (bytes : List ℕ) → ser.putIn from size bytes (ser.cut from size bytes) ≡ bytes
+put-back : (from size : ℕ) (bytes : List ℕ) → ser.putIn from size bytes (cut from size bytes) ≡ bytes
 put-back from size bytes = ap (λ (x : List ℕ). take from bytes ++ x) (take-append-drop size (drop from bytes)) ∙ take-append-drop from bytes
 
--- the same item for the writer
-abbrev pub toWrite : Item Typed → ser.Item
-toWrite (whole x) = ser.whole (x .resolved)
-toWrite (further d t e) = ser.further d t (e .resolved)
-
--- and for what is kept
-abbrev pub toKeep : Item Typed → Item ℕ
-toKeep (whole x) = whole (x .resolved)
-toKeep (further d t e) = further d t (e .resolved)
+-- the same item for the writer and for what is kept, which know of a type its resolved block alone
+abbrev pub plainItem : Item Typed → Item ℕ
+plainItem (whole x) = whole (x .resolved)
+plainItem (further d t e) = further d t (e .resolved)
 
 abbrev pub place : ℕ → Cursor
 place n = record { at = n }
@@ -127,8 +122,8 @@ module _ (book buffer tape : List ℕ) where
   back-as : (o p : Cursor → List ℕ → Outcome) (mem : List ℕ) → ((at : Cursor) → o at mem ≡ p at mem) → (from : ℕ) (es : List Event) → Back p mem from es → Back o mem from es
   back-as o p mem f from es b = record { back = λ at rest h. f (place at) ∙ b .back at rest h }
 
-  back-placed : (o : Cursor → List ℕ → Outcome) (a size : ℕ) (mem : List ℕ) (from : ℕ) (es : List Event) → Back o (ser.cut a size mem) from es
-      → Back (λ at bytes. ser.placed a size bytes (o at (ser.cut a size bytes))) mem from es
+  back-placed : (o : Cursor → List ℕ → Outcome) (a size : ℕ) (mem : List ℕ) (from : ℕ) (es : List Event) → Back o (cut a size mem) from es
+      → Back (λ at bytes. ser.placed a size bytes (o at (cut a size bytes))) mem from es
   unfolding ser.placed
   back-placed o a size mem from es b =
       record { back = λ at rest h. rw (b .back at rest h) (ap (went (place (at + length (tapeBytes from es)))) (put-back a size mem)) }
@@ -178,7 +173,7 @@ module _ (book buffer tape : List ℕ) where
 
     abbrev Children : de.Child → ser.Child → trip.Child → Type 0
     Children child write kept =
-        (i : Item Typed) (mem : List ℕ) → Good i → Bytes mem → kept (toKeep i) mem ≡ true → Emits book buffer (Back (write (toWrite i)) mem) (child i mem)
+        (i : Item Typed) (mem : List ℕ) → Good i → Bytes mem → kept (plainItem i) mem ≡ true → Emits book buffer (Back (write (plainItem i)) mem) (child i mem)
 
     module _ (child : de.Child) (write : ser.Child) (kept : trip.Child) (ih : Children child write kept) where
       -- ---- a map
@@ -188,7 +183,7 @@ module _ (book buffer tape : List ℕ) where
       unfolding de.fieldValue ser.fieldValue trip.fieldKept
       field-back mem b (answer.Field f) y h =
           emits-where _ (leb (f .offset + f .size) (length mem)) _ 10 0 (λ q.
-          emits-map (Back (write (ser.whole (f .resolved))) (ser.cut (f .offset) (f .size) mem)) _ _
+          emits-map (Back (write (whole (f .resolved))) (cut (f .offset) (f .size) mem)) _ _
           (λ from es x. back-as _ _ mem (λ at. rw q) from es (back-placed _ (f .offset) (f .size) mem from es x))
           (ih (whole (de.typedOf rc (f .named) (f .resolved))) _ (y .typed) (bytes-take (f .size) (drop (f .offset) mem) (bytes-drop (f .offset) mem b)) h))
       field-back mem b (answer.Lacks n) y h = emits-refused book buffer _ 7 n
@@ -229,8 +224,8 @@ module _ (book buffer tape : List ℕ) where
 
       map-back : (x : Typed) → isType book (x .resolved) ≡ true → shapeOf (categoryOf book width (x .resolved)) ≡ shape.Map → (mem : List ℕ) → Bytes mem
           → trip.fieldsKept kept rc (x .resolved) mem (x .resolved + 1) (fieldsOf book (x .resolved)) ≡ true
-          → Emits book buffer (Back (ser.itemWalk write sc (ser.whole (x .resolved))) mem) (de.mapOf child rc x mem)
-      unfolding de.mapOf de.membersOf ser.itemWalk ser.taken ser.takenBy ser.valueBy ser.mapOf ser.mapBy ser.shapeAt ser.checked tapeBytes
+          → Emits book buffer (Back (ser.itemWalk write sc (whole (x .resolved))) mem) (de.mapOf child rc x mem)
+      unfolding de.mapOf de.membersOf ser.itemWalk ser.taken ser.takenBy ser.valueBy ser.mapOf ser.mapBy shapeAt ser.checked tapeBytes
       map-back x y s mem b h =
           let t : ℕ = x .resolved in
           let d = valid-type book valid t y in
@@ -245,17 +240,17 @@ module _ (book buffer tape : List ℕ) where
 
       -- ---- an array
 
-      elements-back : (i : Item Typed) → Good i → (stride n : ℕ) (mem : List ℕ) → Bytes mem → (index at k : ℕ) → index + k ≡ n → trip.elementsKept kept (toKeep i) stride mem at k ≡ true
-          → Emits book buffer (Back (ser.elementsFrom write sc (toWrite i) stride n index at k) mem) (de.elementsFrom child i stride mem at k)
+      elements-back : (i : Item Typed) → Good i → (stride n : ℕ) (mem : List ℕ) → Bytes mem → (index at k : ℕ) → index + k ≡ n → trip.elementsKept kept (plainItem i) stride mem at k ≡ true
+          → Emits book buffer (Back (ser.elementsFrom write sc (plainItem i) stride n index at k) mem) (de.elementsFrom child i stride mem at k)
       unfolding de.elementsFrom ser.elementsFrom trip.elementsKept
       elements-back i g stride n mem b index at zero e h =
           emits-map (Back (λ cur bytes. ser.taken tape cur bytes (ser.endBy 2 bytes)) mem) _ _
           (λ from es x. back-as _ _ mem (λ cur. rw (le-ltb index n (omega (arith, e)))) from es x) (end-back 2 (omega arith) mem)
       elements-back i g stride n mem b index at (suc k) e h =
-          let first : Bool = kept (toKeep i) (ser.cut at stride mem) in
-          emits-then book buffer (Back (λ cur bytes. ser.placed at stride bytes (write (toWrite i) cur (ser.cut at stride bytes))) mem)
-          (Back (ser.elementsFrom write sc (toWrite i) stride n (index + 1) (at + stride) k) mem) _ _ _
-          (emits-map (Back (write (toWrite i)) (ser.cut at stride mem)) _ _ (λ from es x. back-placed (write (toWrite i)) at stride mem from es x)
+          let first : Bool = kept (plainItem i) (cut at stride mem) in
+          emits-then book buffer (Back (λ cur bytes. ser.placed at stride bytes (write (plainItem i) cur (cut at stride bytes))) mem)
+          (Back (ser.elementsFrom write sc (plainItem i) stride n (index + 1) (at + stride) k) mem) _ _ _
+          (emits-map (Back (write (plainItem i)) (cut at stride mem)) _ _ (λ from es x. back-placed (write (plainItem i)) at stride mem from es x)
           (ih i _ g (bytes-take stride (drop at mem) (bytes-drop at mem b)) (and-left first _ h)))
           (elements-back i g stride n mem b (index + 1) (at + stride) k (omega (arith, e)) (and-right first _ h))
           (λ from es fs x y. back-as _ _ mem (λ cur. rw (lt-ltb index n (omega (arith, e)))) from (es ++ fs) (back-then _ _ mem from es fs x y))
@@ -268,30 +263,13 @@ module _ (book buffer tape : List ℕ) where
           by true = y
           by false = y
 
-      same-item : (d t : ℕ) (e : Typed) → toWrite (elementItem book d t e) ≡ ser.elementItem sc d t (e .resolved)
-      unfolding elementItem ser.elementItem
+      same-item : (d t : ℕ) (e : Typed) → plainItem (elementItem book d t e) ≡ elementItem book d t (e .resolved)
+      unfolding elementItem
       same-item d t e = by (isLast book d t)
         where
-          by : (x : Bool) → toWrite (cond x (whole e) (further (d + 1) t e)) ≡ cond x (ser.whole (e .resolved)) (ser.further (d + 1) t (e .resolved))
+          by : (x : Bool) → plainItem (cond x (whole e) (further (d + 1) t e)) ≡ cond x (whole (e .resolved)) (further (d + 1) t (e .resolved))
           by true = refl
           by false = refl
-
-      kept-item : (d t : ℕ) (e : Typed) → toKeep (elementItem book d t e) ≡ elementItem book d t (e .resolved)
-      unfolding elementItem
-      kept-item d t e = by (isLast book d t)
-        where
-          by : (x : Bool) → toKeep (cond x (whole e) (further (d + 1) t e)) ≡ cond x (whole (e .resolved)) (further (d + 1) t (e .resolved))
-          by true = refl
-          by false = refl
-
-      same-check : (d t e : ℕ) → elementCheck book width d t e ≡ ser.elementCheck book width d t e
-      unfolding elementCheck ser.elementCheck shapeAt shapeCheck ser.shapeCheck
-      same-check d t e = ap (λ (x : FieldsCheck). cond (isLast book d t) x check.Fine) (by (shapeOf (categoryOf book width e)) (fieldsCheck book width e))
-        where
-          by : (s : Shape) (f : FieldsCheck) → shapeCheck s f ≡ ser.shapeCheck s f
-          by shape.Map f = refl
-          by shape.Array f = refl
-          by shape.Leaf f = refl
 
       -- a dimension, for what is the same as its walk where there is an array's record
       dimension-back : (d t : ℕ) (e : Typed) → isType book (e .resolved) ≡ true → (mem : List ℕ) → Bytes mem → trip.dimensionKept kept rc d t (e .resolved) mem ≡ true → (o : Cursor → List ℕ → Outcome)
@@ -301,20 +279,19 @@ module _ (book buffer tape : List ℕ) where
       dimension-back d t e y mem b h o same =
           let small-count : countOf book t d < 2 ^ 32 = u32-small book plain t (20 + 4 * d) in
           emits-fine _ (elementCheck book width d t (e .resolved)) _ (λ c.
-          let c′ : ser.elementCheck book width d t (e .resolved) ≡ check.Fine = sym (same-check d t (e .resolved)) ∙ c in
-          emits-after book buffer (Back (ser.elementsFrom write sc (toWrite (elementItem book d t e)) (strideOf book d t (e .resolved)) (countOf book t d) 0 0 (countOf book t d)) mem) _
+          emits-after book buffer (Back (ser.elementsFrom write sc (plainItem (elementItem book d t e)) (strideOf book d t (e .resolved)) (countOf book t d) 0 0 (countOf book t d)) mem) _
           1 0 (countOf book t d) 0 _
-          (elements-back (elementItem book d t e) (element-good d t e y) (strideOf book d t (e .resolved)) (countOf book t d) mem b 0 0 (countOf book t d) (omega arith) (rw (kept-item d t e) h))
+          (elements-back (elementItem book d t e) (element-good d t e y) (strideOf book d t (e .resolved)) (countOf book t d) mem b 0 0 (countOf book t d) (omega arith) (rw (same-item d t e) h))
           (λ from fs x.
           back-record (rec-of 1 0 (countOf book t d) 0) (held-of 1 0 (countOf book t d) 0 (omega arith) (omega arith) (omega arith) (omega arith)) _ _ mem
-          (λ at q. same at q ∙ rw (c′, q, same-item d t e)) from (rec (rec-of 1 0 (countOf book t d) 0) ∷ fs) fs refl x))
+          (λ at q. same at q ∙ rw (c, q, same-item d t e)) from (rec (rec-of 1 0 (countOf book t d) 0) ∷ fs) fs refl x))
 
       element-by : (t : ℕ) → shapeOf (categoryOf book width t) ≡ shape.Array → (mem : List ℕ) → Bytes mem → eqb (length mem) (sizeOf book t) ≡ true → (n : ℕ)
-          → (r : Resolved) → lookUp book width t ≡ r → trip.arrayKept kept rc t mem r ≡ true → Emits book buffer (Back (ser.itemWalk write sc (ser.whole t)) mem) (de.elementBy child rc t n mem r)
+          → (r : Resolved) → lookUp book width t ≡ r → trip.arrayKept kept rc t mem r ≡ true → Emits book buffer (Back (ser.itemWalk write sc (whole t)) mem) (de.elementBy child rc t n mem r)
       unfolding de.elementBy trip.arrayKept ser.itemWalk ser.taken ser.takenBy ser.valueBy ser.arrayOf ser.enteredAt ser.enteredBy ser.elementType ser.arrayBy
       element-by t s mem b q n (resolved.Base e) l h =
           emits-where _ (eqb (bytesOf book t e) (length mem)) _ 10 0 (λ z.
-          dimension-back 0 t (de.typedOf rc n e) (look-typed book width t e l) mem b h (ser.itemWalk write sc (ser.whole t)) (λ at x. rw (x, s, q, l, z)))
+          dimension-back 0 t (de.typedOf rc n e) (look-typed book width t e l) mem b h (ser.itemWalk write sc (whole t)) (λ at x. rw (x, s, q, l, z)))
       element-by t s mem b q n (resolved.Lacks k) l h = emits-refused book buffer _ 7 k
       element-by t s mem b q n resolved.TooLong l h = emits-refused book buffer _ 8 0
 
@@ -325,7 +302,7 @@ module _ (book buffer tape : List ℕ) where
 
       array-by : (t : ℕ) → shapeOf (categoryOf book width t) ≡ shape.Array → (mem : List ℕ) → Bytes mem → eqb (length mem) (sizeOf book t) ≡ true
           → trip.arrayKept kept rc t mem (lookUp book width t) ≡ true → (f : Found) → find book (typeNameOf book t) ≡ f
-          → Emits book buffer (Back (ser.itemWalk write sc (ser.whole t)) mem) (de.arrayBy child rc t mem f)
+          → Emits book buffer (Back (ser.itemWalk write sc (whole t)) mem) (de.arrayBy child rc t mem f)
       unfolding de.arrayBy
       array-by t s mem b q h (found.At n) e =
           let l = look-found t n e in
@@ -334,7 +311,7 @@ module _ (book buffer tape : List ℕ) where
 
       array-back : (x : Typed) → shapeOf (categoryOf book width (x .resolved)) ≡ shape.Array → (mem : List ℕ) → Bytes mem
           → trip.arrayKept kept rc (x .resolved) mem (lookUp book width (x .resolved)) ≡ true
-          → Emits book buffer (Back (ser.itemWalk write sc (ser.whole (x .resolved))) mem) (de.arrayOf child rc x mem)
+          → Emits book buffer (Back (ser.itemWalk write sc (whole (x .resolved))) mem) (de.arrayOf child rc x mem)
       unfolding de.arrayOf
       array-back x s mem b h =
           let t : ℕ = x .resolved in
@@ -343,7 +320,7 @@ module _ (book buffer tape : List ℕ) where
       -- ---- a leaf
 
       leaf-write : (t : ℕ) (mem : List ℕ) (b : Bytes mem) (from : ℕ) (es : List Event) → LeafBack book buffer width t mem b (targetOf (categoryOf book width t)) from es
-          → Back (ser.itemWalk write sc (ser.whole t)) mem from es
+          → Back (ser.itemWalk write sc (whole t)) mem from es
       unfolding ser.itemWalk ser.taken ser.takenBy ser.valueBy ser.leafOf ser.leafEnd
       leaf-write t mem b from es x =
           let one-no : eqb (x .r .kind) 1 ≡ false = ne-eqb (x .r .kind) 1 (x .no-array) in
@@ -351,7 +328,7 @@ module _ (book buffer tape : List ℕ) where
           back-last (x .r) (x .held) _ mem (λ at e. rw (e, one-no, three-no, x .writes)) from es (x .bytes)
 
       leaf-item : (t : ℕ) → isType book t ≡ true → (mem : List ℕ) → Bytes mem → trip.leafKept book t mem (leafAt book width t mem) ≡ true
-          → Emits book buffer (Back (ser.itemWalk write sc (ser.whole t)) mem) (de.leafOf rc t mem)
+          → Emits book buffer (Back (ser.itemWalk write sc (whole t)) mem) (de.leafOf rc t mem)
       unfolding de.leafOf
       leaf-item t y mem b h = emits-map _ _ _ (leaf-write t mem b) (leaf-back book buffer small valid width t y mem b h)
 
@@ -359,7 +336,7 @@ module _ (book buffer tape : List ℕ) where
 
       shape-back : (x : Typed) → isType book (x .resolved) ≡ true → (mem : List ℕ) → Bytes mem → (s : Shape) → shapeOf (categoryOf book width (x .resolved)) ≡ s
           → trip.shapeKept kept rc (x .resolved) mem s ≡ true
-          → Emits book buffer (Back (ser.itemWalk write sc (ser.whole (x .resolved))) mem) (de.shapeWalk child rc x mem s)
+          → Emits book buffer (Back (ser.itemWalk write sc (whole (x .resolved))) mem) (de.shapeWalk child rc x mem s)
       unfolding de.shapeWalk trip.shapeKept
       shape-back x y mem b shape.Map s h = map-back x y s mem b h
       shape-back x y mem b shape.Array s h = array-back x s mem b h

@@ -6,9 +6,8 @@ use Prim.Native.Nat.{ℕ}
 use lib.ListN.{length, take}
 use lib.Dec.{eqb}
 use Rattle.book_check.specs.Check.{checkRoot}
-use Rattle.book_check.specs.declared.RootCheck.{RootCheck}
-use Rattle.book_check.specs.declared.RootCheck.the-variants as root
 use Rattle.book_check.proofs.Valid.{root-valid}
+use Rattle.book_check.proofs.Roots.{at-each}
 use Rattle.resolvers.specs.Resolve.{resolveAlias}
 use Rattle.resolvers.specs.declared.Resolved.{Resolved}
 use Rattle.resolvers.specs.declared.Resolved.the-variants as resolved
@@ -16,9 +15,10 @@ use Rattle.tape_form.specs.Form.{formed}
 use Rattle.tape.specs.declared.cursor.Cursor.{Cursor}
 use Rattle.ser.specs.declared.WriteAnswer.{WriteAnswer}
 use Rattle.ser.specs.declared.WriteAnswer.the-variants.{Done, NotFound, Refused}
-use Rattle.ser.specs.Write.{Ctx, ctx, Outcome, went, refused, whole}
+use Rattle.array_elements.specs.Element.{whole}
+use Rattle.ser.specs.Write.{Ctx, ctx, Outcome, went, refused}
 use Rattle.ser.proofs.Numbers.{write-is}
-use Rattle.ser.specs.Call.{typeWrite, rootBy, rootWrite, bookWrite, checkedWrite, writeCall, Wrote}
+use Rattle.ser.specs.Call.{typeWrite, rootBy, rootWrite, bookWrite, writeCall, Wrote}
 use Rattle.write_laws.specs.Touched.{Touched, rangesOf, rootTouched, leavesOf, OnlyIn}
 use Rattle.write_laws.specs.Laws.{BytesOutside}
 use Rattle.write_laws.proofs.Plain.{different}
@@ -56,13 +56,13 @@ book-whole c n room image =
     whole-if c n image (eqb room (length image)) _ 10
     (whole-if c n image (formed (c .book) (c .tape) (c .text)) _ 16 (record { accepted = by-root c image (resolveAlias (c .book) (c .width) n) }))
 
-call-whole : (buffer : List ℕ) (len width n : ℕ) (image : List ℕ) (room : ℕ) (tape text : List ℕ) (k : RootCheck) → checkRoot buffer len n ≡ k
-    → Whole (ctx (take len buffer) width tape text) n image (checkedWrite (ctx (take len buffer) width tape text) room image k)
-unfolding checkedWrite
-call-whole buffer len width n image room tape text (root.Root m) e =
-    let q : m ≡ n = root-valid buffer len n m e .is in
-    rw q (book-whole (ctx (take len buffer) width tape text) n room image)
-call-whole buffer len width n image room tape text (root.Refused k) e = whole-refused _ n image k 0 image
+call-whole : (buffer : List ℕ) (len width n : ℕ) (image : List ℕ) (room : ℕ) (tape text : List ℕ)
+    → Whole (ctx (take len buffer) width tape text) n image (writeCall buffer len width n image room tape text)
+unfolding writeCall
+call-whole buffer len width n image room tape text =
+    at-each (Whole (ctx (take len buffer) width tape text) n image) _ _ (checkRoot buffer len n)
+    (λ k e. whole-refused _ n image k 0 image)
+    (λ m e. let q : m ≡ n = root-valid buffer len n m e .is in rw q (book-whole (ctx (take len buffer) width tape text) n room image))
 
 -- a done answer is that of an accepted write, and the output its bytes
 not-done : (b : Bool) (n m : ℕ) → cond b (NotFound m) (Refused n) ≡ Done → ⊥
@@ -74,10 +74,13 @@ unfolding bookWrite
 room-same c n room image true q at new e = q
 room-same c n room image false q at new e = let z : refused 10 0 image ≡ went at new = rw q at e in different cc
 
-checked-room : (c : Ctx) (room : ℕ) (image : List ℕ) (k : RootCheck) (at : Cursor) (new : List ℕ) → checkedWrite c room image k ≡ went at new → eqb room (length image) ≡ true
-unfolding checkedWrite
-checked-room c room image (root.Root m) at new e = room-same c m room image (eqb room (length image)) refl at new e
-checked-room c room image (root.Refused k) at new e = different cc
+call-room : (buffer : List ℕ) (len width n : ℕ) (image : List ℕ) (room : ℕ) (tape text : List ℕ) (at : Cursor) (new : List ℕ)
+    → writeCall buffer len width n image room tape text ≡ went at new → eqb room (length image) ≡ true
+unfolding writeCall
+call-room buffer len width n image room tape text at new =
+    at-each (λ o. o ≡ went at new → eqb room (length image) ≡ true) _ _ (checkRoot buffer len n)
+    (λ k q e. different cc)
+    (λ m q e. room-same (ctx (take len buffer) width tape text) m room image (eqb room (length image)) refl at new e)
 
 module _ (image output : List ℕ) (r : WriteAnswer) (last : List ℕ) (d : r ≡ Done) (c : Ctx) (n : ℕ) where
   by-outcome : (o : Outcome) → Wrote o image output r last → Whole c n image o
@@ -89,8 +92,7 @@ module _ (image output : List ℕ) (r : WriteAnswer) (last : List ℕ) (d : r �
 
 -- the first law
 pub bytes-outside : BytesOutside
-unfolding writeCall
 bytes-outside buffer len width n image output tape text r new w d =
     by-outcome image output r new d (ctx (take len buffer) width tape text) n _ w
-    (call-whole buffer len width n image (length output) tape text (checkRoot buffer len n) refl)
-    (λ at bytes e. checked-room (ctx (take len buffer) width tape text) (length output) image (checkRoot buffer len n) at bytes e)
+    (call-whole buffer len width n image (length output) tape text)
+    (call-room buffer len width n image (length output) tape text)

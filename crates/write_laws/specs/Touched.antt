@@ -23,7 +23,8 @@ use Rattle.tape.specs.declared.record.Record.{Record}
 use Rattle.tape.specs.declared.cursor.Cursor.{Cursor}
 use Rattle.tape.specs.declared.cursor.Step.{Step}
 use Rattle.tape.specs.declared.cursor.Step.the-variants as step
-use Rattle.ser.specs.Write.{Ctx, Item, whole, further, elementItem}
+use Rattle.array_elements.specs.Element.{Item, whole, further, elementItem}
+use Rattle.ser.specs.Write.{Ctx}
 
 -- a range of bytes: its first, and how many
 pub record Range : Type 0 where
@@ -70,7 +71,7 @@ nowhere and f = nowhere
 
 -- what an item touches at one level less: from a cursor on, at a place of the output, in so many bytes
 abbrev pub Child : Type 0
-Child = Item → Cursor → ℕ → ℕ → Touched
+Child = Item ℕ → Cursor → ℕ → ℕ → Touched
 
 -- what follows by a record, where there is one
 unfoldable pub recordBy : (Record → Cursor → Touched) → Step → Touched
@@ -105,14 +106,14 @@ keysTouched child c t (suc k) at from = keyTouched child c t at from and (λ nex
 -- ---- an array: its elements follow each other
 
 -- k elements of `stride` bytes each, and the end record
-unfoldable pub elementsTouched : Child → Ctx → Item → ℕ → ℕ → Cursor → ℕ → Touched
+unfoldable pub elementsTouched : Child → Ctx → Item ℕ → ℕ → ℕ → Cursor → ℕ → Touched
 elementsTouched child c item stride zero at from = endAt c at
 elementsTouched child c item stride (suc k) at from = child item at from stride and (λ next. elementsTouched child c item stride k next (from + stride))
 
 -- dimension d of array t, with elements of type e: as many as the record says
 unfoldable pub dimensionTouched : Child → Ctx → ℕ → ℕ → ℕ → Cursor → ℕ → Touched
 dimensionTouched child c d t e at from =
-    recordBy (λ r next. elementsTouched child c (elementItem c d t e) (strideOf (c .book) d t e) (r .a) next from) (stepAt (c .tape) (at .at))
+    recordBy (λ r next. elementsTouched child c (elementItem (c .book) d t e) (strideOf (c .book) d t e) (r .a) next from) (stepAt (c .tape) (at .at))
 
 -- the first dimension of array t, by what its element's type comes to
 unfoldable pub arrayTouched : Child → Ctx → ℕ → Cursor → ℕ → Resolved → Touched
