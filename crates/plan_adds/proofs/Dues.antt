@@ -1,10 +1,10 @@
 -- Which blocks name a type that their own type is made of; and adding it. Assumes nothing.
-use mathlib.Core.Path.{_≡_, refl, sym, ap, _∙_}
-use mathlib.Core.Bool.{Bool, true, false, cond}
+use mathlib.Core.Path.{_≡_, sym, ap, _∙_}
+use mathlib.Core.Bool.{Bool, true, false}
 use mathlib.Core.List.{List}
 use Prim.Native.Nat.{ℕ, zero, suc, _-_, _≤_, _<_}
 use native.Mathlib.Omega.{arith}
-use lib.ListN.{length, take}
+use lib.ListN.{take}
 use Rattle.typebook.specs.Book.{isType, fieldsOf}
 use Rattle.type_category.specs.declared.type_category.AdsTypeCategory.{AdsTypeCategory}
 use Rattle.type_category.specs.Category.{categoryOf}
@@ -17,9 +17,9 @@ use Rattle.plan_adds.specs.declared.Fetched.{Fetched}
 use Rattle.plan_adds.specs.declared.Fetched.the-variants as fetched
 use Rattle.plan_adds.specs.declared.Due.{Due}
 use Rattle.plan_adds.specs.declared.Due.the-variants.{Names, Rest}
-use Rattle.plan_adds.specs.declared.Swept.the-variants.{More, Full}
-use Rattle.plan_adds.specs.Adds.{Adding, ours, fetchOf, thenOn, passing, dueParts, dueType, dueOf, sweepBy}
-use Rattle.plan_adds.specs.State.{Ready, fetchedSaid, FetchedIs, sweptSaid, SweptIs}
+use Rattle.plan_adds.specs.declared.Swept.{Swept}
+use Rattle.plan_adds.specs.Adds.{ours, passing, dueParts, dueType, dueOf, sweepBy}
+use Rattle.plan_adds.specs.State.{Ready, fetchedSaid, FetchedIs, SweptIs}
 use Rattle.plan_adds.proofs.Fetches.{kept-all}
 
 module _ (book : List ℕ) (i : ℕ) (category : AdsTypeCategory) (t : Bool) (e : t ≡ goesOn false category) where
@@ -62,24 +62,27 @@ module _ (book : List ℕ) (width i due : ℕ) (z : due ≤ 0) (t : Bool) (e : t
   due-other h = rw (none, ← e, h)
 
 -- ---- one block that is swept
+abbrev swept : ℕ → ℕ → Swept
+swept len due = record { len = len; due = due }
+
 module _ (c : List ℕ) (width i due : ℕ) (buffer : List ℕ) (len : ℕ) (d : Due) (ed : d ≡ dueOf (take len buffer) width i due) (k : ℕ) where
-  pub block-rest : d ≡ Rest k → (known : List ℕ) → Ready c buffer len known → SweptIs c width i due buffer len (More len k) buffer known
-  unfolding sweptSaid sweepBy
+  pub block-rest : d ≡ Rest k → (known : List ℕ) → Ready c buffer len known → SweptIs c width i due buffer len (swept len k) buffer known
+  unfolding sweepBy
   block-rest h known o = record { is = λ go. rw (← ed, h); ready = o; kept = kept-all buffer len }
 
   module _ (h : d ≡ Names k) (f : Fetched) (after known : List ℕ) (o : FetchedIs c i buffer len f after known) where
-    named : (go : ℕ → Ours → Adding) → sweepBy go c i (ours buffer len) (dueOf (take len buffer) width i due) ≡ thenOn (passing (fetchedSaid i len f after)) (go k)
+    named : (go : ℕ → Ours → Ours) → sweepBy go c i (ours buffer len) (dueOf (take len buffer) width i due) ≡ go k (passing (fetchedSaid i len f after))
     unfolding sweepBy
     named go = rw (← ed, h, o .is)
 
-    pub block-more : (l : ℕ) → f ≡ fetched.More l → SweptIs c width i due buffer len (More l k) after known
-    unfolding sweptSaid fetchedSaid passing thenOn
+    pub block-more : (l : ℕ) → f ≡ fetched.More l → SweptIs c width i due buffer len (swept l k) after known
+    unfolding fetchedSaid passing
     block-more l e = record { is = λ go. sym (named go ∙ rw e); ready = rw e at (o .ready); kept = rw e at (o .kept) }
 
-    pub block-lacks : f ≡ fetched.Lacks → SweptIs c width i due buffer len (More len k) after known
-    unfolding sweptSaid fetchedSaid passing thenOn
+    pub block-lacks : f ≡ fetched.Lacks → SweptIs c width i due buffer len (swept len k) after known
+    unfolding fetchedSaid passing
     block-lacks e = record { is = λ go. sym (named go ∙ rw e); ready = rw e at (o .ready); kept = rw e at (o .kept) }
 
-    pub block-full : f ≡ fetched.Full → SweptIs c width i due buffer len Full after known
-    unfolding sweptSaid fetchedSaid passing thenOn
+    pub block-full : f ≡ fetched.Full → SweptIs c width i due buffer len (swept len k) after known
+    unfolding fetchedSaid passing
     block-full e = record { is = λ go. sym (named go ∙ rw e); ready = rw e at (o .ready); kept = rw e at (o .kept) }

@@ -2,7 +2,7 @@
 use mathlib.Core.Path.{_≡_, refl, sym, ap, _∙_}
 use mathlib.Core.Bool.{Bool, true, false, cond}
 use mathlib.Core.List.{List, [], _∷_}
-use Prim.Native.Nat.{ℕ, zero, suc, _+_, _-_, _/_, _≤_, _<_}
+use Prim.Native.Nat.{ℕ, suc, _+_, _-_, _/_, _≤_, _<_}
 use native.Mathlib.Omega.{arith}
 use native.Mathlib.Numerals.{add-one}
 use borrow.Author.Tests.{lt-ltb, le-ltb}
@@ -11,16 +11,13 @@ use lib.Seq.{drop-cons, getD-take}
 use lib.Dec.{ltb}
 use Rattle.typebook.specs.Book.{blocks}
 use Rattle.closure.specs.Calls.{Ours}
-use Rattle.book_check.specs.Check.{ValidBook}
-use Rattle.book_check.proofs.Valid.{valid-book, valid-size}
 use Rattle.plan_adds.specs.declared.Fetched.{Fetched}
 use Rattle.plan_adds.specs.declared.Fetched.the-variants as fetched
 use Rattle.plan_adds.specs.declared.Swept.{Swept}
-use Rattle.plan_adds.specs.declared.Swept.the-variants as swept
 use Rattle.plan_adds.specs.declared.Added.{Added}
 use Rattle.plan_adds.specs.declared.Added.the-variants.{More, NotFound, Full}
 use Rattle.plan_adds.specs.Adds.{Adding, ours, on, thenOn, addListed, dueOf, sweepBy, sweepFrom, sweep, addAll}
-use Rattle.plan_adds.specs.State.{Ready, Kept, fetchedSaid, FetchedIs, addedSaid, AddedIs, addedLength, sweptSaid, SweptIs}
+use Rattle.plan_adds.specs.State.{Ready, Kept, fetchedSaid, FetchedIs, addedSaid, AddedIs, SweptIs, SweepIs}
 use Rattle.plan_adds.proofs.Fetches.{ready-cut, kept-all, kept-then}
 
 -- ---- the loop of `add_listed`
@@ -84,8 +81,8 @@ module _ (adding : Adding) (c list buffer₀ : List ℕ) (len₀ n i : ℕ) (buf
 
 -- ---- the loop of `sweep`
 
-pub record SweepsTo (adding : Adding) (c : List ℕ) (width : ℕ) (buffer₀ : List ℕ) (len₀ i due : ℕ) (buffer : List ℕ) (at : ℕ) (known : List ℕ) : Type 0 where
-  pub rest : adding ≡ sweepFrom c width (65536 - i) i due (ours buffer at)
+pub record SweepsTo (final : Ours) (c : List ℕ) (width : ℕ) (buffer₀ : List ℕ) (len₀ i due : ℕ) (buffer : List ℕ) (at : ℕ) (known : List ℕ) : Type 0 where
+  pub rest : final ≡ sweepFrom c width (65536 - i) i due (ours buffer at)
   pub ready : Ready c buffer at known
   pub kept : Kept buffer₀ len₀ buffer at
 
@@ -93,13 +90,13 @@ pub sweeps-start : (c : List ℕ) (width : ℕ) (buffer : List ℕ) (len i : ℕ
     → SweepsTo (sweep c width i (ours buffer len)) c width buffer len i 0 buffer len known
 sweeps-start c width buffer len i known o = record { rest = refl; ready = o; kept = kept-all buffer len }
 
-module _ (adding : Adding) (c : List ℕ) (width : ℕ) (buffer₀ : List ℕ) (len₀ i due : ℕ) (buffer : List ℕ) (at : ℕ) (known : List ℕ)
-    (o : SweepsTo adding c width buffer₀ len₀ i due buffer at known) where
+module _ (final : Ours) (c : List ℕ) (width : ℕ) (buffer₀ : List ℕ) (len₀ i due : ℕ) (buffer : List ℕ) (at : ℕ) (known : List ℕ)
+    (o : SweepsTo final c width buffer₀ len₀ i due buffer at known) where
   pub sweeps-ready : Ready c buffer at known
   sweeps-ready = o .ready
 
-  pub sweeps-end : 65536 ≤ i → AddedIs adding c buffer₀ len₀ (More at) buffer known
-  unfolding addedSaid sweepFrom
+  pub sweeps-end : 65536 ≤ i → SweepIs final c buffer₀ len₀ at buffer known
+  unfolding sweepFrom
   sweeps-end h = let q : 65536 - i ≡ 0 = omega arith in record { is = sym (o .rest ∙ rw q); ready = o .ready; kept = o .kept }
 
   module _ (l : i < 65536) where
@@ -107,15 +104,14 @@ module _ (adding : Adding) (c : List ℕ) (width : ℕ) (buffer₀ : List ℕ) (
     left = omega arith
 
     turn : (t : Bool) → ltb i (blocks (take at buffer)) ≡ t
-        → adding ≡ cond t (sweepBy (sweepFrom c width (65536 - (i + 1)) (i + 1)) c i (ours buffer at) (dueOf (take at buffer) width i due)) (on (ours buffer at))
+        → final ≡ cond t (sweepBy (sweepFrom c width (65536 - (i + 1)) (i + 1)) c i (ours buffer at) (dueOf (take at buffer) width i due)) (ours buffer at)
     unfolding sweepFrom
     turn t e = o .rest ∙ rw (left, e)
 
     cut : at ≡ length (take at buffer)
     cut = ready-cut c buffer at known (o .ready)
 
-    pub sweeps-stop : at / 512 ≤ i → AddedIs adding c buffer₀ len₀ (More at) buffer known
-    unfolding addedSaid
+    pub sweeps-stop : at / 512 ≤ i → SweepIs final c buffer₀ len₀ at buffer known
     sweeps-stop h =
         record {
           is = sym (turn false (le-ltb i (blocks (take at buffer)) (omega (arith, cut))));
@@ -123,57 +119,41 @@ module _ (adding : Adding) (c : List ℕ) (width : ℕ) (buffer₀ : List ℕ) (
           kept = o .kept;
         }
 
-    module _ (h : i < at / 512) (r : Swept) (after known′ : List ℕ) (g : SweptIs c width i due buffer at r after known′) where
-      goes : adding ≡ sweptSaid (sweepFrom c width (65536 - (i + 1)) (i + 1)) at r after
-      goes = turn true (lt-ltb i (blocks (take at buffer)) (omega (arith, cut))) ∙ sym (g .is (sweepFrom c width (65536 - (i + 1)) (i + 1)))
+    pub sweeps-again : i < at / 512 → (r : Swept) (after known′ : List ℕ) → SweptIs c width i due buffer at r after known′
+        → SweepsTo final c width buffer₀ len₀ (i + 1) (r .due) after (r .len) known′
+    sweeps-again h r after known′ g =
+        record {
+          rest = turn true (lt-ltb i (blocks (take at buffer)) (omega (arith, cut))) ∙ sym (g .is (sweepFrom c width (65536 - (i + 1)) (i + 1)));
+          ready = g .ready;
+          kept = kept-then buffer₀ len₀ buffer at after (r .len) (o .kept) (g .kept);
+        }
 
-      pub sweeps-again : (k m : ℕ) → r ≡ swept.More k m → SweepsTo adding c width buffer₀ len₀ (i + 1) m after k known′
-      unfolding sweptSaid
-      sweeps-again k m e =
-          record {
-            rest = goes ∙ rw e;
-            ready = rw e at (g .ready);
-            kept = kept-then buffer₀ len₀ buffer at after k (o .kept) (rw e at (g .kept));
-          }
-
-      pub sweeps-full : r ≡ swept.Full → AddedIs adding c buffer₀ len₀ (Full at) after known′
-      unfolding sweptSaid addedSaid
-      sweeps-full e =
-          record {
-            is = sym (goes ∙ rw e);
-            ready = rw e at (g .ready);
-            kept = kept-then buffer₀ len₀ buffer at after at (o .kept) (rw e at (g .kept));
-          }
-
--- ---- the listed types, and then what the new types are made of
-
-pub all-fits : (c buffer : List ℕ) (len : ℕ) (known : List ℕ) → Ready c buffer len known → (from : ℕ) → from ≡ blocks (take len buffer) → from < 4294967296
-all-fits c buffer len known o from e = omega (arith, valid-size (take len buffer) (valid-book buffer len (o .valid)) .few)
+-- ---- the listed types, and then what types of our book are made of
 
 pub all-ready : (adding : Adding) (c buffer : List ℕ) (len : ℕ) (a : Added) (after known : List ℕ) → AddedIs adding c buffer len a after known → (l : ℕ) → a ≡ More l
     → Ready c after l known
 all-ready adding c buffer len a after known o l e = rw e at (o .ready)
 
-module _ (c : List ℕ) (width : ℕ) (bs buffer : List ℕ) (len from : ℕ) (ef : from ≡ blocks (take len buffer)) (a : Added) (after known : List ℕ)
+module _ (c : List ℕ) (width : ℕ) (bs buffer : List ℕ) (len from : ℕ) (a : Added) (after known : List ℕ)
     (o : AddedIs (addListed c bs (ours buffer len)) c buffer len a after known) where
-  onward-all : addAll c width bs (ours buffer len) ≡ thenOn (addedSaid a after) (sweep c width from)
+  onward-all : addAll c width from bs (ours buffer len) ≡ thenOn (addedSaid a after) (λ z. on (sweep c width from z))
   unfolding addAll
-  onward-all = rw (← o .is, ← ef)
+  onward-all = rw (← o .is)
 
-  pub all-lacks : (b l : ℕ) → a ≡ NotFound b l → AddedIs (addAll c width bs (ours buffer len)) c buffer len (NotFound b l) after known
+  pub all-lacks : (b l : ℕ) → a ≡ NotFound b l → AddedIs (addAll c width from bs (ours buffer len)) c buffer len (NotFound b l) after known
   unfolding addedSaid thenOn
   all-lacks b l e = record { is = sym (onward-all ∙ rw e); ready = rw e at (o .ready); kept = rw e at (o .kept) }
 
-  pub all-full : (l : ℕ) → a ≡ Full l → AddedIs (addAll c width bs (ours buffer len)) c buffer len (Full l) after known
+  pub all-full : (l : ℕ) → a ≡ Full l → AddedIs (addAll c width from bs (ours buffer len)) c buffer len (Full l) after known
   unfolding addedSaid thenOn
   all-full l e = record { is = sym (onward-all ∙ rw e); ready = rw e at (o .ready); kept = rw e at (o .kept) }
 
-  pub all-swept : (l : ℕ) → a ≡ More l → (r : Added) (last known′ : List ℕ) → AddedIs (sweep c width from (ours after l)) c after l r last known′
-      → AddedIs (addAll c width bs (ours buffer len)) c buffer len r last known′
+  pub all-swept : (l : ℕ) → a ≡ More l → (r : ℕ) (last known′ : List ℕ) → SweepIs (sweep c width from (ours after l)) c after l r last known′
+      → AddedIs (addAll c width from bs (ours buffer len)) c buffer len (More r) last known′
   unfolding addedSaid thenOn
   all-swept l e r last known′ g =
       record {
-        is = g .is ∙ sym (onward-all ∙ rw e);
+        is = ap on (g .is) ∙ sym (onward-all ∙ rw e);
         ready = g .ready;
-        kept = kept-then buffer len after l last (addedLength r) (rw e at (o .kept)) (g .kept);
+        kept = kept-then buffer len after l last r (rw e at (o .kept)) (g .kept);
       }

@@ -1,4 +1,4 @@
--- The adds of a plan: what an ask listed, and what the new types are made of. c is the controller's book throughout. Assumes nothing.
+-- The adds of a plan: what an ask listed, and what types of our book are made of. c is the controller's book throughout. Assumes nothing.
 use mathlib.Core.Bool.{false, cond}
 use mathlib.Core.List.{List, [], _∷_}
 use Prim.Native.Nat.{ℕ, zero, suc, _+_, _-_}
@@ -55,13 +55,13 @@ unfoldable pub addListed : List ℕ → List ℕ → Ours → Adding
 addListed c [] s = on s
 addListed c (b ∷ bs) s = thenOn (fetchOf c b s) (addListed c bs)
 
--- ---- sweeping the new blocks: what a new type is made of is added too, so that few asks are needed
+-- ---- sweeping blocks: what their types are made of is added too, so that few asks are needed
 
--- a name that the controller's book lacks is passed over: if it is needed, the next ask lists it
-unfoldable pub passing : Adding → Adding
-passing (on s) = on s
-passing (lacks b s) = on s
-passing (room s) = room s
+-- a name that the controller's book lacks, or without room for its definition, is passed over: if it is needed, the next ask lists it
+unfoldable pub passing : Adding → Ours
+passing (on s) = s
+passing (lacks b s) = s
+passing (room s) = s
 
 -- a type block by the kind of its parts: an array's own block names its element type; the fields of a struct are due after it
 unfoldable pub dueParts : List ℕ → ℕ → Parts → Due
@@ -79,20 +79,20 @@ dueOf book width i zero = cond (isType book i) (dueType book i (categoryOf book 
 dueOf book width i (suc due) = Names due
 
 -- the type that block i names is added, if it names one, and `go` says what is done next
-unfoldable pub sweepBy : (ℕ → Ours → Adding) → List ℕ → ℕ → Ours → Due → Adding
-sweepBy go c i s (Names due) = thenOn (passing (fetchOf c i s)) (go due)
+unfoldable pub sweepBy : (ℕ → Ours → Ours) → List ℕ → ℕ → Ours → Due → Ours
+sweepBy go c i s (Names due) = go due (passing (fetchOf c i s))
 sweepBy go c i s (Rest due) = go due s
 
 -- at most k blocks from block i on are swept, the last of those that are added meanwhile included
-unfoldable pub sweepFrom : List ℕ → ℕ → ℕ → ℕ → ℕ → Ours → Adding
-sweepFrom c width zero i due s = on s
+unfoldable pub sweepFrom : List ℕ → ℕ → ℕ → ℕ → ℕ → Ours → Ours
+sweepFrom c width zero i due s = s
 sweepFrom c width (suc k) i due s =
-    cond (ltb i (blocks (bookOf s))) (sweepBy (sweepFrom c width k (i + 1)) c i s (dueOf (bookOf s) width i due)) (on s)
+    cond (ltb i (blocks (bookOf s))) (sweepBy (sweepFrom c width k (i + 1)) c i s (dueOf (bookOf s) width i due)) s
 
 -- the blocks from block i on, of at most 65,536
-abbrev pub sweep : List ℕ → ℕ → ℕ → Ours → Adding
+abbrev pub sweep : List ℕ → ℕ → ℕ → Ours → Ours
 sweep c width i s = sweepFrom c width (65536 - i) i 0 s
 
--- the listed types are added, and then what the new types are made of
-unfoldable pub addAll : List ℕ → ℕ → List ℕ → Ours → Adding
-addAll c width bs s = thenOn (addListed c bs s) (sweep c width (blocks (bookOf s)))
+-- the listed types are added, and then what the types from block i on are made of
+unfoldable pub addAll : List ℕ → ℕ → ℕ → List ℕ → Ours → Adding
+addAll c width i bs s = thenOn (addListed c bs s) (λ z. on (sweep c width i z))

@@ -14,7 +14,6 @@ use Rattle.plan_adds.specs.declared.Fetched.the-variants as fetched
 use Rattle.plan_adds.specs.declared.Added.{Added}
 use Rattle.plan_adds.specs.declared.Added.the-variants as added
 use Rattle.plan_adds.specs.declared.Swept.{Swept}
-use Rattle.plan_adds.specs.declared.Swept.the-variants as swept
 use Rattle.plan_adds.specs.Adds.{ours, Adding, on, lacks, room, fetchOf, dueOf, sweepBy}
 
 -- our book is valid, and the marks say which of the controller's types it knows
@@ -58,16 +57,14 @@ pub record AddedIs (adding : Adding) (c buffer : List ℕ) (len : ℕ) (r : Adde
   pub ready : Ready c after (addedLength r) known
   pub kept : Kept buffer len after (addedLength r)
 
--- what is said of one block that is swept
-abbrev pub sweptLength : ℕ → Swept → ℕ
-sweptLength len (swept.More l due) = l
-sweptLength len swept.Full = len
-
-unfoldable pub sweptSaid : (ℕ → Ours → Adding) → ℕ → Swept → List ℕ → Adding
-sweptSaid go len (swept.More l due) buffer = go due (ours buffer l)
-sweptSaid go len swept.Full buffer = room (ours buffer len)
-
+-- what is said of one block that is swept: the length of our book then, and how many fields are due
 pub record SweptIs (c : List ℕ) (width i due : ℕ) (buffer : List ℕ) (len : ℕ) (r : Swept) (after known : List ℕ) : Type 0 where
-  pub is : (go : ℕ → Ours → Adding) → sweptSaid go len r after ≡ sweepBy go c i (ours buffer len) (dueOf (take len buffer) width i due)
-  pub ready : Ready c after (sweptLength len r) known
-  pub kept : Kept buffer len after (sweptLength len r)
+  pub is : (go : ℕ → Ours → Ours) → go (r .due) (ours after (r .len)) ≡ sweepBy go c i (ours buffer len) (dueOf (take len buffer) width i due)
+  pub ready : Ready c after (r .len) known
+  pub kept : Kept buffer len after (r .len)
+
+-- what is said of several: the length of our book at the end
+pub record SweepIs (final : Ours) (c buffer : List ℕ) (len l : ℕ) (after known : List ℕ) : Type 0 where
+  pub is : ours after l ≡ final
+  pub ready : Ready c after l known
+  pub kept : Kept buffer len after l

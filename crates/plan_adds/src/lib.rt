@@ -1,5 +1,5 @@
-// The adds of a plan: the types that an ask listed are added to our book from the controller's, and then what the new types are made of, so
-// that few asks are needed. Both books were checked once.
+// The adds of a plan: the types that an ask listed are added to our book from the controller's, and then what types of our book are made of,
+// so that few asks are needed. Both books were checked once.
 ghost use mathlib.Core.Path.{_≡_};
 ghost use Prim.Native.Nat.{_≤_};
 ghost use lib.ListN.{length, take};
@@ -7,7 +7,7 @@ ghost use Rattle.typebook.specs.Book.{typeNameOf};
 ghost use Rattle.type_provider.specs.Find.{find};
 ghost use Rattle.book_check.specs.Check.{ValidBook};
 ghost use Rattle.plan_adds.specs.Adds.{ours, addListed, dueType, dueOf, sweep as sweepOf, addAll};
-ghost use Rattle.plan_adds.specs.State.{Ready, FetchedIs, AddedIs, SweptIs};
+ghost use Rattle.plan_adds.specs.State.{Ready, FetchedIs, AddedIs, SweptIs, SweepIs};
 use resolvers::goes_on;
 use type_adds::append_in;
 use type_cache::Appended;
@@ -42,10 +42,10 @@ pub enum Due {
     Rest(u32),
 }
 
-// After a block was swept: the length of our book, and how many fields are due; or there was no room.
-enum Swept {
-    More(usize, u32),
-    Full,
+// After a block was swept: the length of our book, and how many fields are due.
+struct Swept {
+    len: usize,
+    due: u32,
 }
 
 // ---- adding
@@ -150,8 +150,8 @@ fn due_at(book: &[u8], width: u8, i: u32, due: u32) -> Due
     Due::Rest(0)
 }
 
-// Adds the type that block i names, if it is one that its own type is made of. A name that the controller's book lacks is passed over:
-// if it is needed, the next ask lists it.
+// Adds the type that block i names, if it is one that its own type is made of. A name that the controller's book lacks is passed over, and
+// one whose definition has no room: if it is needed, the next ask lists it.
 fn sweep_block(
     buffer: &mut [u8],
     len: usize,
@@ -167,19 +167,19 @@ fn sweep_block(
 {
     let here = due_at(&buffer[..len], width, i, due);
     match here {
-        Due::Rest(k) => Swept::More(len, k),
+        Due::Rest(k) => Swept { len, due: k },
         Due::Names(k) => {
             let fetched = fetch(buffer, len, controller, index, known, i);
             match fetched {
-                Fetched::More(l) => Swept::More(l, k),
-                Fetched::Lacks => Swept::More(len, k),
-                Fetched::Full => Swept::Full,
+                Fetched::More(l) => Swept { len: l, due: k },
+                Fetched::Lacks => Swept { len, due: k },
+                Fetched::Full => Swept { len, due: k },
             }
         }
     }
 }
 
-// Sweeps the blocks from block `from` to the end of our book, which grows meanwhile.
+// Sweeps the blocks from block `from` to the end of our book, which grows meanwhile, and answers its length then.
 fn sweep(
     buffer: &mut [u8],
     len: usize,
@@ -188,33 +188,26 @@ fn sweep(
     known: &mut [u8],
     width: u8,
     from: u32,
-) -> Added
+) -> usize
     requires { ⌜ ValidBook (now controller) × Ready (now controller) (now buffer) len (now known) ⌝ }
-    ensures { λ r. ⌜ AddedIs (sweepOf (now (controller .entry)) width from (ours (now (buffer .entry)) len)) (now (controller .entry)) (now (buffer .entry)) len r (now (buffer .exit)) (now (known .exit)) ⌝ }
+    ensures { λ r. ⌜ SweepIs (sweepOf (now (controller .entry)) width from (ours (now (buffer .entry)) len)) (now (controller .entry)) (now (buffer .entry)) len r (now (buffer .exit)) (now (known .exit)) ⌝ }
 {
     let mut at = len;
     let mut i = from;
     let mut due: u32 = 0;
     while i < MAX_BLOCKS {
         if at / BLOCK <= i as usize {
-            return Added::More(at);
+            return at;
         }
         let swept = sweep_block(buffer, at, controller, index, known, width, i, due);
-        match swept {
-            Swept::More(l, k) => {
-                at = l;
-                due = k;
-            }
-            Swept::Full => {
-                return Added::Full(at);
-            }
-        }
+        at = swept.len;
+        due = swept.due;
         i += 1;
     }
-    Added::More(at)
+    at
 }
 
-// Adds the types of the first n listed blocks, and then what the new types are made of.
+// Adds the types of the first n listed blocks, and then what the types from block `from` on are made of.
 pub fn add_all(
     buffer: &mut [u8],
     len: usize,
@@ -224,14 +217,14 @@ pub fn add_all(
     width: u8,
     list: &[u32],
     n: usize,
+    from: u32,
 ) -> Added
     requires { ⌜ ValidBook (now controller) × Ready (now controller) (now buffer) len (now known) × (n ≤ length (now list)) ⌝ }
-    ensures { λ r. ⌜ AddedIs (addAll (now (controller .entry)) width (take n (now (list .entry))) (ours (now (buffer .entry)) len)) (now (controller .entry)) (now (buffer .entry)) len r (now (buffer .exit)) (now (known .exit)) ⌝ }
+    ensures { λ r. ⌜ AddedIs (addAll (now (controller .entry)) width from (take n (now (list .entry))) (ours (now (buffer .entry)) len)) (now (controller .entry)) (now (buffer .entry)) len r (now (buffer .exit)) (now (known .exit)) ⌝ }
 {
-    let from = block::blocks(&buffer[..len]) as u32;
     let added = add_listed(buffer, len, controller, index, known, list, n);
     match added {
-        Added::More(l) => sweep(buffer, l, controller, index, known, width, from),
+        Added::More(l) => Added::More(sweep(buffer, l, controller, index, known, width, from)),
         Added::NotFound(b, l) => Added::NotFound(b, l),
         Added::Full(l) => Added::Full(l),
     }

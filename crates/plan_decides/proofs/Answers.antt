@@ -1,24 +1,22 @@
 -- On the demand's premises the call answers, and rightly. Assumes nothing.
-use mathlib.Core.Path.{_≡_, refl, sym, ap, _∙_, subst}
+use mathlib.Core.Path.{_≡_, refl, sym, _∙_}
 use mathlib.Core.Bool.{Bool, true, false, cond}
 use mathlib.Core.Logic.{_↔_}
-use mathlib.Core.List.{List, [], _∷_, List·Memᴰ, List·Memᴰ·head}
-use Prim.Native.Nat.{ℕ, zero, suc, _+_, _≤_, _<_}
+use mathlib.Core.List.{List, [], _∷_}
+use Prim.Native.Nat.{ℕ, zero, suc, _≤_}
 use native.Mathlib.Omega.{arith}
 use borrow.Author.Tests.{le-leb}
 use lib.ListN.{length}
 use lib.Seq.{take-length}
-use Rattle.typebook.specs.Book.{blocks, isType, typeNameOf}
+use Rattle.typebook.specs.Book.{typeNameOf}
 use Rattle.type_category.specs.Category.{categoryOf}
-use Rattle.book_check.specs.declared.RootCheck.the-variants.{Root}
-use Rattle.book_check.specs.Check.{bookNumbers, rootNumbers, ValidBook, checkRoot}
-use Rattle.book_check.proofs.Valid.{valid-size, valid-some}
+use Rattle.book_check.specs.Check.{bookNumbers, rootNumbers}
 use Rattle.type_cache.specs.Append.{orNext}
 use Rattle.number.specs.Answer.{refusalOf}
 use Rattle.resolvers.specs.declared.Resolved.the-variants.{Base, Lacks, TooLong}
 use Rattle.book_check.specs.Check.{atRoot}
 use Rattle.walks.specs.Walk.{Walk, over, full, met}
-use Rattle.walks.specs.Reads.{listed, whole}
+use Rattle.walks.specs.Reads.{listed}
 use Rattle.walks.specs.Reached.{Needed}
 use Rattle.walks.specs.Scratch.{zeroed}
 use Rattle.missing_types.specs.Needs.{Defined}
@@ -28,17 +26,17 @@ use Rattle.read_modify_write.specs.declared.Rmw.the-variants as rmw
 use Rattle.read_modify_write.specs.Reads.{rmwOf, keepsState}
 use Rattle.read_modify_write.specs.Calls.{rmwNumbers, rmwAnswer, rmwCall, RmwIs}
 use Rattle.closure.specs.Calls.{Ours, bookOf, walkAt}
-use Rattle.closure.specs.Demand.{rootName, Premises, BlockReached, Closed}
+use Rattle.closure.specs.Demand.{rootName, BlockReached, Closed}
 use Rattle.closure.proofs.Steps.{Sound, ours}
-use Rattle.closure.proofs.Room.{room-blocks}
-use Rattle.closure.proofs.Asks.{Theirs, ask-whole, root-check, listed-needed, listed-lacks, none-defined}
+use Rattle.closure.proofs.Asks.{Theirs, ask-whole, root-check, listed-needed, none-defined}
 use Rattle.closure.proofs.Closed.{closed-at}
-use Rattle.plan_adds.specs.Adds.{Adding, on, addAll}
-use Rattle.plan_save.specs.Rounds.{Outcome, decided, ruled, nextRound, closing, roundOf, planFrom}
+use Rattle.plan_adds.specs.Adds.{Adding, on, lacks, room, sweep, addAll}
+use Rattle.plan_save.specs.Rounds.{Outcome, decided, ruled, nextRound, closing, roundOf, sweptFrom, roundsThen, planFrom}
 use Rattle.plan_save.specs.Call.{planRefusal, planOf}
-use Rattle.plan_decides.specs.Decides.{Decides, PlanDecides}
+use Rattle.plan_decides.specs.Decides.{PlanDecides}
 use Rattle.plan_decides.proofs.Below.{listed-below}
-use Rattle.plan_decides.proofs.Fine.{Longer, all-longer}
+use Rattle.plan_decides.proofs.Fine.{Gone, all-fine}
+use Rattle.plan_decides.proofs.Stuck.{Stuck, listed-stuck}
 
 -- ---- read-modify-write of a walk is refused by no number 0
 apart-no : (n : ℕ) → rmw.No ≡ rmw.Refused n → ⊥
@@ -79,6 +77,14 @@ no-yes e = cc
 true-no : {X : Type 0} → false ≡ true → X
 true-no e = let z : _≡_ {A = ℕ} 0 1 = cc in absurd (omega arith)
 
+stuck-apart : (z y : Ours) (a : Adding) → Stuck z a → a ≡ on y → ⊥
+stuck-apart z y a (Stuck.nowhere b q) e = let r : lacks b z ≡ on y = sym q ∙ e in let x : _≡_ {A = ℕ} 0 1 = cc in omega arith
+stuck-apart z y a (Stuck.full q) e = let r : room z ≡ on y = sym q ∙ e in let x : _≡_ {A = ℕ} 0 1 = cc in omega arith
+
+from-first : (book : List ℕ) → sweptFrom 1 book ≡ 0
+unfolding sweptFrom
+from-first book = refl
+
 module _ (c : List ℕ) (width root : ℕ) (name : List ℕ) (w : Theirs c width name) (defines : (x : List ℕ) → Needed c width name x → Defined c x)
     (sc : List ℕ) (long : 16384 ≤ length sc) where
   -- an ask that lists none
@@ -110,48 +116,58 @@ module _ (c : List ℕ) (width root : ℕ) (name : List ℕ) (w : Theirs c width
         let z : refusalOf (rmwNumbers r) ≡ 0 = close .decides sc (le-leb 16384 (length sc) long) r (zeroed sc) called in
         absurd (numbered (bookOf s) width (walkAt width root s) n q (rw q at z))
 
-  few : (s : Ours) → Sound c root name s → blocks (bookOf s) ≤ blocks c
-  few s o =
-      let q : blocks (bookOf s) + 0 ≤ blocks c = room-blocks (bookOf s) c (ours c (w .valid) root name s o) (w .valid) (o .covers) 0 0 (λ l. absurd (omega arith)) in
-      omega arith
-
-  -- an ask that lists some: the adds go on, and our book is longer
-  longer : (s : Ours) → Sound c root name s → (b : ℕ) (bs : List ℕ) → listed (walkAt width root s) ≡ b ∷ bs
-      → Longer c (w .valid) root name s (addAll c width (b ∷ bs) s)
-  longer s o b bs e =
-      all-longer c (w .valid) root name width s o b bs
+  -- an ask that lists some: the adds go on
+  goes : (i : ℕ) (s : Ours) → Sound c root name s → (bs : List ℕ) → listed (walkAt width root s) ≡ bs → Gone c (w .valid) root name width i (addAll c width i bs s)
+  goes i s o bs e =
+      all-fine c (w .valid) root name width i s o bs
       (λ x m. listed-below (bookOf s) width (ours c (w .valid) root name s o) root (o .holds) x (rw e m))
       (λ x m. defines (typeNameOf (bookOf s) x) (listed-needed c width root name w s o x (rw e m)))
-      (listed-lacks c width root name w s o b (rw e (List·Memᴰ·head refl)))
 
-  goes-on : (go : Ours → Outcome) (s : Ours) (a : Adding) (z : Ours) → a ≡ on z → Answered c width root name (go z) → Answered c width root name (nextRound go a)
+  goes-on : (go : Ours → Outcome) (a : Adding) (z : Ours) → a ≡ on z → Answered c width root name (go z) → Answered c width root name (nextRound go a)
   unfolding nextRound
-  goes-on go s a z e r = rw e r
+  goes-on go a z e r = rw e r
 
-  closes : (go : Ours → Outcome) (k : ℕ) (s : Ours) → Sound c root name s → blocks c < blocks (bookOf s) + suc k
-      → ((z : Ours) → Sound c root name z → blocks c < blocks (bookOf z) + k → Answered c width root name (go z))
-      → (bs : List ℕ) → listed (walkAt width root s) ≡ bs → Answered c width root name (closing go c width (walkAt width root s) s bs)
+  -- what holds where the next round begins: our book was swept from block i on
+  abbrev Then : ℕ → (Ours → Outcome) → Type 0
+  Then i go = (y z : Ours) → Sound c root name y → Sound c root name z → z ≡ sweep c width i y → Answered c width root name (go z)
+
+  closes : (go : Ours → Outcome) (i : ℕ) (s : Ours) → Sound c root name s → Then i go → (bs : List ℕ) → listed (walkAt width root s) ≡ bs
+      → Answered c width root name (closing go c width i (walkAt width root s) s bs)
   unfolding closing
-  closes go k s o l ih [] e = decide s o e (rmwOf (bookOf s) width (walkAt width root s)) refl
-  closes go k s o l ih (b ∷ bs) e =
-      let f : Longer c (w .valid) root name s (addAll c width (b ∷ bs) s) = longer s o b bs e in
-      goes-on go s (addAll c width (b ∷ bs) s) (f .final) (f .is) (ih (f .final) (f .sound) (omega (arith, f .longer)))
+  closes go i s o ih [] e = decide s o e (rmwOf (bookOf s) width (walkAt width root s)) refl
+  closes go i s o ih (b ∷ bs) e =
+      let f : Gone c (w .valid) root name width i (addAll c width i (b ∷ bs) s) = goes i s o (b ∷ bs) e in
+      goes-on go (addAll c width i (b ∷ bs) s) (f .final) (f .is) (ih (f .before) (f .final) (f .before-sound) (f .sound) (f .swept))
 
-  round : (go : Ours → Outcome) (k : ℕ) (s : Ours) → Sound c root name s → blocks c < blocks (bookOf s) + suc k
-      → ((z : Ours) → Sound c root name z → blocks c < blocks (bookOf z) + k → Answered c width root name (go z))
-      → Answered c width root name (roundOf go c width (walkAt width root s) s)
+  round : (go : Ours → Outcome) (i : ℕ) (s : Ours) → Sound c root name s → Then i go → Answered c width root name (roundOf go c width i (walkAt width root s) s)
   unfolding roundOf
-  round go k s o l ih = rw (ask-whole c width root name w s o) (closes go k s o l ih (listed (walkAt width root s)) refl)
+  round go i s o ih = rw (ask-whole c width root name w s o) (closes go i s o ih (listed (walkAt width root s)) refl)
 
-  step : (k : ℕ) (s : Ours) → Answered c width root name (roundOf (planFrom c width root k) c width (walkAt width root s) s)
+  -- after a sweep from block 0 an ask lists none, since what it lists can be added
+  last-closes : (go : Ours → Outcome) (i : ℕ) (y z : Ours) → Sound c root name y → Sound c root name z → z ≡ sweep c width 0 y → (bs : List ℕ)
+      → listed (walkAt width root z) ≡ bs → Answered c width root name (closing go c width i (walkAt width root z) z bs)
+  unfolding closing
+  last-closes go i y z p o q [] e = decide z o e (rmwOf (bookOf z) width (walkAt width root z)) refl
+  last-closes go i y z p o q (b ∷ bs) e =
+      absurd (stuck-apart z (goes i z o (b ∷ bs) e .final) (addAll c width i (b ∷ bs) z)
+      (listed-stuck c (w .valid) width root y z (p .valid) (o .valid) q (o .holds) i b bs e) (goes i z o (b ∷ bs) e .is))
+
+  last : (go : Ours → Outcome) (i : ℕ) (y z : Ours) → Sound c root name y → Sound c root name z → z ≡ sweep c width 0 y
+      → Answered c width root name (roundOf go c width i (walkAt width root z) z)
+  unfolding roundOf
+  last go i y z p o q = rw (ask-whole c width root name w z o) (last-closes go i y z p o q (listed (walkAt width root z)) refl)
+
+  step : (k : ℕ) (s : Ours) → Answered c width root name (roundOf (planFrom c width root k) c width (sweptFrom k (bookOf s)) (walkAt width root s) s)
       → Answered c width root name (planFrom c width root (suc k) s)
-  unfolding planFrom
+  unfolding roundsThen
   step k s a = a
 
-  -- the rounds: each that goes on adds a block at least, and our book is no longer than the controller's
-  rounds : (k : ℕ) (s : Ours) → Sound c root name s → blocks c < blocks (bookOf s) + k → Answered c width root name (planFrom c width root k s)
-  rounds zero s o l = absurd (omega (arith, few s o))
-  rounds (suc k) s o l = step k s (round (planFrom c width root k) k s o l (λ z p q. rounds k z p q))
+  -- the rounds: the last but one sweeps from block 0
+  rounds : (k : ℕ) (s : Ours) → Sound c root name s → Answered c width root name (planFrom c width root (suc (suc k)) s)
+  rounds zero s o =
+      step 1 s (round (planFrom c width root 1) (sweptFrom 1 (bookOf s)) s o
+      (λ y z p q e. step 0 z (last (planFrom c width root 0) (sweptFrom 0 (bookOf z)) y z p q (rw (from-first (bookOf s)) at e))))
+  rounds (suc k) s o = step (suc (suc k)) s (round (planFrom c width root (suc (suc k))) (sweptFrom (suc (suc k)) (bookOf s)) s o (λ y z p q e. rounds k z q))
 
 -- ---- the call
 zero-next : (k : ℕ) → orNext 0 k ≡ k
@@ -163,7 +179,7 @@ module _ (c : List ℕ) (width root : ℕ) (s : Ours) (sc : List ℕ) where
   unfolding planRefusal rootNumbers bookNumbers
   unrefused w o h = rw (root-check c width root (rootName root s) w s o, w .valid, le-leb 16384 (length sc) h) (zero-next (orNext 0 0) ∙ zero-next 0)
 
-  from : (n : ℕ) → n ≡ 0 → planOf n (s .buffer) (s .len) c (length c) width root ≡ planFrom c width root 65536 s
+  from : (n : ℕ) → n ≡ 0 → planOf n (s .buffer) (s .len) c (length c) width root ≡ planFrom c width root 18 s
   unfolding planOf
   from n e = rw (e, take-length c)
 
@@ -173,9 +189,8 @@ plan-decides c width root s sc p h =
     let name : List ℕ = rootName root s in
     let w : Theirs c width name = record { valid = p .theirs-valid; few = p .few; short = p .short } in
     let o : Sound c root name s = record { valid = p .ours-valid; room = p .room; holds = p .holds; covers = p .covers; named = refl } in
-    let v : ValidBook (bookOf s) = ours c (w .valid) root name s o in
-    let a : Answered c width root name (planFrom c width root 65536 s) =
-    rounds c width root name w (p .defines) sc h 65536 s o (omega (arith, valid-size c (w .valid) .few, valid-some (bookOf s) v)) in
+    let a : Answered c width root name (planFrom c width root 18 s) =
+    rounds c width root name w (p .defines) sc h 16 s o in
     record {
       answer = a .answer;
       final = a .final;

@@ -1,25 +1,23 @@
 -- On the premises every add goes on: our book stays sound, and what was in it stays in its place. Assumes nothing.
-use mathlib.Core.Path.{_≡_, refl, sym, ap, _∙_, subst}
+use mathlib.Core.Path.{_≡_, refl, sym, ap, _∙_}
 use mathlib.Core.Bool.{Bool, true, false, cond}
 use mathlib.Core.List.{List, [], _∷_, _++_, List·Memᴰ, List·Memᴰ·head, List·Memᴰ·tail, append-nil, append-assoc}
-use Prim.Native.Nat.{ℕ, zero, suc, _+_, _*_, _-_, _≤_, _<_}
+use Prim.Native.Nat.{ℕ, zero, suc, _+_, _-_, _<_}
 use native.Mathlib.Omega.{arith}
-use lib.ListN.{length, length-append}
-use lib.Dec.{eqb, ltb}
+use lib.Dec.{ltb}
 use Rattle.typebook.specs.Book.{blocks, isType, nameOf, typeNameOf}
 use Rattle.typebook.proofs.Blocks.{block-append}
 use Rattle.type_provider.specs.declared.Found.{Found}
 use Rattle.type_provider.specs.declared.Found.the-variants.{At, Nothing}
 use Rattle.type_provider.specs.Find.{find}
-use Rattle.type_provider.proofs.Finds.{find-named, named-name}
 use Rattle.book_check.specs.Check.{ValidBook}
 use Rattle.book_check.proofs.Valid.{valid-size, valid-names}
 use Rattle.type_cache.specs.Append.{appendRefusal}
 use Rattle.type_cache.specs.Same.{definitionOf}
 use Rattle.type_cache.proofs.Definitions.{type-names-same}
-use Rattle.type_cache.proofs.Adds.{definition-size, add-known}
+use Rattle.type_cache.proofs.Adds.{add-known}
 use Rattle.resolvers.proofs.Chains.{found-type}
-use Rattle.missing_types.specs.Needs.{Lacking, Defined}
+use Rattle.missing_types.specs.Needs.{Defined}
 use Rattle.closure.specs.Calls.{Ours, bookOf, add, next}
 use Rattle.closure.proofs.Steps.{Sound, ours, add-same, add-none, add-longer, sound-add}
 use Rattle.plan_adds.specs.declared.Due.{Due}
@@ -33,6 +31,9 @@ pub record Fine (c : List ℕ) (root : ℕ) (name book : List ℕ) (a : Adding) 
   pub sound : Sound c root name final
   pub more : List ℕ
   pub grows : bookOf final ≡ book ++ more
+
+on-same : (a b : Ours) → on a ≡ on b → a ≡ b
+on-same a b e = cc
 
 module _ (c : List ℕ) (w : ValidBook c) (root : ℕ) (name : List ℕ) where
   stay : (s : Ours) → Sound c root name s → Fine c root name (bookOf s) (on s)
@@ -75,27 +76,28 @@ module _ (c : List ℕ) (w : ValidBook c) (root : ℕ) (name : List ℕ) where
                 grows = add-longer c w root name s o n t e;
               }
 
-    pass-fine : (i : ℕ) → Fine c root name (bookOf s) (passing (fetchOf c i s))
+    pass-fine : (i : ℕ) → Fine c root name (bookOf s) (on (passing (fetchOf c i s)))
     unfolding fetchBy passing
     pass-fine i = by (find c (typeNameOf (bookOf s) i)) refl
       where
-        by : (f : Found) → find c (typeNameOf (bookOf s) i) ≡ f → Fine c root name (bookOf s) (passing (fetchBy c i s f))
+        by : (f : Found) → find c (typeNameOf (bookOf s) i) ≡ f → Fine c root name (bookOf s) (on (passing (fetchBy c i s f)))
         by (At n) e =
             let g : Fine c root name (bookOf s) (appendOf c n s) = append-fine n (found-type c (typeNameOf (bookOf s) i) n e) in
             record { final = g .final; is = rw (g .is); sound = g .sound; more = g .more; grows = g .grows }
         by Nothing e = stay s o
 
-  sweep-fine : (width k i due : ℕ) (s : Ours) → Sound c root name s → Fine c root name (bookOf s) (sweepFrom c width k i due s)
-  unfolding sweepFrom sweepBy
+  sweep-fine : (width k i due : ℕ) (s : Ours) → Sound c root name s → Fine c root name (bookOf s) (on (sweepFrom c width k i due s))
+  unfolding sweepFrom sweepBy thenOn
   sweep-fine width zero i due s o = stay s o
   sweep-fine width (suc k) i due s o = by (ltb i (blocks (bookOf s))) (dueOf (bookOf s) width i due) (λ d z q. sweep-fine width k (i + 1) d z q)
     where
-      by : (t : Bool) (d : Due) → ((d : ℕ) (z : Ours) → Sound c root name z → Fine c root name (bookOf z) (sweepFrom c width k (i + 1) d z))
-          → Fine c root name (bookOf s) (cond t (sweepBy (sweepFrom c width k (i + 1)) c i s d) (on s))
+      by : (t : Bool) (d : Due) → ((d : ℕ) (z : Ours) → Sound c root name z → Fine c root name (bookOf z) (on (sweepFrom c width k (i + 1) d z)))
+          → Fine c root name (bookOf s) (on (cond t (sweepBy (sweepFrom c width k (i + 1)) c i s d) s))
       by false d ih = stay s o
       by true (Names m) ih =
-          let f : Fine c root name (bookOf s) (passing (fetchOf c i s)) = pass-fine s o i in
-          then-fine (bookOf s) (passing (fetchOf c i s)) (sweepFrom c width k (i + 1) m) f (ih m (f .final) (f .sound))
+          let y : Ours = passing (fetchOf c i s) in
+          let f : Fine c root name (bookOf s) (on y) = pass-fine s o i in
+          then-fine (bookOf s) (on y) (λ z. on (sweepFrom c width k (i + 1) m z)) f (ih m (f .final) (f .sound))
       by true (Rest m) ih = ih m s o
 
   -- ---- the listed types
@@ -129,43 +131,27 @@ module _ (c : List ℕ) (w : ValidBook c) (root : ℕ) (name : List ℕ) where
         listed-step b bs (l b (List·Memᴰ·head refl)) (d b (List·Memᴰ·head refl)) s o more e
         (λ z p m q. listed-fine bs (λ x y. l x (List·Memᴰ·tail y)) (λ x y. d x (List·Memᴰ·tail y)) z p m q)
 
-  -- the first listed name lacks, so the book is longer after it
-  pub record Longer (s : Ours) (a : Adding) : Type 0 where
+  -- the listed types and the sweep go on
+  pub record Gone (width i : ℕ) (a : Adding) : Type 0 where
+    pub before : Ours
+    pub before-sound : Sound c root name before
     pub final : Ours
     pub is : a ≡ on final
     pub sound : Sound c root name final
-    pub longer : blocks (bookOf s) < blocks (bookOf final)
+    pub swept : final ≡ sweep c width i before
 
-  pub all-longer : (width : ℕ) (s : Ours) → Sound c root name s → (b : ℕ) (bs : List ℕ) → ((x : ℕ) → List·Memᴰ x (b ∷ bs) → x < blocks (bookOf s))
-      → ((x : ℕ) → List·Memᴰ x (b ∷ bs) → Defined c (typeNameOf (bookOf s) x)) → Lacking (bookOf s) (typeNameOf (bookOf s) b)
-      → Longer s (addAll c width (b ∷ bs) s)
-  unfolding addAll addListed fetchBy appendOf thenOn
-  all-longer width s o b bs l d lacking =
+  pub all-fine : (width i : ℕ) (s : Ours) → Sound c root name s → (bs : List ℕ) → ((x : ℕ) → List·Memᴰ x bs → x < blocks (bookOf s))
+      → ((x : ℕ) → List·Memᴰ x bs → Defined c (typeNameOf (bookOf s) x)) → Gone width i (addAll c width i bs s)
+  unfolding addAll thenOn
+  all-fine width i s o bs l d =
       let v : ValidBook (bookOf s) = ours c w root name s o in
-      let g : Defined c (typeNameOf (bookOf s) b) = d b (List·Memᴰ·head refl) in
-      let n : ℕ = g .at in
-      let t : isType c n ≡ true = found-type c (typeNameOf (bookOf s) b) n (g .found) in
-      let e : nameOf c n ≡ typeNameOf (bookOf s) b = named-name c (typeNameOf (bookOf s) b) n (find-named c (typeNameOf (bookOf s) b) n (g .found) .named) in
-      let y : find (bookOf s) (nameOf c n) ≡ Nothing = ap (find (bookOf s)) e ∙ lacking in
-      let r : appendRefusal (s .buffer) (s .len) (definitionOf c n) ≡ 0 = add-none c w root name s o n t y in
-      let f : Fine c root name (bookOf (next c (add n) s)) (addListed c bs (next c (add n) s)) =
-      listed-fine (bookOf s) v bs (λ x m. l x (List·Memᴰ·tail m)) (λ x m. d x (List·Memᴰ·tail m)) (next c (add n) s) (sound-add c w root name s o n t)
-      (definitionOf c n) (add-longer c w root name s o n t y) in
-      let h : Fine c root name (bookOf (f .final)) (sweep c width (blocks (bookOf s)) (f .final)) =
-      sweep-fine width (65536 - blocks (bookOf s)) (blocks (bookOf s)) 0 (f .final) (f .sound) in
-      let k : Fine c root name (bookOf (next c (add n) s)) (thenOn (addListed c bs (next c (add n) s)) (sweep c width (blocks (bookOf s)))) =
-      then-fine (bookOf (next c (add n) s)) (addListed c bs (next c (add n) s)) (sweep c width (blocks (bookOf s))) f h in
+      let f : Fine c root name (bookOf s) (addListed c bs s) = listed-fine (bookOf s) v bs l d s o [] (sym (append-nil (bookOf s))) in
+      let h : Fine c root name (bookOf (f .final)) (on (sweep c width i (f .final))) = sweep-fine width (65536 - i) i 0 (f .final) (f .sound) in
       record {
-        final = k .final;
-        is = rw (g .found, r) (k .is);
-        sound = k .sound;
-        longer = omega (
-          arith,
-          ap (λ (x : List ℕ). length x) (k .grows),
-          length-append (bookOf (next c (add n) s)) (k .more),
-          ap (λ (x : List ℕ). length x) (add-longer c w root name s o n t y),
-          length-append (bookOf s) (definitionOf c n),
-          definition-size c w n t,
-          valid-size (bookOf s) v .whole,
-        );
+        before = f .final;
+        before-sound = f .sound;
+        final = h .final;
+        is = rw (f .is) (h .is);
+        sound = h .sound;
+        swept = on-same (h .final) (sweep c width i (f .final)) (sym (h .is));
       }

@@ -27,7 +27,7 @@ use Rattle.closure.specs.Demand.{Given, ListedNone, here, later}
 use Rattle.plan_adds.specs.declared.Due.{Due}
 use Rattle.plan_adds.specs.declared.Due.the-variants.{Names, Rest}
 use Rattle.plan_adds.specs.Adds.{Adding, on, lacks, room, thenOn, appendOf, fetchBy, fetchOf, addListed, passing, dueOf, sweepBy, sweepFrom, sweep, addAll}
-use Rattle.plan_save.specs.Rounds.{Outcome, decided, lacking, refused, ruled, nextRound, closing, notWhole, roundOf, planFrom}
+use Rattle.plan_save.specs.Rounds.{Outcome, decided, lacking, refused, ruled, nextRound, closing, notWhole, roundOf, sweptFrom, roundsThen, planFrom}
 use Rattle.plan_save.specs.Call.{outcomeOurs}
 use Rattle.plan_decides.specs.Made.{Made, PlanMade, Extends, PlanKeeps}
 
@@ -92,7 +92,7 @@ module _ (c : List ℕ) where
       by (At n) e = append-adds s n (found-type c (typeNameOf (bookOf s) b) n e)
       by Nothing e = no-adds c s
 
-  pass-end : (a : Adding) → endOf (passing a) ≡ endOf a
+  pass-end : (a : Adding) → passing a ≡ endOf a
   unfolding passing
   pass-end (on s) = refl
   pass-end (lacks b s) = refl
@@ -109,25 +109,27 @@ module _ (c : List ℕ) where
   listed-adds [] s = no-adds c s
   listed-adds (b ∷ bs) s = then-end s (fetchOf c b s) (addListed c bs) (fetch-adds s b) (λ z. listed-adds bs z)
 
-  sweep-by : (go : ℕ → Ours → Adding) → ((d : ℕ) (z : Ours) → Adds c z (endOf (go d z))) → (i : ℕ) (s : Ours) (d : Due) → Adds c s (endOf (sweepBy go c i s d))
+  sweep-by : (go : ℕ → Ours → Ours) → ((d : ℕ) (z : Ours) → Adds c z (go d z)) → (i : ℕ) (s : Ours) (d : Due) → Adds c s (sweepBy go c i s d)
   unfolding sweepBy
-  sweep-by go h i s (Names m) = then-end s (passing (fetchOf c i s)) (go m) (rw (pass-end (fetchOf c i s)) (fetch-adds s i)) (h m)
+  sweep-by go h i s (Names m) =
+      let y : Ours = passing (fetchOf c i s) in
+      then-adds c s y (go m y) (rw (pass-end (fetchOf c i s)) (fetch-adds s i)) (h m y)
   sweep-by go h i s (Rest m) = h m s
 
-  sweep-adds : (width k i due : ℕ) (s : Ours) → Adds c s (endOf (sweepFrom c width k i due s))
+  sweep-adds : (width k i due : ℕ) (s : Ours) → Adds c s (sweepFrom c width k i due s)
   unfolding sweepFrom
   sweep-adds width zero i due s = no-adds c s
   sweep-adds width (suc k) i due s =
       by (ltb i (blocks (bookOf s))) (sweep-by (sweepFrom c width k (i + 1)) (λ d z. sweep-adds width k (i + 1) d z) i s (dueOf (bookOf s) width i due))
     where
-      by : (t : Bool) → Adds c s (endOf (sweepBy (sweepFrom c width k (i + 1)) c i s (dueOf (bookOf s) width i due)))
-          → Adds c s (endOf (cond t (sweepBy (sweepFrom c width k (i + 1)) c i s (dueOf (bookOf s) width i due)) (on s)))
+      by : (t : Bool) → Adds c s (sweepBy (sweepFrom c width k (i + 1)) c i s (dueOf (bookOf s) width i due))
+          → Adds c s (cond t (sweepBy (sweepFrom c width k (i + 1)) c i s (dueOf (bookOf s) width i due)) s)
       by true h = h
       by false h = no-adds c s
 
-  all-adds : (width : ℕ) (bs : List ℕ) (s : Ours) → Adds c s (endOf (addAll c width bs s))
+  all-adds : (width i : ℕ) (bs : List ℕ) (s : Ours) → Adds c s (endOf (addAll c width i bs s))
   unfolding addAll
-  all-adds width bs s = then-end s (addListed c bs s) (sweep c width (blocks (bookOf s))) (listed-adds bs s) (λ z. sweep-adds width (65536 - blocks (bookOf s)) (blocks (bookOf s)) 0 z)
+  all-adds width i bs s = then-end s (addListed c bs s) (λ z. on (sweep c width i z)) (listed-adds bs s) (λ z. sweep-adds width (65536 - i) i 0 z)
 
 -- ---- the rounds
 
@@ -178,32 +180,32 @@ module _ (c : List ℕ) (width root : ℕ) (sc list : List ℕ) (p : 16384 ≤ l
   ruled-made s e (rmw.NotFound b) = asked s (lacking b s) refl (λ t z y. e)
   ruled-made s e (rmw.Refused n) = asked s (refused n s) refl (λ t z y. e)
 
-  closing-made : (go : Ours → Outcome) → ((z : Ours) → Made c width root z (go z)) → (s : Ours) (bs : List ℕ) → listed (walkAt width root s) ≡ bs
-      → Made c width root s (closing go c width (walkAt width root s) s bs)
+  closing-made : (i : ℕ) (go : Ours → Outcome) → ((z : Ours) → Made c width root z (go z)) → (s : Ours) (bs : List ℕ) → listed (walkAt width root s) ≡ bs
+      → Made c width root s (closing go c width i (walkAt width root s) s bs)
   unfolding closing
-  closing-made go h s [] e = ruled-made s e (rmwOf (bookOf s) width (walkAt width root s))
-  closing-made go h s (b ∷ bs) e = next-made go h s (addAll c width (b ∷ bs) s) (all-adds c width (b ∷ bs) s)
+  closing-made i go h s [] e = ruled-made s e (rmwOf (bookOf s) width (walkAt width root s))
+  closing-made i go h s (b ∷ bs) e = next-made go h s (addAll c width i (b ∷ bs) s) (all-adds c width i (b ∷ bs) s)
 
-  round-made : (go : Ours → Outcome) → ((z : Ours) → Made c width root z (go z)) → (s : Ours) → Made c width root s (roundOf go c width (walkAt width root s) s)
+  round-made : (i : ℕ) (go : Ours → Outcome) → ((z : Ours) → Made c width root z (go z)) → (s : Ours) → Made c width root s (roundOf go c width i (walkAt width root s) s)
   unfolding roundOf outcomeOurs
-  round-made go h s = by (whole (walkAt width root s)) (closing-made go h s (listed (walkAt width root s)) refl)
+  round-made i go h s = by (whole (walkAt width root s)) (closing-made i go h s (listed (walkAt width root s)) refl)
     where
-      by : (t : Bool) → Made c width root s (closing go c width (walkAt width root s) s (listed (walkAt width root s)))
-          → Made c width root s (cond t (closing go c width (walkAt width root s) s (listed (walkAt width root s))) (refused (notWhole (walkAt width root s)) s))
+      by : (t : Bool) → Made c width root s (closing go c width i (walkAt width root s) s (listed (walkAt width root s)))
+          → Made c width root s (cond t (closing go c width i (walkAt width root s) s (listed (walkAt width root s))) (refused (notWhole (walkAt width root s)) s))
       by true m = m
       by false m = asked s (refused (notWhole (walkAt width root s)) s) refl (λ t z y. absurd (apart-refused (notWhole (walkAt width root s)) s t z y))
 
   none-made : (s : Ours) → Made c width root s (planFrom c width root 0 s)
-  unfolding planFrom outcomeOurs after
+  unfolding roundsThen outcomeOurs after
   none-made s = record { items = []; given = none; left = refl; none = λ t z y. absurd (apart-refused 15 s t z y) }
 
-  step-made : (k : ℕ) (s : Ours) → Made c width root s (roundOf (planFrom c width root k) c width (walkAt width root s) s) → Made c width root s (planFrom c width root (suc k) s)
-  unfolding planFrom
+  step-made : (k : ℕ) (s : Ours) → Made c width root s (roundOf (planFrom c width root k) c width (sweptFrom k (bookOf s)) (walkAt width root s) s) → Made c width root s (planFrom c width root (suc k) s)
+  unfolding roundsThen
   step-made k s m = m
 
   rounds-made : (k : ℕ) (s : Ours) → Made c width root s (planFrom c width root k s)
   rounds-made zero s = none-made s
-  rounds-made (suc k) s = step-made k s (round-made (planFrom c width root k) (λ z. rounds-made k z) s)
+  rounds-made (suc k) s = step-made k s (round-made (sweptFrom k (bookOf s)) (planFrom c width root k) (λ z. rounds-made k z) s)
 
 pub plan-made : PlanMade
 unfolding PlanMade

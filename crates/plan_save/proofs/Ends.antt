@@ -105,7 +105,7 @@ module _ (buffer : List ℕ) (len : ℕ) (root : ℕ) (c : checkRoot buffer len 
           (refused-all 6 buffer len controller theirs width root sc hints (λ q. omega arith))
 
       pub at-done : 16384 ≤ length sc → (r : Plan) (after sc′ hints′ : List ℕ)
-          → PlannedIn (planFrom (take theirs controller) width root 65536 (ours buffer len)) sc hints r after sc′ hints′
+          → PlannedIn (planFrom (take theirs controller) width root 18 (ours buffer len)) sc hints r after sc′ hints′
           → PlanIs (planRefusal buffer len controller theirs root sc) buffer len controller theirs width root sc hints r after sc′ hints′
       unfolding planOf
       at-done h r after sc′ hints′ p =

@@ -4,14 +4,15 @@ use mathlib.Core.Bool.{Bool, true, false, cond}
 use mathlib.Core.List.{List, [], _∷_}
 use Prim.Native.Nat.{ℕ, zero, suc, _-_, _/_, _≤_, _<_}
 use native.Mathlib.Omega.{arith}
+use borrow.Author.Tests.{lt-ltb, le-ltb}
 use lib.ListN.{length, take, length-take}
 use lib.Seq.{length-take-le}
 use Rattle.type_cache.proofs.Appends.{refused-cut}
-use Rattle.typebook.specs.Book.{isType}
+use Rattle.typebook.specs.Book.{blocks, isType}
 use Rattle.book_check.proofs.Numbers.{valid-number}
 use Rattle.book_check.specs.declared.BookCheck.the-variants.{Valid}
 use Rattle.book_check.specs.Check.{checkBook, ValidBook}
-use Rattle.book_check.proofs.Valid.{valid-book}
+use Rattle.book_check.proofs.Valid.{valid-book, valid-size}
 use Rattle.type_adds.specs.Knows.{Knows}
 use Rattle.walks.specs.Walk.{Walk, walkOf}
 use Rattle.walks.specs.Reads.{listed, whole}
@@ -27,7 +28,7 @@ use Rattle.plan_save.specs.declared.Asked.{Asked}
 use Rattle.plan_save.specs.declared.Asked.the-variants.{Lists, NotWhole}
 use Rattle.plan_save.specs.declared.Round.{Round}
 use Rattle.plan_save.specs.declared.Round.the-variants.{Again, Is}
-use Rattle.plan_save.specs.Rounds.{Outcome, ruled, nextRound, closing, notWhole, roundOf, planFrom}
+use Rattle.plan_save.specs.Rounds.{Outcome, ruled, nextRound, closing, notWhole, roundOf, sweptFrom, roundsThen, planFrom}
 use Rattle.plan_save.specs.State.{planSaid, roundSaid, Follows, RoundIs, AskSaid, AskedIs, DecidedIs, AfterAdds, AddedRound, PlannedIs}
 
 pub ready-book : (c buffer : List ℕ) (len : ℕ) (known : List ℕ) → Ready c buffer len known → ValidBook (take len buffer)
@@ -68,11 +69,11 @@ module _ (w : Walk) (a : Asked) (list : List ℕ) (o : AskedIs w a list) where
       let z : length (take n list) ≡ n = ap (λ (l : List ℕ). length l) (q .2) ∙ sym (q .1) in
       omega (arith, length-take n list)
 
-module _ (c : List ℕ) (width root : ℕ) (buffer : List ℕ) (len : ℕ) (a : Asked) (list : List ℕ) (o : AskedIs (walkOf (take len buffer) width root) a list) where
+module _ (c : List ℕ) (width root : ℕ) (buffer : List ℕ) (len from : ℕ) (a : Asked) (list : List ℕ) (o : AskedIs (walkOf (take len buffer) width root) a list) where
   abbrev w : Walk
   w = walkOf (take len buffer) width root
 
-  pub round-not-whole : (k : ℕ) → a ≡ NotWhole k → (known : List ℕ) → RoundIs c width root buffer len (Is (plan.Refused k len)) buffer known
+  pub round-not-whole : (k : ℕ) → a ≡ NotWhole k → (known : List ℕ) → RoundIs c width root buffer len from (Is (plan.Refused k len)) buffer known
   unfolding roundSaid planSaid roundOf
   round-not-whole k e known =
       let q = not-whole w a list o k e in
@@ -83,47 +84,59 @@ module _ (c : List ℕ) (width root : ℕ) (buffer : List ℕ) (len : ℕ) (a : 
     q = lists w a list o n e
 
     pub round-none : n ≡ 0 → (p : Plan) → DecidedIs (rmwAnswer true (take len buffer) width root) len p → (known : List ℕ)
-        → RoundIs c width root buffer len (Is p) buffer known
+        → RoundIs c width root buffer len from (Is p) buffer known
     unfolding roundSaid roundOf closing rmwAnswer
     round-none z p d known =
         let y : listed w ≡ [] = none-long (listed w) (sym (q .1) ∙ z) in
         record { is = λ go. d .is buffer ∙ sym (rw (q .0, y)); follows = tt }
 
     module _ (z : n ≡ 0 → ⊥) (h : isType (take len buffer) root ≡ true) (r : Round) (after known : List ℕ)
-        (g : AddedRound c width (take n list) buffer len r after known) where
-      some : (l : List ℕ) → n ≡ length l → (go : Ours → Outcome) → closing go c width w (ours buffer len) l ≡ nextRound go (addAll c width l (ours buffer len))
+        (g : AddedRound c width from (take n list) buffer len r after known) where
+      some : (l : List ℕ) → n ≡ length l → (go : Ours → Outcome) → closing go c width from w (ours buffer len) l ≡ nextRound go (addAll c width from l (ours buffer len))
       unfolding closing
       some [] y go = absurd (z y)
       some (b ∷ l) y go = refl
 
-      goes-on : (go : Ours → Outcome) → roundSaid go r after ≡ roundOf go c width w (ours buffer len)
+      goes-on : (go : Ours → Outcome) → roundSaid go r after ≡ roundOf go c width from w (ours buffer len)
       unfolding roundOf
       goes-on go =
-          g .is go ∙ ap (λ (l : List ℕ). nextRound go (addAll c width l (ours buffer len))) (q .2) ∙ sym (rw (q .0) (some (listed w) (q .1) go))
+          g .is go ∙ ap (λ (l : List ℕ). nextRound go (addAll c width from l (ours buffer len))) (q .2) ∙ sym (rw (q .0) (some (listed w) (q .1) go))
 
-      pub round-adds : RoundIs c width root buffer len r after known
+      pub round-adds : RoundIs c width root buffer len from r after known
       round-adds = record { is = goes-on; follows = g .follows root h }
 
 -- the adds of a round
-module _ (c : List ℕ) (width : ℕ) (bs buffer : List ℕ) (len : ℕ) (d : Added) (after known : List ℕ)
-    (g : AddedIs (addAll c width bs (ours buffer len)) c buffer len d after known) (r : Round) (f : AfterAdds d r) where
+module _ (c : List ℕ) (width from : ℕ) (bs buffer : List ℕ) (len : ℕ) (d : Added) (after known : List ℕ)
+    (g : AddedIs (addAll c width from bs (ours buffer len)) c buffer len d after known) (r : Round) (f : AfterAdds d r) where
   next : (root : ℕ) → isType (take len buffer) root ≡ true → (r′ : Round) → r ≡ r′ → Follows c root r′ after known
   next root h (Again l) y =
       let s : addedLength d ≡ l = f .same l y in
       (rw s at (g .ready), rw s at (g .kept .types root h))
   next root h (Is p) y = tt
 
-  pub adds-are : AddedRound c width bs buffer len r after known
+  pub adds-are : AddedRound c width from bs buffer len r after known
   adds-are = record { is = λ go. f .is go after ∙ ap (nextRound go) (g .is); follows = λ root h. next root h r refl }
 
 -- ---- the rounds
+module _ (book : List ℕ) (left : ℕ) where
+  pub from-first : left ≤ 2 → 0 < left → 0 ≡ sweptFrom (left - 1) book
+  unfolding sweptFrom
+  from-first h l = sym (rw (lt-ltb (left - 1) 2 (omega arith)))
+
+  pub from-new : 2 < left → (k : ℕ) → k ≡ blocks book → k ≡ sweptFrom (left - 1) book
+  unfolding sweptFrom
+  from-new h k e = e ∙ sym (rw (le-ltb (left - 1) 2 (omega arith)))
+
+  pub from-fits : ValidBook book → (k : ℕ) → k ≡ blocks book → k < 4294967296
+  from-fits v k e = omega (arith, valid-size book v .few)
+
 pub record RoundsTo (o : Outcome) (c : List ℕ) (width root : ℕ) (buffer : List ℕ) (at : ℕ) (known : List ℕ) (left : ℕ) : Type 0 where
   pub rest : o ≡ planFrom c width root left (ours buffer at)
   pub ready : Ready c buffer at known
   pub holds : isType (take at buffer) root ≡ true
 
 pub rounds-start : (c : List ℕ) (width root : ℕ) (buffer : List ℕ) (len : ℕ) (known : List ℕ) → Ready c buffer len known → isType (take len buffer) root ≡ true
-    → RoundsTo (planFrom c width root 65536 (ours buffer len)) c width root buffer len known 65536
+    → RoundsTo (planFrom c width root 18 (ours buffer len)) c width root buffer len known 18
 rounds-start c width root buffer len known o h = record { rest = refl; ready = o; holds = h }
 
 module _ (o : Outcome) (c : List ℕ) (width root : ℕ) (buffer : List ℕ) (at : ℕ) (known : List ℕ) (left : ℕ)
@@ -135,13 +148,14 @@ module _ (o : Outcome) (c : List ℕ) (width root : ℕ) (buffer : List ℕ) (at
   rounds-holds = inv .holds
 
   pub rounds-end : left ≤ 0 → PlannedIs o (plan.Refused 15 at) buffer
-  unfolding planFrom planSaid
+  unfolding roundsThen planSaid
   rounds-end h = let q : left ≡ 0 = omega arith in record { is = sym (inv .rest ∙ rw q) }
 
-  module _ (l : 0 < left) (r : Round) (after known′ : List ℕ) (g : RoundIs c width root buffer at r after known′) where
+  module _ (l : 0 < left) (from : ℕ) (ef : from ≡ sweptFrom (left - 1) (take at buffer)) (r : Round) (after known′ : List ℕ)
+      (g : RoundIs c width root buffer at from r after known′) where
     goes : o ≡ roundSaid (planFrom c width root (left - 1)) r after
-    unfolding planFrom
-    goes = let q : left ≡ suc (left - 1) = omega arith in inv .rest ∙ ap (λ (k : ℕ). planFrom c width root k (ours buffer at)) q ∙ sym (g .is (planFrom c width root (left - 1)))
+    unfolding roundsThen
+    goes = let q : left ≡ suc (left - 1) = omega arith in inv .rest ∙ ap (λ (k : ℕ). planFrom c width root k (ours buffer at)) q ∙ rw (← ef) (sym (g .is (planFrom c width root (left - 1))))
 
     pub rounds-again : (k : ℕ) → r ≡ Again k → RoundsTo o c width root after k known′ (left - 1)
     unfolding roundSaid

@@ -45,7 +45,7 @@ planRefusal buffer len controller theirs root sc =
 -- the outcome: the refusal, our buffer as it was, or that of the rounds
 unfoldable pub planOf : ℕ → List ℕ → ℕ → List ℕ → ℕ → ℕ → ℕ → Outcome
 planOf refusal buffer len controller theirs width root =
-    cond (eqb refusal 0) (planFrom (take theirs controller) width root 65536 (ours buffer len)) (refused refusal (ours buffer len))
+    cond (eqb refusal 0) (planFrom (take theirs controller) width root 18 (ours buffer len)) (refused refusal (ours buffer len))
 
 -- what the call promises: its answer, every byte of our buffer, and scratch and index, zero at the end unless 1 to 6 left them as they were
 pub record PlanIs (refusal : ℕ) (buffer : List ℕ) (len : ℕ) (controller : List ℕ) (theirs width root : ℕ) (sc hints : List ℕ) (r : Plan)

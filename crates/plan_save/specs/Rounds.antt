@@ -3,7 +3,8 @@
 use mathlib.Core.Bool.{Bool, true, false, cond}
 use mathlib.Core.List.{List, [], _∷_}
 use Prim.Native.Nat.{ℕ, zero, suc}
-use lib.Dec.{eqb}
+use lib.Dec.{eqb, ltb}
+use Rattle.typebook.specs.Book.{blocks}
 use Rattle.walks.specs.Walk.{Walk}
 use Rattle.walks.specs.Reads.{count, listed, whole}
 use Rattle.read_modify_write.specs.declared.Rmw.{Rmw}
@@ -31,20 +32,30 @@ nextRound go (on s) = go s
 nextRound go (lacks b s) = lacking b s
 nextRound go (room s) = refused 15 s
 
--- an ask that is whole: none is listed, and read-modify-write answers; or the listed types are added, and another ask follows
-unfoldable pub closing : (Ours → Outcome) → List ℕ → ℕ → Walk → Ours → List ℕ → Outcome
-closing go c width w s [] = ruled (rmwOf (bookOf s) width w) s
-closing go c width w s (b ∷ bs) = nextRound go (addAll c width (b ∷ bs) s)
+-- an ask that is whole: none is listed, and read-modify-write answers; or the listed types are added, then what the types from block i on are
+-- made of, and another ask follows
+unfoldable pub closing : (Ours → Outcome) → List ℕ → ℕ → ℕ → Walk → Ours → List ℕ → Outcome
+closing go c width i w s [] = ruled (rmwOf (bookOf s) width w) s
+closing go c width i w s (b ∷ bs) = nextRound go (addAll c width i (b ∷ bs) s)
 
 -- an ask that is not whole: 9 for a name too many, else 8
 abbrev pub notWhole : Walk → ℕ
 notWhole w = cond (eqb (count w) 4097) 9 8
 
 -- one round, by its ask
-unfoldable pub roundOf : (Ours → Outcome) → List ℕ → ℕ → Walk → Ours → Outcome
-roundOf go c width w s = cond (whole w) (closing go c width w s (listed w)) (refused (notWhole w) s)
+unfoldable pub roundOf : (Ours → Outcome) → List ℕ → ℕ → ℕ → Walk → Ours → Outcome
+roundOf go c width i w s = cond (whole w) (closing go c width i w s (listed w)) (refused (notWhole w) s)
 
--- at most k rounds; each that goes on adds a type, so 65,536 blocks are never passed by the number of rounds
-unfoldable pub planFrom : List ℕ → ℕ → ℕ → ℕ → Ours → Outcome
-planFrom c width root zero s = refused 15 s
-planFrom c width root (suc k) s = roundOf (planFrom c width root k) c width (walkAt width root s) s
+-- the block from which the types are swept in a round after which k may follow: the first new one, so that only what is needed is added; in
+-- the last two rounds block 0, after which nothing is left to add
+unfoldable pub sweptFrom : ℕ → List ℕ → ℕ
+sweptFrom k book = cond (ltb k 2) 0 (blocks book)
+
+-- at most k rounds, and `go` where they run out
+unfoldable pub roundsThen : (Ours → Outcome) → List ℕ → ℕ → ℕ → ℕ → Ours → Outcome
+roundsThen go c width root zero s = go s
+roundsThen go c width root (suc k) s = roundOf (roundsThen go c width root k) c width (sweptFrom k (bookOf s)) (walkAt width root s) s
+
+-- at most k rounds, and 15 where they run out: eighteen never do (`plan-few`)
+abbrev pub planFrom : List ℕ → ℕ → ℕ → ℕ → Ours → Outcome
+planFrom c width root k = roundsThen (refused 15) c width root k

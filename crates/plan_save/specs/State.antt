@@ -39,8 +39,8 @@ abbrev pub Follows : List ℕ → ℕ → Round → List ℕ → List ℕ → Ty
 Follows c root (round.Again l) after known = Ready c after l known × (isType (take l after) root ≡ true)
 Follows c root (round.Is p) after known = Unit {0}
 
-pub record RoundIs (c : List ℕ) (width root : ℕ) (buffer : List ℕ) (len : ℕ) (r : Round) (after known : List ℕ) : Type 0 where
-  pub is : (go : Ours → Outcome) → roundSaid go r after ≡ roundOf go c width (walkOf (take len buffer) width root) (ours buffer len)
+pub record RoundIs (c : List ℕ) (width root : ℕ) (buffer : List ℕ) (len from : ℕ) (r : Round) (after known : List ℕ) : Type 0 where
+  pub is : (go : Ours → Outcome) → roundSaid go r after ≡ roundOf go c width from (walkOf (take len buffer) width root) (ours buffer len)
   pub follows : Follows c root r after known
 
 -- what is said of an ask
@@ -60,9 +60,9 @@ pub record AfterAdds (a : Added) (r : Round) : Type 0 where
   pub is : (go : Ours → Outcome) (buffer : List ℕ) → roundSaid go r buffer ≡ nextRound go (addedSaid a buffer)
   pub same : (l : ℕ) → r ≡ round.Again l → addedLength a ≡ l
 
--- what is said of a round that adds the types of a list of blocks
-pub record AddedRound (c : List ℕ) (width : ℕ) (bs buffer : List ℕ) (len : ℕ) (r : Round) (after known : List ℕ) : Type 0 where
-  pub is : (go : Ours → Outcome) → roundSaid go r after ≡ nextRound go (addAll c width bs (ours buffer len))
+-- what is said of a round that adds the types of a list of blocks, and then sweeps from a block on
+pub record AddedRound (c : List ℕ) (width from : ℕ) (bs buffer : List ℕ) (len : ℕ) (r : Round) (after known : List ℕ) : Type 0 where
+  pub is : (go : Ours → Outcome) → roundSaid go r after ≡ nextRound go (addAll c width from bs (ours buffer len))
   pub follows : (root : ℕ) → isType (take len buffer) root ≡ true → Follows c root r after known
 
 -- what is said of the rounds

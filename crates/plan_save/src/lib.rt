@@ -2,7 +2,7 @@
 // lacks; then read-modify-write is decided. One call makes the whole list of asks and adds, so none can be left out.
 ghost use mathlib.Core.Path.{_≡_};
 ghost use mathlib.Core.Bool.{true};
-ghost use Prim.Native.Nat.{_≤_};
+ghost use Prim.Native.Nat.{_≤_, _<_, _-_};
 ghost use lib.ListN.{length, take};
 ghost use Rattle.typebook.specs.Book.{isType};
 ghost use Rattle.number.specs.Answer.{refusalOf};
@@ -12,7 +12,7 @@ ghost use Rattle.book_check.specs.declared.RootCheck.the-variants.{Root};
 ghost use Rattle.type_adds.specs.Knows.{Knows};
 ghost use Rattle.walks.specs.Walk.{walkOf};
 ghost use Rattle.read_modify_write.specs.Calls.{rmwAnswer};
-ghost use Rattle.plan_save.specs.Rounds.{planFrom};
+ghost use Rattle.plan_save.specs.Rounds.{sweptFrom, planFrom};
 ghost use Rattle.plan_adds.specs.Adds.{ours};
 ghost use Rattle.plan_adds.specs.State.{Ready};
 ghost use Rattle.plan_save.specs.Call.{planRefusal, PlanIs};
@@ -27,13 +27,17 @@ use plan_adds::add_all;
 use read_modify_write::Rmw;
 use type_adds::mark_known;
 use type_index::fill_names;
+use typebook::block;
 use zeros::clear_numbers;
 
 // The numbers that a walk needs of the scratch.
 const SCRATCH: usize = 16384;
 
-// The blocks of a book at most, and so the rounds that can add a type.
-const MAX_BLOCKS: u32 = 65536;
+// The rounds at most, so also the asks. They suffice, whatever the books hold (the law `plan-few` of plan_decides).
+const ROUNDS: u32 = 18;
+
+// The rounds at the end in which the whole book is swept.
+const SWEEP_ALL: u32 = 2;
 
 // What `plan_save` answers, always with the length of our book then.
 pub enum Plan {
@@ -120,7 +124,7 @@ fn after_adds(added: Added) -> Round
     }
 }
 
-// The adds of a round, and what follows from them. The first half of the index is of the controller's book.
+// The adds of a round with a sweep from a block on, and what follows from them. The first half of the index is of the controller's book.
 fn add_round(
     buffer: &mut [u8],
     len: usize,
@@ -130,9 +134,10 @@ fn add_round(
     width: u8,
     list: &[u32],
     n: usize,
+    from: u32,
 ) -> Round
     requires { ⌜ ValidBook (now controller) × Ready (now controller) (now buffer) len (now known) × (n ≤ length (now list)) ⌝ }
-    ensures { λ r. ⌜ AddedRound (now (controller .entry)) width (take n (now (list .entry))) (now (buffer .entry)) len r (now (buffer .exit)) (now (known .exit)) ⌝ }
+    ensures { λ r. ⌜ AddedRound (now (controller .entry)) width from (take n (now (list .entry))) (now (buffer .entry)) len r (now (buffer .exit)) (now (known .exit)) ⌝ }
 {
     let half = index.len() / 2;
     after_adds(add_all(
@@ -144,10 +149,12 @@ fn add_round(
         width,
         list,
         n,
+        from,
     ))
 }
 
-// One ask, and what follows from it. The first half of the index is of the controller's book, the other half of ours.
+// One ask, and what follows from it, with a sweep from a block on if it lists any. The first half of the index is of the controller's book,
+// the other half of ours.
 fn one_round(
     buffer: &mut [u8],
     len: usize,
@@ -158,9 +165,10 @@ fn one_round(
     root: u32,
     scratch: &mut [u32],
     list: &mut [u32],
+    from: u32,
 ) -> Round
     requires { ⌜ ValidBook (now controller) × Ready (now controller) (now buffer) len (now known) × (isType (take len (now buffer)) root ≡ true) × (16384 ≤ length (now scratch)) × (4096 ≤ length (now list)) ⌝ }
-    ensures { λ r. ⌜ RoundIs (now (controller .entry)) width root (now (buffer .entry)) len r (now (buffer .exit)) (now (known .exit)) ⌝ }
+    ensures { λ r. ⌜ RoundIs (now (controller .entry)) width root (now (buffer .entry)) len from r (now (buffer .exit)) (now (known .exit)) ⌝ }
 {
     let half = index.len() / 2;
     let asked = ask(
@@ -177,12 +185,24 @@ fn one_round(
             if n == 0 {
                 return Round::Is(decide(&buffer[..len], &index[half..], width, root, scratch, len));
             }
-            add_round(buffer, len, controller, index, known, width, list, n)
+            add_round(buffer, len, controller, index, known, width, list, n, from)
         }
     }
 }
 
-// Rounds until one has the answer. Each that does not has added a type, and a book has 65,536 blocks at most, so the rounds suffice.
+// The block from which the types are swept, by the rounds that are left: the first new one, so that only what is needed is added. But where
+// types of ours alternate with lacking ones a round finds just one more; so in the end the whole book is swept.
+fn swept_from(book: &[u8], left: u32) -> u32
+    requires { ⌜ ValidBook (now book) × (0 < left) ⌝ }
+    ensures { λ r. ⌜ r ≡ sweptFrom (left - 1) (now (book .entry)) ⌝ }
+{
+    if left <= SWEEP_ALL {
+        return 0;
+    }
+    block::blocks(book) as u32
+}
+
+// Rounds until one has the answer.
 fn plan_rounds(
     buffer: &mut [u8],
     len: usize,
@@ -195,11 +215,12 @@ fn plan_rounds(
     list: &mut [u32],
 ) -> Plan
     requires { ⌜ ValidBook (now controller) × Ready (now controller) (now buffer) len (now known) × (isType (take len (now buffer)) root ≡ true) × (16384 ≤ length (now scratch)) × (4096 ≤ length (now list)) ⌝ }
-    ensures { λ r. ⌜ PlannedIs (planFrom (now (controller .entry)) width root 65536 (ours (now (buffer .entry)) len)) r (now (buffer .exit)) ⌝ }
+    ensures { λ r. ⌜ PlannedIs (planFrom (now (controller .entry)) width root 18 (ours (now (buffer .entry)) len)) r (now (buffer .exit)) ⌝ }
 {
     let mut at = len;
-    let mut left = MAX_BLOCKS;
+    let mut left = ROUNDS;
     while left > 0 {
+        let from = swept_from(&buffer[..at], left);
         let here = one_round(
             buffer,
             at,
@@ -210,6 +231,7 @@ fn plan_rounds(
             root,
             scratch,
             list,
+            from,
         );
         match here {
             Round::Again(l) => {
@@ -247,7 +269,7 @@ fn plan_in(
     index: &mut [u32],
 ) -> Plan
     requires { ⌜ ValidBook (now controller) × (checkBook (now buffer) len ≡ Valid) × (isType (take len (now buffer)) root ≡ true) × (16384 ≤ length (now scratch)) ⌝ }
-    ensures { λ r. ⌜ PlannedIs (planFrom (now (controller .entry)) width root 65536 (ours (now (buffer .entry)) len)) r (now (buffer .exit)) ⌝ }
+    ensures { λ r. ⌜ PlannedIs (planFrom (now (controller .entry)) width root 18 (ours (now (buffer .entry)) len)) r (now (buffer .exit)) ⌝ }
 {
     let mut known = [0u8; 65536];
     let mut list = [0u32; 4096];
@@ -276,7 +298,7 @@ fn plan_clean(
     index: &mut [u32],
 ) -> Plan
     requires { ⌜ ValidBook (now controller) × (checkBook (now buffer) len ≡ Valid) × (isType (take len (now buffer)) root ≡ true) × (16384 ≤ length (now scratch)) ⌝ }
-    ensures { λ r. ⌜ PlannedIn (planFrom (now (controller .entry)) width root 65536 (ours (now (buffer .entry)) len)) (now (scratch .entry)) (now (index .entry)) r (now (buffer .exit)) (now (scratch .exit)) (now (index .exit)) ⌝ }
+    ensures { λ r. ⌜ PlannedIn (planFrom (now (controller .entry)) width root 18 (ours (now (buffer .entry)) len)) (now (scratch .entry)) (now (index .entry)) r (now (buffer .exit)) (now (scratch .exit)) (now (index .exit)) ⌝ }
 {
     let plan = plan_in(buffer, len, controller, width, root, scratch, index);
     clear_numbers(scratch);

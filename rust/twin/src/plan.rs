@@ -7,6 +7,8 @@ use crate::{Book, Names, Stop};
 
 const MOST_BLOCKS: usize = 65_536;
 const NAME_TOO_MANY: usize = 4_097;
+/// The rounds that sweep the new blocks alone; the next one sweeps our whole book.
+const NARROW_ROUNDS: u32 = 16;
 
 /// Our book as it grows, with a map of its names, and the controller's book.
 struct Plan<'k, 'b> {
@@ -28,9 +30,10 @@ pub fn plan(buffer: &mut [u8], len: usize, controller: &[u8], width: u8, root: u
         len,
         width,
     };
+    let mut rounds = 0;
     loop {
-        match plan.round(root) {
-            Ok(None) => {}
+        match plan.round(root, rounds < NARROW_ROUNDS) {
+            Ok(None) => rounds += 1,
             Ok(Some(yes)) => return (Ok(yes), plan.len),
             Err(stop) => return (Err(stop), plan.len),
         }
@@ -43,7 +46,7 @@ impl Plan<'_, '_> {
     }
 
     /// An ask and its adds; the answer where none was listed.
-    fn round(&mut self, root: u32) -> Result<Option<bool>, Stop> {
+    fn round(&mut self, root: u32, narrow: bool) -> Result<Option<bool>, Stop> {
         let book = Book::lent(&self.buffer[..self.len], &self.names);
         let missing = missing_types(&book, self.width, root);
         if !missing.whole {
@@ -52,11 +55,11 @@ impl Plan<'_, '_> {
         if missing.blocks.is_empty() {
             return requires_read_modify_write(&book, self.width, root).map(Some);
         }
-        let from = self.blocks();
+        let from = if narrow { self.blocks() } else { 0 };
         for b in missing.blocks {
             self.fetch(b)?;
         }
-        self.sweep(from)?;
+        self.sweep(from);
         Ok(None)
     }
 
@@ -81,18 +84,18 @@ impl Plan<'_, '_> {
         Ok(())
     }
 
-    /// Adds what the types from a block on are made of, those added meanwhile included; what the controller lacks is passed over.
-    fn sweep(&mut self, from: u32) -> Result<(), Stop> {
+    /// Adds what the types from a block on are made of, those added meanwhile included; what the controller lacks, or what doesn't
+    /// fit, is passed over.
+    fn sweep(&mut self, from: u32) {
         let (mut i, mut due) = (from, 0);
         while i < self.blocks() {
             let names = due > 0 || self.is_due(i, &mut due);
-            if names && let Err(stop @ Stop::Number(_)) = self.fetch(i) {
-                return Err(stop);
+            if names {
+                let _passed_over = self.fetch(i);
             }
             due = due.saturating_sub(u32::from(names));
             i += 1;
         }
-        Ok(())
     }
 
     /// Whether a block names an alias' target or an array's element type; the fields of a struct are due after it.

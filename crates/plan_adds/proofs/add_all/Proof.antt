@@ -1,80 +1,67 @@
-use Rattle.plan_adds.proofs.Fetches.{ready-cut, ready-fits}
-use Rattle.plan_adds.proofs.Lists.{all-fits, all-ready, all-lacks, all-full, all-swept}
+use Rattle.plan_adds.proofs.Lists.{all-ready, all-lacks, all-full, all-swept}
 use borrow.Author.Needs.{needs}
 use Rattle.plan_adds.proofs.add_all.Statement.{statement}
 use Rattle.plan_adds.proofs.add_all.Tie as tie
+use Rattle.plan_adds.proofs.add_all.Reads as reads
+use Rattle.plan_adds.proofs.add_all.Lts as lts
+use Rattle.plan_adds.proofs.add_listed.Reads as add-listed-reads
+use Rattle.plan_adds.proofs.sweep.Reads as sweep-reads
 
 ruleset exits = (all-lacks, all-full, all-swept)
 
--- src/lib.rt:231:30
-slice-reshare-prefix-blocks : tie.Need-slice-reshare-prefix-blocks
-slice-reshare-prefix-blocks c = search ready-fits
-
--- src/lib.rt:231:30
-slice-aggregate-blocks : tie.Need-slice-aggregate-blocks
-slice-aggregate-blocks c = search ready-cut
-
--- src/lib.rt:231:16
-blocks-requires : tie.Need-blocks-requires
-blocks-requires c κs = search needs
-
--- src/lib.rt:231:16
-cast-from : tie.Need-cast-from
-cast-from c = search (all-fits, needs)
-
--- src/lib.rt:232:9
+-- src/lib.rt:225:9
 add-listed-requires : tie.Need-add-listed-requires
 add-listed-requires c κs = search needs
 
--- src/lib.rt:234:21
+-- src/lib.rt:227:21
 enum-known-added : tie.Need-enum-known-added
 enum-known-added c = search needs
 
--- src/lib.rt:234:27
+-- src/lib.rt:227:39
 sweep-requires : tie.Need-sweep-requires
-sweep-requires c κs = (search needs, search (all-ready, c .before .before .before .before .before .before .before .before .before .add-listed .ensures))
+sweep-requires c κs = (search needs, search all-ready)
 
--- src/lib.rt:235:25
+-- src/lib.rt:228:25
 enum-known-added-2 : tie.Need-enum-known-added-2
 enum-known-added-2 c = search needs
 
--- src/lib.rt:236:21
+-- src/lib.rt:229:21
 enum-known-added-3 : tie.Need-enum-known-added-3
 enum-known-added-3 c = search needs
 
--- src/lib.rt:218:1
+-- src/lib.rt:211:1
 same-length : tie.Need-same-length
 same-length c = search needs
 
--- src/lib.rt:218:1
+-- src/lib.rt:211:1
 same-length-2 : tie.Need-same-length-2
 same-length-2 c = search needs
 
--- src/lib.rt:218:1
+-- src/lib.rt:211:1
 returns : tie.Need-returns
 returns c = search exits
 
--- src/lib.rt:218:1
+-- src/lib.rt:211:1
 same-length-3 : tie.Need-same-length-3
 same-length-3 c = search needs
 
--- src/lib.rt:218:1
+-- src/lib.rt:211:1
 same-length-4 : tie.Need-same-length-4
 same-length-4 c = search needs
 
--- src/lib.rt:218:1
+-- src/lib.rt:211:1
 returns-2 : tie.Need-returns-2
 returns-2 c = search exits
 
--- src/lib.rt:218:1
+-- src/lib.rt:211:1
 same-length-5 : tie.Need-same-length-5
 same-length-5 c = search needs
 
--- src/lib.rt:218:1
+-- src/lib.rt:211:1
 same-length-6 : tie.Need-same-length-6
 same-length-6 c = search needs
 
--- src/lib.rt:218:1
+-- src/lib.rt:211:1
 returns-3 : tie.Need-returns-3
 returns-3 c = search exits
 
@@ -82,10 +69,6 @@ pub add-all-spec : {M : Type 1} → statement M
 add-all-spec =
     tie.close
     (tie.spec
-    slice-reshare-prefix-blocks
-    slice-aggregate-blocks
-    blocks-requires
-    cast-from
     add-listed-requires
     enum-known-added
     sweep-requires

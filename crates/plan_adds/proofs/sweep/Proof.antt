@@ -1,4 +1,4 @@
-use Rattle.plan_adds.proofs.Lists.{SweepsTo, sweeps-start, sweeps-ready, sweeps-end, sweeps-stop, sweeps-again, sweeps-full}
+use Rattle.plan_adds.proofs.Lists.{SweepsTo, sweeps-start, sweeps-ready, sweeps-end, sweeps-stop, sweeps-again}
 use borrow.Author.Needs.{needs}
 use mathlib.Core.Path.{_≡_}
 use Prim.Native.Nat.{_-_}
@@ -6,8 +6,11 @@ use lib.ListN.{length}
 use Rattle.plan_adds.specs.Adds.{ours, sweep}
 use Rattle.plan_adds.proofs.sweep.Statement.{statement}
 use Rattle.plan_adds.proofs.sweep.Tie as tie
+use Rattle.plan_adds.proofs.sweep.Reads as reads
+use Rattle.plan_adds.proofs.sweep.Lts as lts
+use Rattle.plan_adds.proofs.sweep_block.Reads as sweep-block-reads
 
-ruleset exits = (sweeps-end, sweeps-stop, sweeps-full)
+ruleset exits = (sweeps-end, sweeps-stop)
 
 abbrev Inv-loop : tie.InvT-loop
 Inv-loop buffer₀ len controller index known₀ width from at₀ i₀ due₀ buffer known at i due =
@@ -41,27 +44,7 @@ returns c = search exits
 sweep-block-requires : tie.Need-sweep-block-requires Inv-loop μ-loop
 sweep-block-requires c κs = (search needs, search sweeps-ready)
 
--- src/lib.rt:204:25
-enum-known-swept : tie.Need-enum-known-swept Inv-loop μ-loop
-enum-known-swept c = search needs
-
--- src/lib.rt:209:17
-enum-told : tie.Need-enum-told Inv-loop μ-loop
-enum-told c = search needs
-
--- src/lib.rt:209:17
-same-length-3 : tie.Need-same-length-3 Inv-loop μ-loop
-same-length-3 c = search needs
-
--- src/lib.rt:209:17
-same-length-4 : tie.Need-same-length-4 Inv-loop μ-loop
-same-length-4 c = search needs
-
--- src/lib.rt:209:17
-returns-2 : tie.Need-returns-2 Inv-loop μ-loop
-returns-2 c = search exits
-
--- src/lib.rt:212:9
+-- src/lib.rt:205:9
 add-i : tie.Need-add-i Inv-loop μ-loop
 add-i c = search needs
 
@@ -74,16 +57,16 @@ loop-again : tie.Need-loop-again Inv-loop μ-loop
 loop-again c = (search sweeps-again, search needs, search needs)
 
 -- src/lib.rt:183:1
-same-length-5 : tie.Need-same-length-5 Inv-loop μ-loop
-same-length-5 c = search needs
+same-length-3 : tie.Need-same-length-3 Inv-loop μ-loop
+same-length-3 c = search needs
 
 -- src/lib.rt:183:1
-same-length-6 : tie.Need-same-length-6 Inv-loop μ-loop
-same-length-6 c = search needs
+same-length-4 : tie.Need-same-length-4 Inv-loop μ-loop
+same-length-4 c = search needs
 
 -- src/lib.rt:183:1
-returns-3 : tie.Need-returns-3 Inv-loop μ-loop
-returns-3 c = search exits
+returns-2 : tie.Need-returns-2 Inv-loop μ-loop
+returns-2 c = search exits
 
 pub sweep-spec : {M : Type 1} → statement M
 sweep-spec =
@@ -97,14 +80,9 @@ sweep-spec =
     same-length-2
     returns
     sweep-block-requires
-    enum-known-swept
-    enum-told
-    same-length-3
-    same-length-4
-    returns-2
     add-i
     loop-less
     loop-again
-    same-length-5
-    same-length-6
-    returns-3)
+    same-length-3
+    same-length-4
+    returns-2)

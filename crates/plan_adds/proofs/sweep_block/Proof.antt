@@ -3,6 +3,10 @@ use Rattle.plan_adds.proofs.Dues.{block-rest, block-more, block-lacks, 
 use borrow.Author.Needs.{needs}
 use Rattle.plan_adds.proofs.sweep_block.Statement.{statement}
 use Rattle.plan_adds.proofs.sweep_block.Tie as tie
+use Rattle.plan_adds.proofs.sweep_block.Reads as reads
+use Rattle.plan_adds.proofs.sweep_block.Lts as lts
+use Rattle.plan_adds.proofs.due_at.Reads as due-at-reads
+use Rattle.plan_adds.proofs.fetch.Reads as fetch-reads
 
 ruleset exits = (block-rest, block-more, block-lacks, block-full)
 

@@ -2,8 +2,12 @@ use Rattle.plan_save.proofs.Turns.{half-cut, half-of, adds-are}
 use borrow.Author.Needs.{needs}
 use Rattle.plan_save.proofs.add_round.Statement.{statement}
 use Rattle.plan_save.proofs.add_round.Tie as tie
+use Rattle.plan_save.proofs.add_round.Reads as reads
+use Rattle.plan_save.proofs.add_round.Lts as lts
+use Rattle.plan_adds.proofs.add_all.Reads as add-all-reads
+use Rattle.plan_save.proofs.after_adds.Reads as after-adds-reads
 
--- src/lib.rt:143:49
+-- src/lib.rt:147:9
 slice-aggregate-add-all : tie.Need-slice-aggregate-add-all
 slice-aggregate-add-all c = search (half-cut, half-of)
 
@@ -15,15 +19,15 @@ add-all-requires c κs = search needs
 after-adds-requires : tie.Need-after-adds-requires
 after-adds-requires c κs = search needs
 
--- src/lib.rt:129:1
+-- src/lib.rt:128:1
 same-length : tie.Need-same-length
 same-length c = search needs
 
--- src/lib.rt:129:1
+-- src/lib.rt:128:1
 same-length-2 : tie.Need-same-length-2
 same-length-2 c = search needs
 
--- src/lib.rt:129:1
+-- src/lib.rt:128:1
 returns : tie.Need-returns
 returns c = search adds-are
 
