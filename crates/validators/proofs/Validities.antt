@@ -1,17 +1,23 @@
 -- What the definitions of validators.rs come to, which the crates above cite. Assumes nothing.
 use mathlib.Core.Path.{_≡_, refl, sym, ap, _∙_}
-use mathlib.Core.Bool.{Bool, true, false, _&&_}
+use mathlib.Core.Bool.{Bool, true, false, cond, _&&_}
+use mathlib.Core.List.{List, [], _∷_}
+use mathlib.Core.Logic.{inl, inr}
 use Prim.Native.Nat.{ℕ, zero, suc}
 use native.Mathlib.Omega.{arith}
+use lib.ListN.{length}
 use lib.Dec.{eqb}
-use borrow.Author.Tests.{eqb-true, eq-eqb}
+use borrow.Author.Tests.{eqb-true, eqb-false, eq-eqb}
+use denote.Enum.Declared.{tagOf}
+use types.Run.{OneOf}
 use Rattle.type_id.specs.declared.AdsTypeId.{AdsTypeId}
 use Rattle.type_id.specs.declared.AdsTypeId.the-variants as id
 use Rattle.type_id.specs.TypeId.{idOf, numberOf}
 use Rattle.type_id.proofs.TypeIds.{named}
 use Rattle.validators.specs.declared.Validity.{Validity}
 use Rattle.validators.specs.declared.Validity.the-variants.{Valid, TypeMismatch, SizeMismatch}
-use Rattle.validators.specs.Validate.{refusalOf, unknownOf, sameId}
+use Rattle.validators.proofs.Validity.{the-type}
+use Rattle.validators.specs.Validate.{refusalOf, unknownOf, sameId, sizeRefusal}
 
 -- a refusal's number tells the answer
 pub refusal-only : (r s : Validity) → refusalOf r ≡ refusalOf s → r ≡ s
@@ -68,3 +74,25 @@ module _ (a b : AdsTypeId) where
   pub id-same : a ≡ b → sameId a b ≡ true
   unfolding sameId
   id-same e = rw (eq-eqb (numberOf a) (numberOf b) (ap numberOf e), eq-eqb (unknownOf a) (unknownOf b) (ap unknownOf e))
+
+-- what a test of a size tells its caller, whichever way `let Validity::Valid = validate_exact_size(..) else { .. };` goes
+module _ (r : Validity) (bytes : List ℕ) (expected : ℕ) (e : refusalOf r ≡ sizeRefusal bytes expected) where
+  sized : (t : Bool) → refusalOf Valid ≡ cond t 0 10 → t ≡ true
+  sized true q = refl
+  sized false q = absurd (omega arith)
+
+  -- Valid: there are as many bytes as expected
+  pub size-is : r ≡ Valid → length bytes ≡ expected
+  unfolding sizeRefusal
+  size-is h = eqb-true (length bytes) expected (sized (eqb (length bytes) expected) (sym (ap refusalOf h) ∙ e))
+
+  other : (r : Validity) → OneOf (1 ∷ 2 ∷ []) (tagOf the-type r) → refusalOf r ≡ 0 → ⊥
+  other Valid (inl k) q = absurd (omega arith)
+  other Valid (inr k) q = absurd (omega arith)
+  other TypeMismatch k q = omega arith
+  other SizeMismatch k q = omega arith
+
+  -- any other answer: there are not
+  pub size-other : OneOf (1 ∷ 2 ∷ []) (tagOf the-type r) → length bytes ≡ expected → ⊥
+  unfolding sizeRefusal
+  size-other k h = other r k (e ∙ rw (eq-eqb (length bytes) expected h))
