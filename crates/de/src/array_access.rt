@@ -26,6 +26,8 @@ use tape::record::ARRAY;
 use tape::record::ARRAY_END;
 use type_category::type_category::AdsTypeCategory;
 use type_provider::Found;
+use validators::Validity;
+use validators::validate_exact_size;
 
 // An array (`deserialize_seq`): its size is held against the bytes, then its element's name is looked up. A name that is not in the book
 // is 7 with the array's block.
@@ -42,9 +44,10 @@ pub(crate) fn array(
     ensures { λ r. ⌜ From (arrayOf (walk (ctx (now (book .entry)) (v .width)) (v .left)) (ctx (now (book .entry)) (v .width)) (v .typed) (now (bytes .entry))) (now (tape .entry)) (now (text .entry)) s r (now (tape .exit)) (now (text .exit)) ⌝ }
 {
     let t = v.typed.resolved;
-    if bytes.len() != typebook::block::size(book, t) as usize {
+    let size = typebook::block::size(book, t) as usize;
+    let Validity::Valid = validate_exact_size(bytes, size) else {
         return stop(s, 10, 0);
-    }
+    };
     let found = resolvers::named_in(book, index, t);
     let Found::At(named) = found else {
         return stop(s, 7, t);

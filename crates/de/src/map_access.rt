@@ -22,6 +22,8 @@ use steps::stop;
 use tape::record::KEY;
 use tape::record::MAP;
 use tape::record::MAP_END;
+use validators::Validity;
+use validators::validate_exact_size;
 
 // The fields of a type (`deserialize_map`), after all of them were resolved once: by whoever gave a plan, or here.
 pub(crate) fn map(
@@ -38,9 +40,10 @@ pub(crate) fn map(
     ensures { λ r. ⌜ From (mapOf (walk (ctx (now (book .entry)) (v .width)) (v .left)) (ctx (now (book .entry)) (v .width)) (v .typed) (now (bytes .entry))) (now (tape .entry)) (now (text .entry)) s r (now (tape .exit)) (now (text .exit)) ⌝ }
 {
     let t = v.typed.resolved;
-    if bytes.len() != typebook::block::size(book, t) as usize {
+    let size = typebook::block::size(book, t) as usize;
+    let Validity::Valid = validate_exact_size(bytes, size) else {
         return stop(s, 10, 0);
-    }
+    };
     if 0 < plan.len() {
         return members(s, book, index, v, plan, bytes, tape, text);
     }

@@ -10,6 +10,7 @@ use Rattle.shape.specs.Array.{strideOf}
 use Rattle.de.proofs.Exits.{value-deep, value-map, value-array, value-leaf, member-stop, member-value, part-typed, part-category, part-inside, part-order, members-start, members-again, members-end, members-stop, map-odd, map-fine, map-lacks, map-endless, array-odd, array-nothing, array-lacks, array-endless, array-other, array-base, dimension-fine, dimension-lacks, dimension-endless, elements-start, elements-again, elements-end, elements-stop, element-last, element-deep, element-further, field-number, field-first, typed-base, typed-found, leaf-inside, map-ready, given-none, map-given, own-entries, own-elements, last-given}
 use Rattle.field_plan.proofs.Plans.{entry-of}
 use Rattle.type_category.proofs.Numbers.{category-is}
+use Rattle.validators.proofs.Validities.{size-is, size-other}
 use borrow.Fn.Kinds.{In}
 use borrow.Fn.PlainCycle.{Measures, is, falls, and}
 use Rattle.de.proofs.array_access.array.Reads as array-access·array
@@ -53,6 +54,7 @@ use Rattle.type_category.proofs.type_category.AdsTypeCategory.determine.Reads a
 use Rattle.typebook.proofs.block.count.Reads as count-reads
 use Rattle.typebook.proofs.block.fields.Reads as fields-reads
 use Rattle.typebook.proofs.block.size.Reads as size-reads
+use Rattle.validators.proofs.validate_exact_size.Reads as validate-exact-size-reads
 use Rattle.de.proofs.+array_access-array+array_access-dimension+array_access-element+array_access-elements+deserializer-value+map_access-map+map_access-member+map_access-members.{
   statement,
 }
@@ -60,7 +62,9 @@ use Rattle.de.proofs.+array_access-array+array_access-dimension+array_a
   close,
 }
 
-ruleset array-exits = (array-odd, array-nothing, array-lacks, array-endless, array-other, array-base, category-is)
+ruleset array-exits = (array-odd, array-nothing, array-lacks, array-endless, array-other, array-base, category-is, size-is, size-other)
+
+ruleset map-exits = (map-odd, map-given, map-fine, map-lacks, map-endless, size-is, size-other)
 
 abbrev μ-array-access·array : Measures 5 array-access·array-kinds.ps ℕ
 μ-array-access·array κs a =
@@ -223,7 +227,7 @@ map-access·members-below t =
     map-access·members.Pre
 
 abbrev array-access·array-calls : ℕ → array-access·array-lts.Claims
-array-access·array-calls t = (size-reads.Asked, size-reads.Learnt, stop-reads.Asked, stop-reads.Learnt, named-in-reads.Asked, named-in-reads.Learnt, resolve-alias-in-reads.Asked, resolve-alias-in-reads.Learnt, product-is-reads.Asked, product-is-reads.Learnt, determine-reads.Asked, determine-reads.Learnt, array-access·dimension-below t, array-access·dimension.Post)
+array-access·array-calls t = (size-reads.Asked, size-reads.Learnt, validate-exact-size-reads.Asked, validate-exact-size-reads.Learnt, stop-reads.Asked, stop-reads.Learnt, named-in-reads.Asked, named-in-reads.Learnt, resolve-alias-in-reads.Asked, resolve-alias-in-reads.Learnt, product-is-reads.Asked, product-is-reads.Learnt, determine-reads.Asked, determine-reads.Learnt, array-access·dimension-below t, array-access·dimension.Post)
 
 abbrev array-access·dimension-calls : ℕ → array-access·dimension-lts.Claims
 array-access·dimension-calls t = (element-check-reads.Asked, element-check-reads.Learnt, array-access·elements-below t, array-access·elements.Post, stop-reads.Asked, stop-reads.Learnt)
@@ -238,7 +242,7 @@ abbrev deserializer·value-calls : ℕ → deserializer·value-lts.Claims
 deserializer·value-calls t = (stop-reads.Asked, stop-reads.Learnt, shape-of-reads.Asked, shape-of-reads.Learnt, map-access·map-below t, map-access·map.Post, array-access·array-below t, array-access·array.Post, leaf-reads.Asked, leaf-reads.Learnt)
 
 abbrev map-access·map-calls : ℕ → map-access·map-lts.Claims
-map-access·map-calls t = (size-reads.Asked, size-reads.Learnt, stop-reads.Asked, stop-reads.Learnt, map-access·members-below t, map-access·members.Post, plan-fields-in-reads.Asked, plan-fields-in-reads.Learnt)
+map-access·map-calls t = (size-reads.Asked, size-reads.Learnt, validate-exact-size-reads.Asked, validate-exact-size-reads.Learnt, stop-reads.Asked, stop-reads.Learnt, map-access·members-below t, map-access·members.Post, plan-fields-in-reads.Asked, plan-fields-in-reads.Learnt)
 
 abbrev map-access·member-calls : ℕ → map-access·member-lts.Claims
 map-access·member-calls t = (put-frame-reads.Asked, put-frame-reads.Learnt, part-of-reads.Asked, part-of-reads.Learnt, deserializer·value-below t, deserializer·value.Post, stop-reads.Asked, stop-reads.Learnt)
@@ -249,8 +253,15 @@ map-access·members-calls t = (fields-reads.Asked, fields-reads.Learnt, put-fram
 array-access·array-size-requires : (t : ℕ) → array-access·array-lts.Need-size-requires (array-access·array-calls t) (array-access·array-at t) array-access·array.Post
 array-access·array-size-requires t c κs = search needs
 
-array-access·array-cast-if1 : (t : ℕ) → array-access·array-lts.Need-cast-if1 (array-access·array-calls t) (array-access·array-at t) array-access·array.Post
-array-access·array-cast-if1 t c = search needs
+array-access·array-cast-size : (t : ℕ) → array-access·array-lts.Need-cast-size (array-access·array-calls t) (array-access·array-at t) array-access·array.Post
+array-access·array-cast-size t c = search needs
+
+array-access·array-validate-exact-size-requires :
+    (t : ℕ) → array-access·array-lts.Need-validate-exact-size-requires (array-access·array-calls t) (array-access·array-at t) array-access·array.Post
+array-access·array-validate-exact-size-requires t c κs = search needs
+
+array-access·array-enum-told : (t : ℕ) → array-access·array-lts.Need-enum-told (array-access·array-calls t) (array-access·array-at t) array-access·array.Post
+array-access·array-enum-told t c = search needs
 
 array-access·array-stop-requires : (t : ℕ) → array-access·array-lts.Need-stop-requires (array-access·array-calls t) (array-access·array-at t) array-access·array.Post
 array-access·array-stop-requires t c κs = search needs
@@ -264,8 +275,8 @@ array-access·array-named-in-requires t c κs = search needs
 array-access·array-enum-known-found : (t : ℕ) → array-access·array-lts.Need-enum-known-found (array-access·array-calls t) (array-access·array-at t) array-access·array.Post
 array-access·array-enum-known-found t c = search needs
 
-array-access·array-enum-told : (t : ℕ) → array-access·array-lts.Need-enum-told (array-access·array-calls t) (array-access·array-at t) array-access·array.Post
-array-access·array-enum-told t c = search needs
+array-access·array-enum-told-2 : (t : ℕ) → array-access·array-lts.Need-enum-told-2 (array-access·array-calls t) (array-access·array-at t) array-access·array.Post
+array-access·array-enum-told-2 t c = search needs
 
 array-access·array-stop-requires-2 : (t : ℕ) → array-access·array-lts.Need-stop-requires-2 (array-access·array-calls t) (array-access·array-at t) array-access·array.Post
 array-access·array-stop-requires-2 t c κs = search needs
@@ -308,8 +319,8 @@ array-access·array-enum-known-resolved-2 t c = search needs
 array-access·array-stop-requires-4 : (t : ℕ) → array-access·array-lts.Need-stop-requires-4 (array-access·array-calls t) (array-access·array-at t) array-access·array.Post
 array-access·array-stop-requires-4 t c κs = search needs
 
-array-access·array-enum-told-2 : (t : ℕ) → array-access·array-lts.Need-enum-told-2 (array-access·array-calls t) (array-access·array-at t) array-access·array.Post
-array-access·array-enum-told-2 t c = search needs
+array-access·array-enum-told-3 : (t : ℕ) → array-access·array-lts.Need-enum-told-3 (array-access·array-calls t) (array-access·array-at t) array-access·array.Post
+array-access·array-enum-told-3 t c = search needs
 
 array-access·array-stop-requires-5 : (t : ℕ) → array-access·array-lts.Need-stop-requires-5 (array-access·array-calls t) (array-access·array-at t) array-access·array.Post
 array-access·array-stop-requires-5 t c κs = search needs
@@ -548,14 +559,21 @@ deserializer·value-returns-4 t c = search value-leaf
 map-access·map-size-requires : (t : ℕ) → map-access·map-lts.Need-size-requires (map-access·map-calls t) (map-access·map-at t) map-access·map.Post
 map-access·map-size-requires t c κs = search needs
 
-map-access·map-cast-if1 : (t : ℕ) → map-access·map-lts.Need-cast-if1 (map-access·map-calls t) (map-access·map-at t) map-access·map.Post
-map-access·map-cast-if1 t c = search needs
+map-access·map-cast-size : (t : ℕ) → map-access·map-lts.Need-cast-size (map-access·map-calls t) (map-access·map-at t) map-access·map.Post
+map-access·map-cast-size t c = search needs
+
+map-access·map-validate-exact-size-requires :
+    (t : ℕ) → map-access·map-lts.Need-validate-exact-size-requires (map-access·map-calls t) (map-access·map-at t) map-access·map.Post
+map-access·map-validate-exact-size-requires t c κs = search needs
+
+map-access·map-enum-told : (t : ℕ) → map-access·map-lts.Need-enum-told (map-access·map-calls t) (map-access·map-at t) map-access·map.Post
+map-access·map-enum-told t c = search needs
 
 map-access·map-stop-requires : (t : ℕ) → map-access·map-lts.Need-stop-requires (map-access·map-calls t) (map-access·map-at t) map-access·map.Post
 map-access·map-stop-requires t c κs = search needs
 
 map-access·map-returns : (t : ℕ) → map-access·map-lts.Need-returns (map-access·map-calls t) (map-access·map-at t) map-access·map.Post
-map-access·map-returns t c = search map-odd
+map-access·map-returns t c = search map-exits
 
 map-access·map-members-requires : (t : ℕ) → map-access·map-lts.Need-members-requires (map-access·map-calls t) (map-access·map-at t) map-access·map.Post
 map-access·map-members-requires t c κs = search needs
@@ -567,7 +585,7 @@ map-access·map-same-length-2 : (t : ℕ) → map-access·map-lts.Need-same-leng
 map-access·map-same-length-2 t c = search needs
 
 map-access·map-returns-2 : (t : ℕ) → map-access·map-lts.Need-returns-2 (map-access·map-calls t) (map-access·map-at t) map-access·map.Post
-map-access·map-returns-2 t c = search map-given
+map-access·map-returns-2 t c = search map-exits
 
 map-access·map-slice-aggregate-plan-fields-in :
     (t : ℕ) → map-access·map-lts.Need-slice-aggregate-plan-fields-in (map-access·map-calls t) (map-access·map-at t) map-access·map.Post
@@ -576,8 +594,8 @@ map-access·map-slice-aggregate-plan-fields-in t c = search needs
 map-access·map-plan-fields-in-requires : (t : ℕ) → map-access·map-lts.Need-plan-fields-in-requires (map-access·map-calls t) (map-access·map-at t) map-access·map.Post
 map-access·map-plan-fields-in-requires t c κs = search needs
 
-map-access·map-enum-told : (t : ℕ) → map-access·map-lts.Need-enum-told (map-access·map-calls t) (map-access·map-at t) map-access·map.Post
-map-access·map-enum-told t c = search needs
+map-access·map-enum-told-2 : (t : ℕ) → map-access·map-lts.Need-enum-told-2 (map-access·map-calls t) (map-access·map-at t) map-access·map.Post
+map-access·map-enum-told-2 t c = search needs
 
 map-access·map-slice-aggregate-members : (t : ℕ) → map-access·map-lts.Need-slice-aggregate-members (map-access·map-calls t) (map-access·map-at t) map-access·map.Post
 map-access·map-slice-aggregate-members t c = search needs
@@ -591,8 +609,8 @@ map-access·map-enum-known-fields t c = search needs
 map-access·map-stop-requires-2 : (t : ℕ) → map-access·map-lts.Need-stop-requires-2 (map-access·map-calls t) (map-access·map-at t) map-access·map.Post
 map-access·map-stop-requires-2 t c κs = search needs
 
-map-access·map-enum-told-2 : (t : ℕ) → map-access·map-lts.Need-enum-told-2 (map-access·map-calls t) (map-access·map-at t) map-access·map.Post
-map-access·map-enum-told-2 t c = search needs
+map-access·map-enum-told-3 : (t : ℕ) → map-access·map-lts.Need-enum-told-3 (map-access·map-calls t) (map-access·map-at t) map-access·map.Post
+map-access·map-enum-told-3 t c = search needs
 
 map-access·map-stop-requires-3 : (t : ℕ) → map-access·map-lts.Need-stop-requires-3 (map-access·map-calls t) (map-access·map-at t) map-access·map.Post
 map-access·map-stop-requires-3 t c κs = search needs
@@ -604,13 +622,13 @@ map-access·map-same-length-4 : (t : ℕ) → map-access·map-lts.Need-same-leng
 map-access·map-same-length-4 t c = search needs
 
 map-access·map-returns-3 : (t : ℕ) → map-access·map-lts.Need-returns-3 (map-access·map-calls t) (map-access·map-at t) map-access·map.Post
-map-access·map-returns-3 t c = search map-fine
+map-access·map-returns-3 t c = search map-exits
 
 map-access·map-returns-4 : (t : ℕ) → map-access·map-lts.Need-returns-4 (map-access·map-calls t) (map-access·map-at t) map-access·map.Post
-map-access·map-returns-4 t c = search map-lacks
+map-access·map-returns-4 t c = search map-exits
 
 map-access·map-returns-5 : (t : ℕ) → map-access·map-lts.Need-returns-5 (map-access·map-calls t) (map-access·map-at t) map-access·map.Post
-map-access·map-returns-5 t c = search map-endless
+map-access·map-returns-5 t c = search map-exits
 
 map-access·member-cast-put-frame : (t : ℕ) → map-access·member-lts.Need-cast-put-frame (map-access·member-calls t) (map-access·member-at t) map-access·member.Post
 map-access·member-cast-put-frame t c = search needs
@@ -753,12 +771,14 @@ pub +array-access·array+array-access·dimension+array-access·element+array-acc
     (λ t. array-access·array-lts.spec (array-access·array-calls t) (array-access·array-at t)
     array-access·array.Post
     (array-access·array-size-requires t)
-    (array-access·array-cast-if1 t)
+    (array-access·array-cast-size t)
+    (array-access·array-validate-exact-size-requires t)
+    (array-access·array-enum-told t)
     (array-access·array-stop-requires t)
     (array-access·array-returns t)
     (array-access·array-named-in-requires t)
     (array-access·array-enum-known-found t)
-    (array-access·array-enum-told t)
+    (array-access·array-enum-told-2 t)
     (array-access·array-stop-requires-2 t)
     (array-access·array-returns-2 t)
     (array-access·array-resolve-alias-in-requires t)
@@ -772,7 +792,7 @@ pub +array-access·array+array-access·dimension+array-access·element+array-acc
     (array-access·array-stop-requires-3 t)
     (array-access·array-enum-known-resolved-2 t)
     (array-access·array-stop-requires-4 t)
-    (array-access·array-enum-told-2 t)
+    (array-access·array-enum-told-3 t)
     (array-access·array-stop-requires-5 t)
     (array-access·array-returns-4 t)
     (array-access·array-returns-5 t)
@@ -858,7 +878,9 @@ pub +array-access·array+array-access·dimension+array-access·element+array-acc
     (λ t. map-access·map-lts.spec (map-access·map-calls t) (map-access·map-at t)
     map-access·map.Post
     (map-access·map-size-requires t)
-    (map-access·map-cast-if1 t)
+    (map-access·map-cast-size t)
+    (map-access·map-validate-exact-size-requires t)
+    (map-access·map-enum-told t)
     (map-access·map-stop-requires t)
     (map-access·map-returns t)
     (map-access·map-members-requires t)
@@ -867,12 +889,12 @@ pub +array-access·array+array-access·dimension+array-access·element+array-acc
     (map-access·map-returns-2 t)
     (map-access·map-slice-aggregate-plan-fields-in t)
     (map-access·map-plan-fields-in-requires t)
-    (map-access·map-enum-told t)
+    (map-access·map-enum-told-2 t)
     (map-access·map-slice-aggregate-members t)
     (map-access·map-members-requires-2 t)
     (map-access·map-enum-known-fields t)
     (map-access·map-stop-requires-2 t)
-    (map-access·map-enum-told-2 t)
+    (map-access·map-enum-told-3 t)
     (map-access·map-stop-requires-3 t)
     (map-access·map-same-length-3 t)
     (map-access·map-same-length-4 t)

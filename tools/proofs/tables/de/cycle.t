@@ -10,7 +10,9 @@ use Rattle.shape.specs.Array.{strideOf}
 use Rattle.de.proofs.Exits.{value-deep, value-map, value-array, value-leaf, member-stop, member-value, part-typed, part-category, part-inside, part-order, members-start, members-again, members-end, members-stop, map-odd, map-fine, map-lacks, map-endless, array-odd, array-nothing, array-lacks, array-endless, array-other, array-base, dimension-fine, dimension-lacks, dimension-endless, elements-start, elements-again, elements-end, elements-stop, element-last, element-deep, element-further, field-number, field-first, typed-base, typed-found, leaf-inside, map-ready, given-none, map-given, own-entries, own-elements, last-given}
 use Rattle.field_plan.proofs.Plans.{entry-of}
 use Rattle.type_category.proofs.Numbers.{category-is}
-ruleset array-exits = (array-odd, array-nothing, array-lacks, array-endless, array-other, array-base, category-is)
+use Rattle.validators.proofs.Validities.{size-is, size-other}
+ruleset array-exits = (array-odd, array-nothing, array-lacks, array-endless, array-other, array-base, category-is, size-is, size-other)
+ruleset map-exits = (map-odd, map-given, map-fine, map-lacks, map-endless, size-is, size-other)
 def μ-array-access·array => 6 * a .1 .1 .1 .0 .left + 4
 def μ-array-access·dimension => 6 * a .1 .1 .1 .0 .left + 3
 def μ-array-access·element => 6 * a .1 .1 .1 .0 .left + 1
@@ -43,14 +45,10 @@ map-access·members-add-t20 => search field-first
 map-access·members-add-t21 => search field-number
 map-access·members-member-requires => (search needs, (search needs, search entry-of))
 map-access·map-members-requires-2 => (search needs, (search needs, search needs, own-entries _ _ _ _ _ _ (c .before .before .before .before .before .before .plan-fields-in .ensures) (search needs)))
-map-access·map-returns => search map-odd
-map-access·map-returns-2 => search map-given
-map-access·map-returns-3 => search map-fine
-map-access·map-returns-4 => search map-lacks
-map-access·map-returns-5 => search map-endless
+map-access·map-returns.* => search map-exits
 array-access·array-returns.* => search array-exits
 array-access·array-resolve-alias-in-requires => (search needs, search typed-found)
-array-access·array-dimension-requires => (search needs, (search needs, search typed-base, search needs, search fills-first))
+array-access·array-dimension-requires => (search needs, (search needs, search typed-base, search category-is, search fills-first))
 array-access·dimension-elements-requires => (search needs, (search needs, search needs, search needs, own-elements _ _ _ _ _ _ _ (c .before .before .before .before .before .before .element-check .ensures) (search needs), search needs))
 array-access·element-value-requires => (search needs, (search needs, search needs, search needs, search last-given))
 array-access·dimension-returns => search dimension-fine
