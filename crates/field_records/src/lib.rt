@@ -111,9 +111,10 @@ pub fn resolve_fields(
 ) -> FieldsAnswer
     ensures { λ r. ⌜ Filled (now (buffer .entry)) len width root (now (records .entry)) r (now (records .exit)) ⌝ }
 {
-    let answer = check_fields(buffer, len, width, root, records.len());
-    let n = count_of(answer);
     let index = index_of(buffer, len);
-    fill_records(buffer, len, &index, width, root, n, records);
+    let names: &[u32] = &index;
+    let answer = check_fields(buffer, len, names, width, root, records.len());
+    let n = count_of(answer);
+    fill_records(buffer, len, names, width, root, n, records);
     answer
 }

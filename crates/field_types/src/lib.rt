@@ -190,25 +190,22 @@ fn fill_fields(book: &[u8], width: u8, t: u32, records: &mut [u32]) -> FieldsAns
     resolve_fields_in(book, &index, width, t, records)
 }
 
-// Every refusal of `resolve_fields`, with room for that many records and nothing written.
-pub fn check_fields(buffer: &[u8], len: usize, width: u8, root: u64, room: usize) -> FieldsAnswer
+// Every refusal of `resolve_fields`, with room for that many records and nothing written. The index is the caller's, who may need it again.
+pub fn check_fields(
+    buffer: &[u8],
+    len: usize,
+    index: &[u32],
+    width: u8,
+    root: u64,
+    room: usize,
+) -> FieldsAnswer
     ensures { λ r. ⌜ fieldsNumbers r ≡ fieldsNumbers (rootFields (now (buffer .entry)) len width root room) ⌝ }
 {
     let check = book_check::check_root(buffer, len, root);
     match check {
-        RootCheck::Root(t) => check_root_fields(&buffer[..len], width, t, room),
+        RootCheck::Root(t) => fields_answer(&buffer[..len], index, width, t, room),
         RootCheck::Refused(n) => FieldsAnswer::Refused(n),
     }
-}
-
-// The same of a root that passed, with an index on the stack.
-fn check_root_fields(book: &[u8], width: u8, t: u32, room: usize) -> FieldsAnswer
-    requires { ⌜ ValidBook (now book) × (isType (now book) t ≡ true) ⌝ }
-    ensures { λ r. ⌜ r ≡ fieldsAnswer (now (book .entry)) width t room ⌝ }
-{
-    let mut index = [0u32; 16384];
-    type_index::fill_names(book, &mut index);
-    fields_answer(book, &index, width, t, room)
 }
 
 // Stores a record of four numbers for each field of the root block, in order: its offset, its size, the block of its resolved type,

@@ -1,4 +1,4 @@
-// The operations of the crates field_types, read_modify_write and missing_types, on the book that is kept and with lent numbers.
+// The operations of the crates field_types, field_records, read_modify_write and missing_types, on the book that is kept and with lent numbers.
 use crate::answer::Reply;
 use crate::answer::byte;
 use crate::answer::byte_and;
@@ -11,6 +11,7 @@ use crate::lent::put_numbers_are;
 use case_file::input::byte_at;
 use case_file::input::u16_at;
 use case_file::input::u32_at;
+use field_cases::code_of;
 use field_types::FieldsAnswer;
 use missing_types::Missing;
 use read_modify_write::Rmw;
@@ -173,10 +174,20 @@ fn recorded(fields: FieldsAnswer) -> usize {
     }
 }
 
-// The records and the rest of their numbers.
+// As many numbers as a case lends for 4,096 records, which is what the form with structs is tried with.
+const ALL: usize = 16384;
+
+// The records and the rest of their numbers, or an empty answer where the form with structs answers or stores anything else.
 fn fields(input: &[u8], book: &[u8], len: usize, records: &mut [u32], answer: &mut [u8]) -> usize {
+    let width = byte_at(input, 0);
     let root = u32_at(input, 1) as u64;
-    let fields = field_types::resolve_fields(book, len, byte_at(input, 0), root, records);
+    let fields = field_types::resolve_fields(book, len, width, root, records);
     let at = put(answer, fields_reply(fields));
-    put_numbers(answer, at, records, recorded(fields))
+    let end = put_numbers(answer, at, records, recorded(fields));
+    if records.len() == ALL {
+        if !field_cases::agrees(book, len, width, root, code_of(fields), records) {
+            return 0;
+        }
+    }
+    end
 }
