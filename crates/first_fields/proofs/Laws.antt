@@ -15,6 +15,7 @@ use Rattle.typebook.proofs.Names.{same-eq, same-refl}
 use Rattle.type_provider.specs.declared.Found.{Found}
 use Rattle.type_provider.specs.declared.Found.the-variants.{At, Nothing}
 use Rattle.named_blocks.specs.Named.{namedFrom, fieldNamed}
+use Rattle.marks.proofs.Laws.{bit-is}
 use Rattle.marks.specs.Marks.{hashOf, bitOf, BitSet, isMarked, Marked}
 use Rattle.first_fields.specs.Firsts.{Met, Firsts, Noted}
 
@@ -75,8 +76,7 @@ noted-firsts n = n .firsts-are
 
 -- where no bit is set nothing is said
 none-set : (n i : ℕ) → bitOf (replicate n 0) i ≡ false
-unfolding bitOf
-none-set n i = by (ltb (i / 32) n) refl
+none-set n i = sym (bit-is (replicate n 0) i) ∙ by (ltb (i / 32) n) refl
   where
     by : (g : Bool) → ltb (i / 32) n ≡ g → eqb (getD (replicate n 0) (i / 32) 0 / 2 ^ (i % 32) % 2) 1 ≡ false
     by true e = rw (getD-replicate {A = ℕ} n (i / 32) 0 0 (ltb-true (i / 32) n e), zero-div (2 ^ (i % 32)))

@@ -9,8 +9,6 @@ use lib.ListN.{length, take}
 use lib.Dec.{eqb, leb, ltb}
 use Rattle.number.specs.Answer.{refusalOf}
 use Rattle.typebook.specs.Book.{sizeOf, typeIdOf, countOf, isType, blocks}
-use Rattle.type_id.specs.declared.AdsTypeId.{AdsTypeId}
-use Rattle.type_id.specs.declared.AdsTypeId.the-variants.{UInt16, UInt32, UInt64}
 use Rattle.type_provider.specs.declared.Found.{Found}
 use Rattle.type_provider.specs.declared.Found.the-variants.{At, Nothing}
 use Rattle.type_category.specs.Category.{categoryOf}
@@ -28,10 +26,6 @@ use Rattle.field_types.specs.declared.FieldsCheck.the-variants as check
 use Rattle.field_types.specs.declared.FieldAnswer.{FieldAnswer}
 use Rattle.field_types.specs.declared.FieldAnswer.the-variants as answer
 use Rattle.field_types.specs.Fields.{fieldsCheck, resolveField}
-use Rattle.integer.specs.Integer.{integerWriteNumbers, writeInteger, integerBytes}
-use Rattle.integer.specs.declared.Integer.{Integer}
-use Rattle.integer.specs.declared.IntegerWrite.{IntegerWrite}
-use Rattle.integer.specs.declared.IntegerWrite.the-variants as write
 use Rattle.shape.specs.declared.Shape.{Shape}
 use Rattle.shape.specs.declared.Shape.the-variants as shape
 use Rattle.shape.specs.Value.{shapeOf}
@@ -44,8 +38,8 @@ use Rattle.tape.specs.declared.cursor.Cursor.{Cursor}
 use Rattle.tape.specs.declared.cursor.Step.{Step}
 use Rattle.tape.specs.declared.cursor.Step.the-variants as step
 use Rattle.ser_leaf.specs.declared.Target.{Target}
-use Rattle.ser_leaf.specs.declared.Target.the-variants as target
-use Rattle.ser_leaf.specs.Leaf.{Leaf, holds, exactly, boolLeaf, realLeaf, integerEnd, integerBy, pointerLeaf, targetOf, integerLeaf, entryBy, entryLeaf, enumLeaf, padded, textBy, textLeaf, leafBy}
+use Rattle.ser_leaf.specs.Leaf.{Leaf, holds, targetOf, leafBy}
+use Rattle.ser_leaf.proofs.Tells.{Tells, leaf-tells}
 use Rattle.ser_leaf.specs.Leaf as leaf
 use Rattle.ser.specs.declared.array_writer.Entered.{Entered}
 use Rattle.ser.specs.declared.array_writer.Entered.the-variants as entered
@@ -157,106 +151,17 @@ fine-end tape at kind bytes =
 
 -- ---- a leaf
 
-abbrev mild : Leaf → Bool
-mild (holds bs) = true
-mild (leaf.refused n) = among n refusals
+abbrev Mild : Leaf → Type 0
+Mild l = Tells (λ (n : ℕ). among n refusals ≡ true) l
 
-record Mild (l : Leaf) : Type 0 where
-  is : mild l ≡ true
-
-mild-cond : (b : Bool) (x y : Leaf) → Mild x → Mild y → Mild (cond b x y)
-mild-cond true x y p q = p
-mild-cond false x y p q = q
-
-mild-holds : (bs : List ℕ) → Mild (holds bs)
-mild-holds bs = record { is = refl }
-
-mild-refused : (k : ℕ) → among k refusals ≡ true → Mild (leaf.refused k)
-mild-refused k h = record { is = h }
-
-mild-exactly : (bs old : List ℕ) → Mild (exactly bs old)
-unfolding exactly
-mild-exactly bs old = mild-cond (eqb (length bs) (length old)) _ _ (mild-holds bs) (mild-refused 10 is-10)
-
-mild-end : (w : IntegerWrite) (bs : List ℕ) → Mild (integerEnd w bs)
-unfolding integerWriteNumbers
-mild-end write.Done bs = mild-holds bs
-mild-end write.OutOfRange bs = mild-refused 19 is-19
-mild-end write.Size bs = mild-refused 10 is-10
-mild-end write.Unsupported bs = mild-refused 17 is-17
-
-mild-integer : (id : AdsTypeId) (v : Integer) (old : List ℕ) → Mild (integerBy id v old)
-unfolding integerBy
-mild-integer id v old = mild-end (writeInteger id v old) (integerBytes id v)
-
-mild-pointer : (width : ℕ) (v : Integer) (old : List ℕ) → Mild (pointerLeaf width v old)
-unfolding pointerLeaf
-mild-pointer width v old =
-    mild-cond (eqb width 2) _ _ (mild-integer UInt16 v old)
-    (mild-cond (eqb width 4) _ _ (mild-integer UInt32 v old)
-    (mild-cond (eqb width 8) _ _ (mild-integer UInt64 v old) (mild-refused 13 is-13)))
-
-mild-padded : (bs : List ℕ) (zeros : ℕ) (old : List ℕ) → Mild (padded bs zeros old)
-unfolding padded
-mild-padded bs zeros old = mild-cond (leb (length bs + zeros) (length old)) _ _ (mild-holds _) (mild-refused 10 is-10)
-
-mild-text-by : (id : ℕ) (text old : List ℕ) → Mild (textBy id text old)
-unfolding textBy
-mild-text-by id text old =
-    mild-cond (eqb id 30) _ _ (mild-padded _ 1 old) (mild-cond (eqb id 31) _ _ (mild-padded _ 2 old) (mild-refused 17 is-17))
-
-module _ (book : List ℕ) (width t : ℕ) (old : List ℕ) where
-  mild-bool : (b : ℕ) → Mild (boolLeaf book t b old)
-  unfolding boolLeaf
-  mild-bool b = mild-cond (eqb (typeIdOf book t) 33) _ _ (mild-exactly _ old) (mild-refused 17 is-17)
-
-  mild-real : (is-double : Bool) (b : ℕ) → Mild (realLeaf book t is-double b old)
-  unfolding realLeaf
-  mild-real is-double b = mild-cond (eqb (typeIdOf book t) (leaf.realId is-double)) _ _ (mild-exactly _ old) (mild-refused 17 is-17)
-
-  mild-number : (v : Integer) (k : Target) → Mild (integerLeaf book width t v old k)
-  unfolding integerLeaf
-  mild-number v target.Pointer = mild-pointer width v old
-  mild-number v target.Enum = mild-integer _ v old
-  mild-number v target.Other = mild-integer _ v old
-
-  mild-found : (f : Found) → Mild (entryBy book old f)
-  unfolding entryBy
-  mild-found (At n) = mild-exactly _ old
-  mild-found Nothing = mild-refused 18 is-18
-
-  mild-entry : (name : List ℕ) → Mild (entryLeaf book t name old)
-  unfolding entryLeaf
-  mild-entry name = mild-cond (eqb (length old) (sizeOf book t)) _ _ (mild-found (entryNamed book t name)) (mild-refused 10 is-10)
-
-  mild-enum : (name : List ℕ) (k : Target) → Mild (enumLeaf book t name old k)
-  unfolding enumLeaf
-  mild-enum name target.Enum = mild-entry name
-  mild-enum name target.Pointer = mild-refused 17 is-17
-  mild-enum name target.Other = mild-refused 17 is-17
-
-  mild-text : (text : List ℕ) (k : Target) → Mild (textLeaf book t text old k)
-  unfolding textLeaf
-  mild-text text target.Enum = mild-entry text
-  mild-text text target.Pointer = mild-text-by _ text old
-  mild-text text target.Other = mild-text-by _ text old
-
-  mild-leaf : (k : Target) (r : Record) (text : List ℕ) → Mild (leafBy book width t k r text old)
-  unfolding leafBy
-  mild-leaf k r text =
-      mild-cond (eqb (r .kind) 6) _ _ (mild-bool (r .b))
-      (mild-cond (eqb (r .kind) 7) _ _ (mild-number _ k)
-      (mild-cond (eqb (r .kind) 8) _ _ (mild-number _ k)
-      (mild-cond (eqb (r .kind) 9) _ _ (mild-real false (r .b))
-      (mild-cond (eqb (r .kind) 10) _ _ (mild-real true (r .b))
-      (mild-cond (eqb (r .kind) 11) _ _ (mild-text (recordText book text r) k)
-      (mild-cond (eqb (r .kind) 12) _ _ (mild-enum (recordText book text r) k)
-      (mild-cond (eqb (r .kind) 13) _ _ (mild-refused 17 is-17) (mild-refused 16 is-16))))))))
+mild-leaf : (book : List ℕ) (width t : ℕ) (old : List ℕ) (k : Target) (r : Record) (text : List ℕ) → Mild (leafBy book width t k r text old)
+mild-leaf book width t old k r text =
+    leaf-tells (λ (n : ℕ). among n refusals ≡ true) is-10 is-13 is-17 is-18 is-19 book width t old k r text (λ n6 n7 n8 n9 n10 n11 n12 n13. is-16)
 
 mild-fine : (next : Cursor) (bytes : List ℕ) (l : Leaf) → Mild l → Fine (leafEnd next bytes l)
 unfolding leafEnd
 mild-fine next bytes (holds new) p = fine-went next new
-mild-fine next bytes (leaf.refused n) p = fine-refused n 0 bytes (p .is)
+mild-fine next bytes (leaf.refused n) p = fine-refused n 0 bytes (p .each n refl)
 
 -- ---- the walk
 
