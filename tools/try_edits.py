@@ -47,7 +47,7 @@ def flags(name, root):
 
 
 def apply(edit, folder):
-    """Makes the replacements of an edit in a copy of the crate; each old text occurs once."""
+    """Makes the replacements of an edit in a copy of the crate; each old text occurs once. What does not fit, if anything."""
     file = old = None
     for line in edit.read_text().splitlines():
         if line.startswith("file: "):
@@ -57,8 +57,9 @@ def apply(edit, folder):
         elif line.startswith("new:"):
             text = file.read_text()
             if text.count(old) != 1:
-                sys.exit(f"{edit}: the old text occurs {text.count(old)} times")
+                return f"does not fit: the old text occurs {text.count(old)} times"
             file.write_text(text.replace(old, line[4:].removeprefix(" ")))
+    return None
 
 
 def tried(name, edit):
@@ -68,7 +69,9 @@ def tried(name, edit):
         for part in ("src", "specs", "proofs"):
             if (ROOT / "crates" / name / part).is_dir():
                 shutil.copytree(ROOT / "crates" / name / part, folder / part)
-        apply(edit, folder)
+        unfit = apply(edit, folder)
+        if unfit:
+            return unfit
         main = folder / "src" / "main.rt"
         root = main if main.exists() else folder / "src" / "lib.rt"
         run = subprocess.run([OWN / "bin" / "rattle", "check", *flags(name, root)], capture_output=True, text=True)
