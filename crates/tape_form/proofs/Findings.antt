@@ -23,11 +23,11 @@ module _ (text known : List ℕ) (h : Known text known) where
   pub first-length : (e : ℕ) → e ≤ getD known 0 0 → e ≤ length (take (getD known 0 0) text)
   first-length e l = omega (arith, length-take-le (getD known 0 0) text (h .first .within))
 
-  pub grown : (e r : ℕ) → getD known 0 0 < e → e ≤ length text → ValidTo (take (e - getD known 0 0) (drop (getD known 0 0) text)) r
+  pub grown : (e to r : ℕ) → getD known 0 0 < e → e ≤ to → to ≤ length text → ValidTo (take (to - getD known 0 0) (drop (getD known 0 0) text)) r
       → Known text (set known 0 (getD known 0 0 + r))
-  grown e r l m v = record {
+  grown e to r l n m v = record {
     numbers = length-set known 0 (getD known 0 0 + r) ∙ h .numbers;
-    first = rw (getD-set-same known 0 (getD known 0 0 + r) 0 (omega (arith, h .numbers))) (valid-more text (getD known 0 0) e r (h .first) (omega arith) m v);
+    first = rw (getD-set-same known 0 (getD known 0 0 + r) 0 (omega (arith, h .numbers))) (valid-more text (getD known 0 0) to r (h .first) (omega arith) m v);
     later = rw (getD-set-other known 0 1 (getD known 0 0 + r) 0 (λ z. omega arith), getD-set-other known 0 2 (getD known 0 0 + r) 0 (λ z. omega arith)) (h .later);
   }
 

@@ -11,7 +11,22 @@ use utf_8_decoder::part_well_formed;
 use utf_8_decoder::valid_up_to;
 use utf_8_decoder::well_formed;
 
-// The first finding grows up to `e`, or up to an error before it. No byte but those at an error is looked at twice.
+// How far past a text the buffer is looked at.
+const AHEAD: usize = 4096;
+
+// The place up to which the buffer is looked at for a text that ends at `e`: past it, so that short texts that follow each other
+// are passed over in blocks.
+fn ahead(len: usize, e: usize) -> usize
+    requires { ⌜ e ≤ len ⌝ }
+    ensures { λ r. ⌜ (e ≤ r) × (r ≤ len) ⌝ }
+{
+    if len - e < AHEAD {
+        return len;
+    }
+    e + AHEAD
+}
+
+// The first finding grows past `e`, or up to an error before it. No byte but those at an error is looked at twice.
 fn grow(text: &[u8], known: &mut [usize; 3], e: usize)
     requires { ⌜ Known (now text) (now known) × (e ≤ length (now text)) ⌝ }
     ensures { λ _. ⌜ Known (now (text .entry)) (now (known .exit)) ⌝ }
@@ -20,7 +35,8 @@ fn grow(text: &[u8], known: &mut [usize; 3], e: usize)
     if e <= v {
         return;
     }
-    let more = valid_up_to(&text[v..e]);
+    let to = ahead(text.len(), e);
+    let more = valid_up_to(&text[v..to]);
     known[0] = v + more;
 }
 

@@ -6,6 +6,7 @@
 
 use speed::{TYPES, head, keep, line, pair, turns};
 use twin::make::{Type, book};
+use twin::tapes::Tape;
 use typebook::{Scratch, TypeBook, calls};
 
 const WIDTH: u8 = 8;
@@ -141,6 +142,32 @@ fn writes(what: &str, (bytes, memory): (Vec<u8>, Vec<u8>)) {
         || twin::calls::write_in(&twin, WIDTH, 0, &memory, records, text, &mut other),
     );
     assert!(output == other);
+}
+
+/// The form of a tape whose 40,000 records all name one text of a megabyte, which the twin tests anew for each. The type takes
+/// no array, so that nothing but the form takes time.
+fn one_text(what: &str, before: &[u8]) {
+    const RECORDS: u64 = 40_000;
+    let text = [before, made(&["plain text of a recipe, "]).as_bytes()].concat();
+    let mut tape = Tape::default();
+    tape.put(1, 0, RECORDS, 0);
+    for _ in 0..RECORDS {
+        tape.put(11, 0, before.len() as u64, (text.len() - before.len()) as u64);
+    }
+    tape.put(2, 0, 0, 0);
+    let (bytes, records) = (types(1), &tape.records[..]);
+    let (book, twin) = (TypeBook::new(&bytes[..]).expect("valid"), twin::Book::new(&bytes));
+    let root = book.root(0).expect("a type");
+    let (mut output, mut other) = ([0; 2], [0; 2]);
+    let refused = root.write_into(WIDTH, &[0; 2], records, &text, &mut output);
+    assert_eq!(refused.expect_err("no array").number(), 17);
+
+    pair(
+        what,
+        3,
+        || root.write_into(WIDTH, &[0; 2], records, &text, &mut output),
+        || twin::calls::write_in(&twin, WIDTH, 0, &[0; 2], records, &text, &mut other),
+    );
 }
 
 /// The whole call with its checks and its own index, in a book that has more types than the index of a short book has slots.
@@ -285,6 +312,9 @@ fn main() {
     writes("a struct of 200 fields among 4,096 types", speed::struct_of_200());
     writes("an array of 10,000 structs of 6 fields", speed::array_of_10_000());
     writes("an array of 999,998 INTs", speed::array_of_ints(999_998));
+    head("the form of a tape, 40,000 records that name one text of 1 MB", "twin");
+    one_text("the text buffer is that text", b"");
+    one_text("a byte that is no UTF-8 stands before it", b"\xff");
     checks();
     look_ups();
     head("texts of about 1 MB", "twin");
