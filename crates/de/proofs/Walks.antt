@@ -11,8 +11,8 @@ use Rattle.typebook.specs.Book.{sizeOf, fieldsOf, countOf, typeNameOf}
 use Rattle.type_provider.specs.Find.{find}
 use Rattle.type_provider.specs.declared.Found.{Found}
 use Rattle.type_provider.specs.declared.Found.the-variants.{At, Nothing}
-use Rattle.resolvers.specs.Resolve.{resolveAlias}
-use Rattle.field_types.specs.Fields.{resolveField, fieldsCheck}
+use Rattle.resolvers.specs.Resolve.{resolveAlias, resolvedNumbers}
+use Rattle.field_types.specs.Fields.{resolveField, fieldsCheck, fieldNumbers}
 use Rattle.resolvers.specs.declared.Resolved.{Resolved}
 use Rattle.field_types.specs.declared.FieldAnswer.the-variants as answer
 use Rattle.field_types.specs.declared.FieldsCheck.{FieldsCheck}
@@ -63,7 +63,7 @@ module _ (child : Child) (c : Ctx) (mem : List ℕ) where
     inside false x = refl
 
     value-part : (a : FieldAnswer) → fieldValue child c mem a ≡ partWalk (partOf c (length mem) a)
-    unfolding fieldValue partOf partWalk
+    unfolding fieldValue partOf partWalk fieldNumbers
     value-part (answer.Field x) = inside (leb (x .offset + x .size) (length mem)) x
     value-part (answer.Lacks b) = refl
     value-part answer.TooLong = refl
@@ -126,11 +126,11 @@ module _ (child : Child) (c : Ctx) (mem : List ℕ) where
       array-even = rw (← s, eq-eqb (length mem) size h, ef)
 
       pub array-nothing : f ≡ Nothing → arrayOf child c x mem ≡ refuse 7 (x .resolved)
-      unfolding arrayBy
+      unfolding arrayBy resolvedNumbers
       array-nothing e = array-even ∙ rw e
 
       pub array-at : (n : ℕ) → f ≡ At n → (r : Resolved) → r ≡ resolveAlias (c .book) (c .width) n → arrayOf child c x mem ≡ elementBy child c (x .resolved) n mem r
-      unfolding arrayBy
+      unfolding arrayBy resolvedNumbers
       array-at n e r q = array-even ∙ rw (e, q)
 
   pub elements-of : (d t : ℕ) (e : Typed) (n : ℕ) → n ≡ countOf (c .book) t d

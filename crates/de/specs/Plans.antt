@@ -4,9 +4,10 @@ use mathlib.Core.Bool.{true, cond}
 use mathlib.Core.List.{List}
 use Prim.Native.Nat.{ℕ, _+_, _≤_}
 use lib.Dec.{leb}
+use Rattle.number.specs.Answer.{refusalOf}
 use Rattle.typebook.specs.Book.{isType}
 use Rattle.type_category.specs.Category.{categoryOf}
-use Rattle.field_types.specs.Fields.{resolveField}
+use Rattle.field_types.specs.Fields.{resolveField, fieldNumbers}
 use Rattle.field_types.specs.declared.ResolvedField.{ResolvedField}
 use Rattle.field_types.specs.declared.FieldAnswer.{FieldAnswer}
 use Rattle.field_types.specs.declared.FieldAnswer.the-variants as answer
@@ -31,8 +32,8 @@ pub record GivenElement (c : Ctx) (d t e : ℕ) (plan : List ℕ) : Type 0 where
 unfoldable pub partOf : Ctx → ℕ → FieldAnswer → Part
 partOf c len (answer.Field f) =
     cond (leb (f .offset + f .size) len) (part.Value (typedOf c (f .named) (f .resolved)) (f .offset) (f .offset + f .size)) (part.Stop 10 0)
-partOf c len (answer.Lacks b) = part.Stop 7 b
-partOf c len answer.TooLong = part.Stop 8 0
+partOf c len (answer.Lacks b) = part.Stop (refusalOf (fieldNumbers (answer.Lacks b))) b
+partOf c len answer.TooLong = part.Stop (refusalOf (fieldNumbers answer.TooLong)) 0
 
 -- a type and the bytes of a field block f that resolves to it
 pub record ValueIs (c : Ctx) (f len : ℕ) (x : Typed) (from to : ℕ) : Type 0 where

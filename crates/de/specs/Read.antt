@@ -3,18 +3,18 @@ use mathlib.Core.List.{List}
 use Prim.Native.Nat.{ℕ}
 use lib.ListN.{take}
 use Rattle.book_check.specs.Check.{checkRoot, atRoot}
-use Rattle.resolvers.specs.Resolve.{resolveAlias}
+use Rattle.resolvers.specs.Resolve.{resolveAlias, resolvedNumbers}
 use Rattle.resolvers.specs.declared.Resolved.{Resolved}
 use Rattle.resolvers.specs.declared.Resolved.the-variants as resolved
 use Rattle.steps.specs.Trace.{Trace, refuse}
 use Rattle.array_elements.specs.Element.{whole}
-use Rattle.de.specs.Walk.{Ctx, ctx, typedOf, walk}
+use Rattle.de.specs.Walk.{Ctx, ctx, typedOf, refuseBy, walk}
 
 -- by what the aliases of root block n come to: its value, with 64 levels; or 7 with its block, or 8
 unfoldable pub rootBy : Ctx → ℕ → List ℕ → Resolved → Trace
 rootBy c n mem (resolved.Base t) = walk c 64 (whole (typedOf c n t)) mem
-rootBy c n mem (resolved.Lacks b) = refuse 7 b
-rootBy c n mem resolved.TooLong = refuse 8 0
+rootBy c n mem (resolved.Lacks b) = refuseBy (resolvedNumbers (resolved.Lacks b))
+rootBy c n mem resolved.TooLong = refuseBy (resolvedNumbers resolved.TooLong)
 
 -- what is read of root block n: its aliases are resolved first
 unfoldable pub rootTrace : Ctx → ℕ → List ℕ → Trace

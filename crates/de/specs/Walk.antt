@@ -2,15 +2,16 @@
 use mathlib.Core.Bool.{cond}
 use mathlib.Core.List.{List}
 use Prim.Native.Nat.{ℕ, zero, suc, _+_}
-use lib.ListN.{length}
+use lib.ListN.{length, getD}
 use lib.Dec.{leb, eqb}
+use Rattle.number.specs.Answer.{refusalOf, valuesOf}
 use Rattle.typebook.specs.Book.{sizeOf, fieldsOf, countOf, typeNameOf}
 use Rattle.type_provider.specs.Find.{find}
 use Rattle.type_provider.specs.declared.Found.{Found}
 use Rattle.type_provider.specs.declared.Found.the-variants.{At, Nothing}
 use Rattle.type_category.specs.Category.{categoryOf}
-use Rattle.resolvers.specs.Resolve.{resolveAlias}
-use Rattle.field_types.specs.Fields.{resolveField, fieldsCheck}
+use Rattle.resolvers.specs.Resolve.{resolveAlias, resolvedNumbers}
+use Rattle.field_types.specs.Fields.{resolveField, fieldsCheck, checkNumbers, fieldNumbers}
 use Rattle.resolvers.specs.declared.Resolved.{Resolved}
 use Rattle.resolvers.specs.declared.Resolved.the-variants as resolved
 use Rattle.field_types.specs.declared.FieldAnswer.{FieldAnswer}
@@ -48,11 +49,15 @@ Child = Item Typed → List ℕ → Trace
 unfoldable pub leafOf : Ctx → ℕ → List ℕ → Trace
 leafOf c t mem = traceOf (leafAt (c .book) (c .width) t mem) mem
 
+-- the refusal that an answer's numbers tell, with the block that 7 carries, else 0
+abbrev pub refuseBy : List ℕ → Trace
+refuseBy numbers = refuse (refusalOf numbers) (getD (valuesOf numbers) 0 0)
+
 -- what follows the test of all fields of a type: 7 with its block, or 8
 unfoldable pub checked : FieldsCheck → Trace → Trace
 checked check.Fine t = t
-checked (check.Lacks b) t = refuse 7 b
-checked check.TooLong t = refuse 8 0
+checked (check.Lacks b) t = refuseBy (checkNumbers (check.Lacks b))
+checked check.TooLong t = refuseBy (checkNumbers check.TooLong)
 
 -- ---- a struct, union or function block
 
@@ -60,8 +65,8 @@ checked check.TooLong t = refuse 8 0
 unfoldable pub fieldValue : Child → Ctx → List ℕ → FieldAnswer → Trace
 fieldValue child c mem (answer.Field f) =
     cond (leb (f .offset + f .size) (length mem)) (child (whole (typedOf c (f .named) (f .resolved))) (cut (f .offset) (f .size) mem)) (refuse 10 0)
-fieldValue child c mem (answer.Lacks b) = refuse 7 b
-fieldValue child c mem answer.TooLong = refuse 8 0
+fieldValue child c mem (answer.Lacks b) = refuseBy (fieldNumbers (answer.Lacks b))
+fieldValue child c mem answer.TooLong = refuseBy (fieldNumbers answer.TooLong)
 
 -- field block f: its key, then its value
 unfoldable pub memberOf : Child → Ctx → List ℕ → ℕ → Trace
@@ -103,13 +108,13 @@ dimensionOf child c d t e mem = checked (elementCheck (c .book) (c .width) d t (
 unfoldable pub elementBy : Child → Ctx → ℕ → ℕ → List ℕ → Resolved → Trace
 elementBy child c t n mem (resolved.Base e) =
     cond (eqb (bytesOf (c .book) t e) (length mem)) (dimensionOf child c 0 t (typedOf c n e) mem) (refuse 10 0)
-elementBy child c t n mem (resolved.Lacks b) = refuse 7 b
-elementBy child c t n mem resolved.TooLong = refuse 8 0
+elementBy child c t n mem (resolved.Lacks b) = refuseBy (resolvedNumbers (resolved.Lacks b))
+elementBy child c t n mem resolved.TooLong = refuseBy (resolvedNumbers resolved.TooLong)
 
 -- by what the look-up of the element's name found: nothing is 7 with array t's block
 unfoldable pub arrayBy : Child → Ctx → ℕ → List ℕ → Found → Trace
 arrayBy child c t mem (At n) = elementBy child c t n mem (resolveAlias (c .book) (c .width) n)
-arrayBy child c t mem Nothing = refuse 7 t
+arrayBy child c t mem Nothing = refuseBy (resolvedNumbers (resolved.Lacks t))
 
 -- 10 unless the bytes are as many as the type says; then the element's type is looked up
 unfoldable pub arrayOf : Child → Ctx → Typed → List ℕ → Trace

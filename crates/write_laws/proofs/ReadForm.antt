@@ -15,7 +15,7 @@ use Rattle.typebook.specs.Book.{isType}
 use Rattle.book_check.specs.Check.{ValidBook, checkRoot}
 use Rattle.book_check.proofs.Valid.{root-valid}
 use Rattle.book_check.proofs.Roots.{at-each}
-use Rattle.resolvers.specs.Resolve.{resolveAlias}
+use Rattle.resolvers.specs.Resolve.{resolveAlias, resolvedNumbers}
 use Rattle.resolvers.specs.declared.Resolved.{Resolved}
 use Rattle.resolvers.specs.declared.Resolved.the-variants as resolved
 use Rattle.tape.specs.declared.record.Record.{Record}
@@ -49,7 +49,7 @@ reads-refused book n b = record { forms = λ buffer l. record { emits = tt } }
 
 by-root : (book : List ℕ) (width n : ℕ) (mem : List ℕ) → ValidBook book → Bytes book → Bytes mem → (r : Resolved)
     → ((u : ℕ) → r ≡ resolved.Base u → isType book u ≡ true) → Reads book (rootBy (ctx book width) n mem r)
-unfolding rootBy
+unfolding rootBy resolvedNumbers
 by-root book width n mem v p b (resolved.Base t) h = record { forms = λ buffer l. walk-emits book buffer l v p width 64 (whole (typedOf (ctx book width) n t)) mem (h t refl) b }
 by-root book width n mem v p b (resolved.Lacks k) h = reads-refused book 7 k
 by-root book width n mem v p b resolved.TooLong h = reads-refused book 8 0

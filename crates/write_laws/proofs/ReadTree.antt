@@ -18,11 +18,11 @@ use Rattle.type_provider.specs.declared.Found.the-variants as found
 use Rattle.type_provider.specs.Find.{find}
 use Rattle.book_check.specs.Check.{ValidBook}
 use Rattle.book_check.proofs.Valid.{valid-size, valid-below, valid-type}
-use Rattle.resolvers.specs.Resolve.{resolveAlias, isFollowed}
+use Rattle.resolvers.specs.Resolve.{resolveAlias, isFollowed, resolvedNumbers}
 use Rattle.resolvers.specs.declared.Resolved.{Resolved}
 use Rattle.resolvers.specs.declared.Resolved.the-variants as resolved
 use Rattle.resolvers.proofs.Chains.{found-type, follow-ends}
-use Rattle.field_types.specs.Fields.{fieldOf, fieldFound, resolveField, fieldsCheck}
+use Rattle.field_types.specs.Fields.{fieldOf, fieldFound, resolveField, fieldsCheck, checkNumbers, fieldNumbers}
 use Rattle.field_types.specs.declared.FieldAnswer.{FieldAnswer}
 use Rattle.field_types.specs.declared.FieldAnswer.the-variants as answer
 use Rattle.field_types.specs.declared.FieldsCheck.{FieldsCheck}
@@ -171,7 +171,7 @@ module _ (book buffer : List ℕ) where
   emits-if P false t n b p = emits-refused P n b
 
   emits-checked : (P : ℕ → List Event → Type 0) (f : FieldsCheck) (t : Trace) → Emits P t → Emits P (checked f t)
-  unfolding checked
+  unfolding checked checkNumbers
   emits-checked P check.Fine t p = p
   emits-checked P (check.Lacks b) t p = emits-refused P 7 b
   emits-checked P check.TooLong t p = emits-refused P 8 0
@@ -298,7 +298,7 @@ module _ (book buffer : List ℕ) where
         -- ---- a map
 
         field-emits : (mem : List ℕ) → Bytes mem → (a : FieldAnswer) → TypedField book a → Emits (Value left) (fieldValue child c mem a)
-        unfolding fieldValue
+        unfolding fieldValue fieldNumbers
         field-emits mem b (answer.Field f) y =
             emits-if (Value left) (leb (f .offset + f .size) (length mem)) _ 10 0
             (ih (whole (typedOf c (f .named) (f .resolved))) _ (y .typed) (bytes-take (f .size) (drop (f .offset) mem) (bytes-drop (f .offset) mem b)))
@@ -403,14 +403,14 @@ module _ (book buffer : List ℕ) where
 
         element-by : (t n : ℕ) (mem : List ℕ) → Bytes mem → (r : Resolved) → ((u : ℕ) → r ≡ resolved.Base u → isType book u ≡ true)
             → Emits (Value (suc left)) (elementBy child c t n mem r)
-        unfolding elementBy
+        unfolding elementBy resolvedNumbers
         element-by t n mem b (resolved.Base e) h =
             emits-if (Value (suc left)) (eqb (bytesOf book t e) (length mem)) _ 10 0 (dimension-emits 0 t (typedOf c n e) (h e refl) mem b)
         element-by t n mem b (resolved.Lacks k) h = emits-refused (Value (suc left)) 7 k
         element-by t n mem b resolved.TooLong h = emits-refused (Value (suc left)) 8 0
 
         array-by : (t : ℕ) (mem : List ℕ) → Bytes mem → (f : Found) → find book (typeNameOf book t) ≡ f → Emits (Value (suc left)) (arrayBy child c t mem f)
-        unfolding arrayBy
+        unfolding arrayBy resolvedNumbers
         array-by t mem b (found.At n) e = element-by t n mem b (resolveAlias book width n) (base-typed book width n (found-type book (typeNameOf book t) n e))
         array-by t mem b found.Nothing e = emits-refused (Value (suc left)) 7 t
 

@@ -10,7 +10,7 @@ use Rattle.typebook.specs.Book.{isType}
 use Rattle.book_check.specs.Check.{ValidBook, checkRoot}
 use Rattle.book_check.proofs.Valid.{root-valid}
 use Rattle.book_check.proofs.Roots.{at-refused, at-block, at-each}
-use Rattle.resolvers.specs.Resolve.{resolveAlias}
+use Rattle.resolvers.specs.Resolve.{resolveAlias, resolvedNumbers}
 use Rattle.resolvers.specs.declared.Resolved.{Resolved}
 use Rattle.resolvers.specs.declared.Resolved.the-variants as resolved
 use Rattle.tape.specs.declared.cursor.Cursor.{Cursor}
@@ -48,7 +48,7 @@ module _ (book buffer tape : List ℕ) (small : length buffer < 2 ^ 64) (width :
 
   by-root : ValidBook book → Bytes book → (n : ℕ) → (r : Resolved) → ((u : ℕ) → r ≡ resolved.Base u → isType book u ≡ true) → trip.rootKept (de.ctx book width) mem r ≡ true
       → reading.rootBy (de.ctx book width) n mem r ≡ done es → Same (rootBy (ser.ctx book width tape buffer) mem r) mem
-  unfolding reading.rootBy rootBy trip.rootKept
+  unfolding reading.rootBy rootBy trip.rootKept resolvedNumbers
   by-root v p n (resolved.Base t) y h e = by-type v p n t (y t refl) h e
   by-root v p n (resolved.Lacks k) y h e = different cc
   by-root v p n resolved.TooLong y h e = different cc

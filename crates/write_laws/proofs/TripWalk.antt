@@ -17,11 +17,11 @@ use Rattle.type_provider.specs.declared.Found.the-variants as found
 use Rattle.type_category.specs.Category.{categoryOf}
 use Rattle.book_check.specs.Check.{ValidBook}
 use Rattle.book_check.proofs.Valid.{valid-size, valid-below, valid-type}
-use Rattle.resolvers.specs.Resolve.{resolveAlias, onward, lookUp}
+use Rattle.resolvers.specs.Resolve.{resolveAlias, onward, lookUp, resolvedNumbers}
 use Rattle.resolvers.specs.declared.Resolved.{Resolved}
 use Rattle.resolvers.specs.declared.Resolved.the-variants as resolved
 use Rattle.resolvers.proofs.Chains.{look-typed}
-use Rattle.field_types.specs.Fields.{resolveField, fieldsCheck}
+use Rattle.field_types.specs.Fields.{resolveField, fieldsCheck, checkNumbers, fieldNumbers}
 use Rattle.field_types.specs.declared.FieldAnswer.{FieldAnswer}
 use Rattle.field_types.specs.declared.FieldAnswer.the-variants as answer
 use Rattle.field_types.specs.declared.FieldsCheck.{FieldsCheck}
@@ -139,7 +139,7 @@ module _ (book buffer tape : List ℕ) where
   emits-where P false t n b p = emits-refused book buffer P n b
 
   emits-fine : (P : ℕ → List Event → Type 0) (f : FieldsCheck) (t : Trace) → (f ≡ check.Fine → Emits book buffer P t) → Emits book buffer P (de.checked f t)
-  unfolding de.checked
+  unfolding de.checked checkNumbers
   emits-fine P check.Fine t p = p refl
   emits-fine P (check.Lacks b) t p = emits-refused book buffer P 7 b
   emits-fine P check.TooLong t p = emits-refused book buffer P 8 0
@@ -180,7 +180,7 @@ module _ (book buffer tape : List ℕ) where
 
       field-back : (mem : List ℕ) → Bytes mem → (a : FieldAnswer) → TypedField book a → trip.fieldKept kept mem a ≡ true
           → Emits book buffer (Back (λ at bytes. ser.fieldValue write at bytes a) mem) (de.fieldValue child rc mem a)
-      unfolding de.fieldValue ser.fieldValue trip.fieldKept
+      unfolding de.fieldValue ser.fieldValue trip.fieldKept fieldNumbers
       field-back mem b (answer.Field f) y h =
           emits-where _ (leb (f .offset + f .size) (length mem)) _ 10 0 (λ q.
           emits-map (Back (write (whole (f .resolved))) (cut (f .offset) (f .size) mem)) _ _
@@ -288,7 +288,7 @@ module _ (book buffer tape : List ℕ) where
 
       element-by : (t : ℕ) → shapeOf (categoryOf book width t) ≡ shape.Array → (mem : List ℕ) → Bytes mem → eqb (length mem) (sizeOf book t) ≡ true → (n : ℕ)
           → (r : Resolved) → lookUp book width t ≡ r → trip.arrayKept kept rc t mem r ≡ true → Emits book buffer (Back (ser.itemWalk write sc (whole t)) mem) (de.elementBy child rc t n mem r)
-      unfolding de.elementBy trip.arrayKept ser.itemWalk ser.taken ser.takenBy ser.valueBy ser.arrayOf ser.enteredAt ser.enteredBy ser.elementType ser.arrayBy
+      unfolding de.elementBy trip.arrayKept ser.itemWalk ser.taken ser.takenBy ser.valueBy ser.arrayOf ser.enteredAt ser.enteredBy ser.elementType ser.arrayBy resolvedNumbers
       element-by t s mem b q n (resolved.Base e) l h =
           emits-where _ (eqb (bytesOf book t e) (length mem)) _ 10 0 (λ z.
           dimension-back 0 t (de.typedOf rc n e) (look-typed book width t e l) mem b h (ser.itemWalk write sc (whole t)) (λ at x. rw (x, s, q, l, z)))
@@ -303,7 +303,7 @@ module _ (book buffer tape : List ℕ) where
       array-by : (t : ℕ) → shapeOf (categoryOf book width t) ≡ shape.Array → (mem : List ℕ) → Bytes mem → eqb (length mem) (sizeOf book t) ≡ true
           → trip.arrayKept kept rc t mem (lookUp book width t) ≡ true → (f : Found) → find book (typeNameOf book t) ≡ f
           → Emits book buffer (Back (ser.itemWalk write sc (whole t)) mem) (de.arrayBy child rc t mem f)
-      unfolding de.arrayBy
+      unfolding de.arrayBy resolvedNumbers
       array-by t s mem b q h (found.At n) e =
           let l = look-found t n e in
           element-by t s mem b q n (resolveAlias book width n) l (rw l at h)
