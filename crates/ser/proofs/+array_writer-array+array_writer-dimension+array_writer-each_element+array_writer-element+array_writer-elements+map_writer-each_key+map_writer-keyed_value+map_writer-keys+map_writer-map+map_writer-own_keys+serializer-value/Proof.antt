@@ -67,12 +67,19 @@ use Rattle.ser.proofs.+array_writer-array+array_writer-dimension+array_
 }
 
 ruleset values = (value-end, value-array, value-map, value-leaf, walk-deep, refl)
+
 ruleset maps = (map-array, map-leaf, map-odd, map-given, map-own, refl)
+
 ruleset own = (own-fine, own-lacks, own-endless, refl)
+
 ruleset key-exits = (keyed-stop, keyed-over, keyed-value, refl)
+
 ruleset arrays = (array-stop, array-element, refl)
+
 ruleset dimensions = (counted-stop, counted-elements, refl)
+
 ruleset keys-exits = (keys-stop, keys-end, refl)
+
 ruleset elements-exits = (elements-stop, elements-over, elements-under, elements-end, refl)
 
 abbrev μ-array-writer·array : Measures 4 array-writer·array-kinds.ps ℕ
