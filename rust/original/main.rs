@@ -581,7 +581,19 @@ fn million() {
     form_alone(&tape, port, &memory);
 }
 
-/// All tables, or those that are named: walks, struct, array, write-struct, write-array, write-million.
+/// A struct of very many fields, all named in order: the port alone.
+fn long() {
+    let (bytes, memory) = speed::struct_of_65_000();
+    let book = TypeBook::new(&bytes[..]).expect("valid");
+    let port = book.root(0).expect("a type");
+    let tape = port.read(WIDTH, &memory).expect("read");
+    let mut output = memory.clone();
+    let write = || keep(port.write_into(WIDTH, &memory, tape.bytes(), tape.text(), &mut output));
+    let t = turns(5, &mut [&mut { write }]);
+    println!("\nwrite, a struct of 65,000 fields, all named in order: {}", shown(t[0]));
+}
+
+/// All tables, or those that are named: walks, struct, array, write-struct, write-array, write-million, write-long.
 fn main() {
     let named: Vec<String> = std::env::args().skip(1).collect();
     let wanted = |table: &str| named.is_empty() || named.iter().any(|n| n == table);
@@ -605,5 +617,8 @@ fn main() {
     }
     if wanted("write-million") {
         million();
+    }
+    if wanted("write-long") {
+        long();
     }
 }

@@ -17,7 +17,7 @@ use Rattle.type_provider.specs.declared.Found.the-variants.{At, Nothing}
 use Rattle.named_blocks.specs.Named.{namedFrom, fieldNamed}
 use Rattle.marks.proofs.Laws.{bit-is}
 use Rattle.marks.specs.Marks.{hashOf, bitOf, BitSet, isMarked, Marked}
-use Rattle.first_fields.specs.Firsts.{Met, Firsts, Noted}
+use Rattle.first_fields.specs.Firsts.{blockOf, Met, Firsts, Noted}
 
 -- the block at place i is the first of a name that none before it has
 first-at : (book name : List ℕ) (n k i : ℕ) → i < k → ((j : ℕ) → j < i → sameName (nameOf book (n + j)) name ≡ false) → sameName (nameOf book (n + i)) name ≡ true
@@ -31,47 +31,53 @@ first-at book name n (suc k) (suc i) l before here =
     let o : sameName (nameOf book n) name ≡ false = (rw e at (before 0 (omega arith))) in
     rw (o, z) (first-at book name (n + 1) k i (omega arith) (λ j m. let y : n + suc j ≡ n + 1 + j = omega arith in (rw y at (before (suc j) (omega arith)))) (rw z at here))
 
-module _ (book : List ℕ) (t i : ℕ) (names : List ℕ) (met : Met book t names i) where
-  -- a field before has another name, where the hash is not marked
-  other : isMarked names (hashOf (nameOf book (t + 1 + i))) ≡ false → (j : ℕ) → j < i → sameName (nameOf book (t + 1 + j)) (nameOf book (t + 1 + i)) ≡ false
-  other free j l = by (sameName (nameOf book (t + 1 + j)) (nameOf book (t + 1 + i))) refl
+module _ (book : List ℕ) (t k c i : ℕ) (names : List ℕ) (met : Met book t k c names i) where
+  -- a field before has another name, where the hash is of the class and not marked
+  other : hashOf (nameOf book (t + 1 + i)) % k ≡ c → isMarked names (hashOf (nameOf book (t + 1 + i))) ≡ false → (j : ℕ) → j < i → sameName (nameOf book (t + 1 + j)) (nameOf book (t + 1 + i)) ≡ false
+  other own free j l = by (sameName (nameOf book (t + 1 + j)) (nameOf book (t + 1 + i))) refl
     where
       by : (g : Bool) → sameName (nameOf book (t + 1 + j)) (nameOf book (t + 1 + i)) ≡ g → g ≡ false
       by false h = refl
       by true h =
-          let m : isMarked names (hashOf (nameOf book (t + 1 + j))) ≡ true = met .all j l in
-          let q : isMarked names (hashOf (nameOf book (t + 1 + i))) ≡ true = (rw (same-eq (nameOf book (t + 1 + j)) (nameOf book (t + 1 + i)) h) at m) in
+          let s = same-eq (nameOf book (t + 1 + j)) (nameOf book (t + 1 + i)) h in
+          let m : isMarked names (hashOf (nameOf book (t + 1 + j))) ≡ true = met .all j l (rw s own) in
+          let q : isMarked names (hashOf (nameOf book (t + 1 + i))) ≡ true = (rw s at m) in
           sym q ∙ free
 
-  met-more : (names′ : List ℕ) → ((g : ℕ) → isMarked names g ≡ true → isMarked names′ g ≡ true) → isMarked names′ (hashOf (nameOf book (t + 1 + i))) ≡ true → Met book t names′ (i + 1)
-  met-more names′ kept here = record { all = below-more (λ j. isMarked names′ (hashOf (nameOf book (t + 1 + j))) ≡ true) i (λ j l. kept _ (met .all j l)) here }
+  met-more : (names′ : List ℕ) → ((g : ℕ) → isMarked names g ≡ true → isMarked names′ g ≡ true) → (hashOf (nameOf book (t + 1 + i)) % k ≡ c → isMarked names′ (hashOf (nameOf book (t + 1 + i))) ≡ true) → Met book t k c names′ (i + 1)
+  met-more names′ kept here = record { all = below-more (λ j. hashOf (nameOf book (t + 1 + j)) % k ≡ c → isMarked names′ (hashOf (nameOf book (t + 1 + j))) ≡ true) i (λ j l o. kept _ (met .all j l o)) here }
 
-  module _ (firsts : List ℕ) (f : Firsts book t firsts) (name : List ℕ) (en : name ≡ nameOf book (t + 1 + i)) (h : ℕ) (eh : h ≡ hashOf name) (g : Bool) (eg : g ≡ isMarked names h) where
-    pub note-marked : g ≡ true → Noted book t i names firsts
-    note-marked q = record { met = met-more names (λ u k. k) (rw (← en, ← eh) (sym eg ∙ q)); firsts-are = f }
+  module _ (firsts : List ℕ) (f : Firsts book t firsts) (name : List ℕ) (en : name ≡ nameOf book (t + 1 + i)) (h : ℕ) (eh : h ≡ hashOf name) where
+    pub note-other : (h % k ≡ c → ⊥) → Noted book t k c i names firsts
+    note-other q = record { met = met-more names (λ u m. m) (λ o. absurd (q (rw (eh, en) o))); firsts-are = f }
 
-    pub note-new : g ≡ false → i < fieldsOf book t → (names′ firsts′ : List ℕ) → Marked names h names′ → BitSet firsts i firsts′ → Noted book t i names′ firsts′
-    note-new q l names′ firsts′ m b =
-        let free : isMarked names (hashOf (nameOf book (t + 1 + i))) ≡ false = rw (← en, ← eh) (sym eg ∙ q) in
-        let own : fieldNamed book t (nameOf book (t + 1 + i)) ≡ At (t + 1 + i) = first-at book (nameOf book (t + 1 + i)) (t + 1) (fieldsOf book t) i l (other free) (same-refl (nameOf book (t + 1 + i))) in
-        record {
-          met = met-more names′ (m .kept) (rw (← en, ← eh) (m .here));
-          firsts-are = record { at = λ j k s. by own b j k s (eqb j i) refl };
-        }
-      where
-        by : {firsts′ : List ℕ} → fieldNamed book t (nameOf book (t + 1 + i)) ≡ At (t + 1 + i) → BitSet firsts i firsts′ → (j : ℕ) → j < fieldsOf book t → bitOf firsts′ j ≡ true → (e : Bool) → eqb j i ≡ e
-            → fieldNamed book t (nameOf book (t + 1 + j)) ≡ At (t + 1 + j)
-        by own b j k s true e = rw (eqb-true j i e) own
-        by own b j k s false e = f .at j k (sym (b .others j (eqb-false j i e)) ∙ s)
+    module _ (g : Bool) (eg : g ≡ isMarked names h) where
+      pub note-marked : g ≡ true → Noted book t k c i names firsts
+      note-marked q = record { met = met-more names (λ u m. m) (λ _. rw (← en, ← eh) (sym eg ∙ q)); firsts-are = f }
 
-pub met-none : (book : List ℕ) (t : ℕ) (names : List ℕ) → Met book t names 0
-met-none book t names = record { all = λ j l. absurd (omega arith) }
+      pub note-new : g ≡ false → h % k ≡ c → i < fieldsOf book t → (names′ firsts′ : List ℕ) → Marked names h names′ → BitSet firsts i firsts′ → Noted book t k c i names′ firsts′
+      note-new q o l names′ firsts′ m b =
+          let free : isMarked names (hashOf (nameOf book (t + 1 + i))) ≡ false = rw (← en, ← eh) (sym eg ∙ q) in
+          let class : hashOf (nameOf book (t + 1 + i)) % k ≡ c = rw (← en, ← eh) o in
+          let own : fieldNamed book t (nameOf book (t + 1 + i)) ≡ At (t + 1 + i) = first-at book (nameOf book (t + 1 + i)) (t + 1) (fieldsOf book t) i l (other class free) (same-refl (nameOf book (t + 1 + i))) in
+          record {
+            met = met-more names′ (m .kept) (λ _. rw (← en, ← eh) (m .here));
+            firsts-are = record { at = λ j s. by own b j s (eqb j i) refl };
+          }
+        where
+          by : {firsts′ : List ℕ} → fieldNamed book t (nameOf book (t + 1 + i)) ≡ At (t + 1 + i) → BitSet firsts i firsts′ → (j : ℕ) → bitOf firsts′ j ≡ true → (e : Bool) → eqb j i ≡ e
+              → fieldNamed book t (nameOf book (t + 1 + j)) ≡ At (t + 1 + j)
+          by own b j s true e = rw (eqb-true j i e) own
+          by own b j s false e = f .at j (sym (b .others j (eqb-false j i e)) ∙ s)
+
+pub met-none : (book : List ℕ) (t k c : ℕ) (names : List ℕ) → Met book t k c names 0
+met-none book t k c names = record { all = λ j l. absurd (omega arith) }
 
 -- what every turn keeps
-pub noted-met : {book : List ℕ} {t i : ℕ} {names firsts : List ℕ} → Noted book t i names firsts → Met book t names (i + 1)
+pub noted-met : {book : List ℕ} {t k c i : ℕ} {names firsts : List ℕ} → Noted book t k c i names firsts → Met book t k c names (i + 1)
 noted-met n = n .met
 
-pub noted-firsts : {book : List ℕ} {t i : ℕ} {names firsts : List ℕ} → Noted book t i names firsts → Firsts book t firsts
+pub noted-firsts : {book : List ℕ} {t k c i : ℕ} {names firsts : List ℕ} → Noted book t k c i names firsts → Firsts book t firsts
 noted-firsts n = n .firsts-are
 
 -- where no bit is set nothing is said
@@ -86,19 +92,30 @@ none-set n i = sym (bit-is (replicate n 0) i) ∙ by (ltb (i / 32) n) refl
         rw (z, zero-div (2 ^ (i % 32)))
 
 pub firsts-none : (book : List ℕ) (t n : ℕ) (firsts : List ℕ) → firsts ≡ replicate n 0 → Firsts book t firsts
-firsts-none book t n firsts e = rw e (record { at = λ i l s. absurd (let z : true ≡ false = sym s ∙ none-set n i in let y : _≡_ {A = ℕ} 0 1 = cc in omega arith) })
+firsts-none book t n firsts e = rw e (record { at = λ i s. absurd (let z : true ≡ false = sym s ∙ none-set n i in let y : _≡_ {A = ℕ} 0 1 = cc in omega arith) })
 
 pub enough-bits : (book : List ℕ) (t n len : ℕ) → n ≡ fieldsOf book t → (n + 31) / 32 ≤ len → fieldsOf book t ≤ 32 * len
 enough-bits book t n len e l = omega arith
 
--- ---- by a block's name
+-- ---- by a name
 
-module _ (book : List ℕ) (t f : ℕ) (firsts : List ℕ) (x : Firsts book t firsts) where
-  pub named-first : t < f → (n : ℕ) → n ≡ fieldsOf book t → f - t - 1 < n → (b : Bool) → b ≡ bitOf firsts (f - t - 1) → b ≡ true → At f ≡ fieldNamed book t (nameOf book f)
-  named-first l n en i b eb h =
-      let z : t + 1 + (f - t - 1) ≡ f = omega arith in
-      let y : f - t - 1 < fieldsOf book t = rw (← en) i in
-      (rw z at (sym (x .at (f - t - 1) y (sym eb ∙ h))))
+pub block-at : (x : Found) (f : ℕ) → x ≡ At f → f ≡ blockOf x
+unfolding blockOf
+block-at x f e = rw e
 
-pub named-searched : (book : List ℕ) (t f : ℕ) (name : List ℕ) → name ≡ nameOf book f → (r : Found) → r ≡ fieldNamed book t name → r ≡ fieldNamed book t (nameOf book f)
+pub block-none : (x : Found) → x ≡ Nothing → 0 ≡ blockOf x
+unfolding blockOf
+block-none x e = rw e
+
+pub block-named : (book : List ℕ) (t : ℕ) (name : List ℕ) (x : Found) → x ≡ fieldNamed book t name → (r : ℕ) → r ≡ blockOf x → r ≡ blockOf (fieldNamed book t name)
+block-named book t name x ex r er = er ∙ rw ex
+
+pub named-first : (book : List ℕ) (t f : ℕ) (firsts : List ℕ) → Firsts book t firsts → t < f → (b : Bool) → b ≡ bitOf firsts (f - t - 1) → b ≡ true → f ≡ blockOf (fieldNamed book t (nameOf book f))
+unfolding blockOf
+named-first book t f firsts x l b eb h =
+    let z : t + 1 + (f - t - 1) ≡ f = omega arith in
+    let y : fieldNamed book t (nameOf book f) ≡ At f = (rw z at (x .at (f - t - 1) (sym eb ∙ h))) in
+    rw y
+
+pub named-searched : (book : List ℕ) (t f : ℕ) (name : List ℕ) → name ≡ nameOf book f → (r : ℕ) → r ≡ blockOf (fieldNamed book t name) → r ≡ blockOf (fieldNamed book t (nameOf book f))
 named-searched book t f name en r er = er ∙ rw en

@@ -5,7 +5,7 @@ ghost use Prim.Native.Nat.{_+_, _*_, _≤_, _<_};
 ghost use lib.ListN.{length};
 ghost use Rattle.typebook.specs.Book.{fieldsOf, entriesOf, nameOf};
 ghost use Rattle.named_blocks.specs.Named.{fieldNamed};
-ghost use Rattle.first_fields.specs.Firsts.{Met, Firsts, Noted};
+ghost use Rattle.first_fields.specs.Firsts.{blockOf, Met, Firsts, Noted};
 use marks::bit;
 use marks::hash;
 use marks::is_marked;
@@ -16,13 +16,16 @@ use type_provider::Found;
 use typebook::block;
 use zeros::clear_numbers;
 
-// Field i of type block t, after those before it, whose names' hashes are marked in `names`: it is the first of its name if its own hash
-// is not marked.
-fn note_field(book: &[u8], t: u32, i: u32, names: &mut [u32], firsts: &mut [u32])
-    requires { ⌜ (t + fieldsOf (now book) t + entriesOf (now book) t < 65536) × (i < fieldsOf (now book) t) × (i < 32 * length (now firsts)) × (0 < length (now names)) × (length (now names) ≤ 32768) × Met (now book) t (now names) i × Firsts (now book) t (now firsts) ⌝ }
-    ensures { λ _. ⌜ Noted (now (book .entry)) t i (now (names .exit)) (now (firsts .exit)) ⌝ }
+// Field i of type block t, if its name's hash is of class c of k classes, after the fields before it, whose names' hashes of that class are
+// marked in `names`: it is the first of its name if its own hash is not marked.
+fn note_field(book: &[u8], t: u32, k: u32, c: u32, i: u32, names: &mut [u32], firsts: &mut [u32])
+    requires { ⌜ (t + fieldsOf (now book) t + entriesOf (now book) t < 65536) × (i < fieldsOf (now book) t) × (i < 32 * length (now firsts)) × (0 < k) × (0 < length (now names)) × (length (now names) ≤ 32768) × Met (now book) t k c (now names) i × Firsts (now book) t (now firsts) ⌝ }
+    ensures { λ _. ⌜ Noted (now (book .entry)) t k c i (now (names .exit)) (now (firsts .exit)) ⌝ }
 {
     let h = hash(block::name(book, t + 1 + i));
+    if h % k != c {
+        return;
+    }
     if is_marked(names, h) {
         return;
     }
@@ -30,36 +33,51 @@ fn note_field(book: &[u8], t: u32, i: u32, names: &mut [u32], firsts: &mut [u32]
     set_bit(firsts, i);
 }
 
-// All fields of type block t in order. What the marks held before may cost a bit, which is then not set.
-fn note_fields(book: &[u8], t: u32, names: &mut [u32], firsts: &mut [u32])
-    requires { ⌜ (t + fieldsOf (now book) t + entriesOf (now book) t < 65536) × (fieldsOf (now book) t ≤ 32 * length (now firsts)) × (0 < length (now names)) × (length (now names) ≤ 32768) × Firsts (now book) t (now firsts) ⌝ }
+// All fields of type block t of one class, in order. What the marks held before may cost a bit, which is then not set.
+fn note_fields(book: &[u8], t: u32, k: u32, c: u32, names: &mut [u32], firsts: &mut [u32])
+    requires { ⌜ (t + fieldsOf (now book) t + entriesOf (now book) t < 65536) × (fieldsOf (now book) t ≤ 32 * length (now firsts)) × (0 < k) × (0 < length (now names)) × (length (now names) ≤ 32768) × Firsts (now book) t (now firsts) ⌝ }
     ensures { λ _. ⌜ Firsts (now (book .entry)) t (now (firsts .exit)) ⌝ }
 {
     let n = block::fields(book, t);
     let mut i: u32 = 0;
     while i < n {
-        note_field(book, t, i, names, firsts);
+        note_field(book, t, k, c, i, names, firsts);
         i += 1;
     }
 }
 
-// With marks for up to 256 names, on the stack.
+// All fields in one class, with marks for up to 256 names, on the stack.
 fn note_few(book: &[u8], t: u32, firsts: &mut [u32])
     requires { ⌜ (t + fieldsOf (now book) t + entriesOf (now book) t < 65536) × (fieldsOf (now book) t ≤ 32 * length (now firsts)) × Firsts (now book) t (now firsts) ⌝ }
     ensures { λ _. ⌜ Firsts (now (book .entry)) t (now (firsts .exit)) ⌝ }
 {
     let mut names = [0u32; 256];
-    note_fields(book, t, &mut names, firsts);
+    note_fields(book, t, 1, 0, &mut names, firsts);
 }
 
-// With marks for some thousand names. They are few enough for each level of a walk to have them on its stack; of a longer type more names
-// find their marks taken, and more fields are searched.
+// One class, with marks for some two thousand names: few enough for each level of a walk to have them on its stack.
+fn note_class(book: &[u8], t: u32, k: u32, c: u32, firsts: &mut [u32])
+    requires { ⌜ (t + fieldsOf (now book) t + entriesOf (now book) t < 65536) × (fieldsOf (now book) t ≤ 32 * length (now firsts)) × (0 < k) × Firsts (now book) t (now firsts) ⌝ }
+    ensures { λ _. ⌜ Firsts (now (book .entry)) t (now (firsts .exit)) ⌝ }
+{
+    let mut names = [0u32; 1024];
+    note_fields(book, t, k, c, &mut names, firsts);
+}
+
+// The fields to a class: of so many names one in some hundreds finds its marks taken.
+const CLASS_FIELDS: u32 = 2048;
+
+// The same for many fields, class after class: each class is one pass over the fields, and has marks of its own.
 fn note_many(book: &[u8], t: u32, firsts: &mut [u32])
     requires { ⌜ (t + fieldsOf (now book) t + entriesOf (now book) t < 65536) × (fieldsOf (now book) t ≤ 32 * length (now firsts)) × Firsts (now book) t (now firsts) ⌝ }
     ensures { λ _. ⌜ Firsts (now (book .entry)) t (now (firsts .exit)) ⌝ }
 {
-    let mut names = [0u32; 1024];
-    note_fields(book, t, &mut names, firsts);
+    let k = block::fields(book, t) / CLASS_FIELDS + 1;
+    let mut c: u32 = 0;
+    while c < k {
+        note_class(book, t, k, c, firsts);
+        c += 1;
+    }
 }
 
 // The bits of type block t's fields. Where there are fewer bits than fields none is set.
@@ -79,18 +97,33 @@ pub fn note_firsts(book: &[u8], t: u32, firsts: &mut [u32])
     note_many(book, t, firsts);
 }
 
-// The first field of type block t that has the name of block f.
-pub fn field_named_as(book: &[u8], t: u32, firsts: &[u32], f: u32) -> Found
+// The block of a field that was found, 0 where none was. A number goes from call to call in a register, and Found through memory.
+fn block_of(found: Found) -> u32
+    ensures { λ r. ⌜ r ≡ blockOf found ⌝ }
+{
+    match found {
+        Found::At(f) => f,
+        Found::Nothing => 0,
+    }
+}
+
+// The block of the first field of type block t that has this name; 0 where none has it.
+pub fn field_block(book: &[u8], t: u32, name: &[u8]) -> u32
+    requires { ⌜ t + fieldsOf (now book) t + entriesOf (now book) t < 65536 ⌝ }
+    ensures { λ r. ⌜ r ≡ blockOf (fieldNamed (now (book .entry)) t (now (name .entry))) ⌝ }
+{
+    block_of(field_by_name(book, t, name))
+}
+
+// The same for the name of block f.
+pub fn field_named_as(book: &[u8], t: u32, firsts: &[u32], f: u32) -> u32
     requires { ⌜ (t + fieldsOf (now book) t + entriesOf (now book) t < 65536) × Firsts (now book) t (now firsts) ⌝ }
-    ensures { λ r. ⌜ r ≡ fieldNamed (now (book .entry)) t (nameOf (now (book .entry)) f) ⌝ }
+    ensures { λ r. ⌜ r ≡ blockOf (fieldNamed (now (book .entry)) t (nameOf (now (book .entry)) f)) ⌝ }
 {
     if t < f {
-        let i = f - t - 1;
-        if i < block::fields(book, t) {
-            if bit(firsts, i) {
-                return Found::At(f);
-            }
+        if bit(firsts, f - t - 1) {
+            return f;
         }
     }
-    field_by_name(book, t, block::name(book, f))
+    field_block(book, t, block::name(book, f))
 }

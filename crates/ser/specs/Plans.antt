@@ -7,6 +7,7 @@ use Prim.Native.Nat.{ℕ, _+_}
 use lib.ListN.{length}
 use lib.Dec.{leb}
 use Rattle.typebook.specs.Book.{isType, countOf}
+use Rattle.book_check.specs.Check.{ValidBook}
 use Rattle.type_category.specs.Category.{categoryOf}
 use Rattle.field_types.specs.Fields.{resolveField}
 use Rattle.field_plan.specs.Plan.{Ready}
@@ -64,3 +65,8 @@ pub record FieldIn (book : List ℕ) (width f : ℕ) (next : Cursor) (r : Keyed)
 pub record KeyIn (book : List ℕ) (width : ℕ) (tape : List ℕ) (t : ℕ) (at : Cursor) (r : Keyed) : Type 0 where
   pub is : (text : List ℕ) (child : Child) (bytes : List ℕ) → keyedValue child bytes r ≡ keyOf child (ctx book width tape text) t at bytes
   pub known : (x : PlannedField) (after : Cursor) → r ≡ keyed.Field x after → Typed book width x
+
+-- what is known of the book and of a key's field before its value is written
+pub record KnownKey (book : List ℕ) (width : ℕ) (a : Keyed) : Type 0 where
+  pub valid : ValidBook book
+  pub known : (x : PlannedField) (after : Cursor) → a ≡ keyed.Field x after → Typed book width x

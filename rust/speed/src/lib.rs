@@ -92,6 +92,14 @@ pub fn array_of_ints(count: u32) -> (Vec<u8>, Vec<u8>) {
     (among(vec![root]), memory(2 * count as usize))
 }
 
+/// A struct of 65,000 INTs, and a memory of it.
+pub fn struct_of_65_000() -> (Vec<u8>, Vec<u8>) {
+    let root = (0..65_000).fold(Type::new("ST_Machine").size(130_000), |t, i| {
+        t.field(&format!("nField{i}"), "INT", 2 * i as u32, 2)
+    });
+    (book(&[root, Type::new("INT").id(2).size(2)]), memory(130_000))
+}
+
 /// A struct of 5,000 fields, each of a type of its own, in a book of 60,000 types, and a memory of it.
 pub fn struct_among_60_000() -> (Vec<u8>, Vec<u8>) {
     let root = (0..5_000).fold(Type::new("ST_Machine").size(10_000), |t, i| {

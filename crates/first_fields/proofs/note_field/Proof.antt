@@ -1,4 +1,4 @@
-use Rattle.first_fields.proofs.Laws.{note-marked, note-new}
+use Rattle.first_fields.proofs.Laws.{note-other, note-marked, note-new}
 use borrow.Author.Needs.{needs}
 use Rattle.first_fields.proofs.note_field.Statement.{statement}
 use Rattle.first_fields.proofs.note_field.Tie as tie
@@ -27,22 +27,30 @@ hash-requires : tie.Need-hash-requires
 hash-requires c κs = search needs
 
 -- src/lib.rt:26:8
-is-marked-requires : tie.Need-is-marked-requires
-is-marked-requires c κs = search needs
-
--- src/lib.rt:27:9
-same-length : tie.Need-same-length
-same-length c = search needs
+rem-if1 : tie.Need-rem-if1
+rem-if1 c = search needs
 
 -- src/lib.rt:27:9
 returns : tie.Need-returns
-returns c = search note-marked
+returns c = search note-other
 
--- src/lib.rt:29:5
+-- src/lib.rt:29:8
+is-marked-requires : tie.Need-is-marked-requires
+is-marked-requires c κs = search needs
+
+-- src/lib.rt:30:9
+same-length : tie.Need-same-length
+same-length c = search needs
+
+-- src/lib.rt:30:9
+returns-2 : tie.Need-returns-2
+returns-2 c = search note-marked
+
+-- src/lib.rt:32:5
 mark-requires : tie.Need-mark-requires
 mark-requires c κs = search needs
 
--- src/lib.rt:30:5
+-- src/lib.rt:33:5
 set-bit-requires : tie.Need-set-bit-requires
 set-bit-requires c κs = search needs
 
@@ -55,8 +63,8 @@ same-length-3 : tie.Need-same-length-3
 same-length-3 c = search needs
 
 -- src/lib.rt:21:1
-returns-2 : tie.Need-returns-2
-returns-2 c = search note-new
+returns-3 : tie.Need-returns-3
+returns-3 c = search note-new
 
 pub note-field-spec : {M : Type 1} → statement M
 note-field-spec =
@@ -66,11 +74,13 @@ note-field-spec =
     add-name-2
     name-requires
     hash-requires
+    rem-if1
+    returns
     is-marked-requires
     same-length
-    returns
+    returns-2
     mark-requires
     set-bit-requires
     same-length-2
     same-length-3
-    returns-2)
+    returns-3)

@@ -1,3 +1,4 @@
+use borrow.Author.Needs.{needs}
 use Rattle.first_fields.proofs.Laws.{named-first, named-searched}
 ruleset exits = (named-first, named-searched)
 returns.* => search exits

@@ -1,4 +1,6 @@
-use Rattle.first_fields.proofs.Laws.{note-marked, note-new}
-returns => search note-marked
-returns-2 => search note-new
+use borrow.Author.Needs.{needs}
+use Rattle.first_fields.proofs.Laws.{note-other, note-marked, note-new}
+returns => search note-other
+returns-2 => search note-marked
+returns-3 => search note-new
 .* => search needs

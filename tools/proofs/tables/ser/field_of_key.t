@@ -2,6 +2,6 @@ use borrow.Author.Needs.{needs}
 use Rattle.ser.proofs.Exits.{leaf-inside, key-near, key-far}
 ruleset exits = (key-near, key-far)
 field-named-as-requires => (search leaf-inside, search needs)
-field-by-name-requires => search leaf-inside
+field-block-requires => search leaf-inside
 returns.* => search exits
 .* => search needs

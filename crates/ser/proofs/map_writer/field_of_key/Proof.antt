@@ -4,40 +4,40 @@ use Rattle.ser.proofs.map_writer.field_of_key.Statement.{statement}
 use Rattle.ser.proofs.map_writer.field_of_key.Tie as tie
 use Rattle.ser.proofs.map_writer.field_of_key.Reads as reads
 use Rattle.ser.proofs.map_writer.field_of_key.Lts as lts
+use Rattle.first_fields.proofs.field_block.Reads as field-block-reads
 use Rattle.first_fields.proofs.field_named_as.Reads as field-named-as-reads
-use Rattle.named_blocks.proofs.field_by_name.Reads as field-by-name-reads
 
 ruleset exits = (key-near, key-far)
 
--- src/map_writer.rt:45:62
+-- src/map_writer.rt:49:62
 cast-field-named-as : tie.Need-cast-field-named-as
 cast-field-named-as c = search needs
 
--- src/map_writer.rt:45:9
+-- src/map_writer.rt:49:9
 field-named-as-requires : tie.Need-field-named-as-requires
 field-named-as-requires c κs = (search leaf-inside, search needs)
 
--- src/map_writer.rt:45:9
+-- src/map_writer.rt:49:9
 returns : tie.Need-returns
 returns c = search exits
 
--- src/map_writer.rt:47:42
-sub-field-by-name : tie.Need-sub-field-by-name
-sub-field-by-name c = search needs
+-- src/map_writer.rt:51:40
+sub-field-block : tie.Need-sub-field-block
+sub-field-block c = search needs
 
--- src/map_writer.rt:47:42
-part-field-by-name-start : tie.Need-part-field-by-name-start
-part-field-by-name-start c = search needs
+-- src/map_writer.rt:51:40
+part-field-block-start : tie.Need-part-field-block-start
+part-field-block-start c = search needs
 
--- src/map_writer.rt:47:42
-part-field-by-name-end : tie.Need-part-field-by-name-end
-part-field-by-name-end c = search needs
+-- src/map_writer.rt:51:40
+part-field-block-end : tie.Need-part-field-block-end
+part-field-block-end c = search needs
 
--- src/map_writer.rt:47:5
-field-by-name-requires : tie.Need-field-by-name-requires
-field-by-name-requires c κs = search leaf-inside
+-- src/map_writer.rt:51:5
+field-block-requires : tie.Need-field-block-requires
+field-block-requires c κs = search leaf-inside
 
--- src/map_writer.rt:40:1
+-- src/map_writer.rt:44:1
 returns-2 : tie.Need-returns-2
 returns-2 c = search exits
 
@@ -48,8 +48,8 @@ field-of-key-spec =
     cast-field-named-as
     field-named-as-requires
     returns
-    sub-field-by-name
-    part-field-by-name-start
-    part-field-by-name-end
-    field-by-name-requires
+    sub-field-block
+    part-field-block-start
+    part-field-block-end
+    field-block-requires
     returns-2)

@@ -11,59 +11,51 @@ use Rattle.tape.proofs.cursor.Cursor.next.Reads as next-reads
 
 ruleset exits = (key-end, key-other, key-unknown, key-known)
 
--- src/map_writer.rt:77:9
+-- src/map_writer.rt:81:9
 next-requires : tie.Need-next-requires
 next-requires c κs = search needs
 
--- src/map_writer.rt:79:22
+-- src/map_writer.rt:83:22
 enum-known-step : tie.Need-enum-known-step
 enum-known-step c = search needs
 
--- src/map_writer.rt:81:21
+-- src/map_writer.rt:85:21
 field-of-key-requires : tie.Need-field-of-key-requires
 field-of-key-requires c κs = search needs
 
--- src/map_writer.rt:82:31
-enum-known-found : tie.Need-enum-known-found
-enum-known-found c = search needs
-
--- src/map_writer.rt:83:21
-enum-told : tie.Need-enum-told
-enum-told c = search needs
-
--- src/map_writer.rt:83:21
+-- src/map_writer.rt:87:21
 returns : tie.Need-returns
 returns c = search exits
 
--- src/map_writer.rt:85:56
+-- src/map_writer.rt:89:56
 sub-entry-at : tie.Need-sub-entry-at
 sub-entry-at c = search key-after
 
--- src/map_writer.rt:85:56
+-- src/map_writer.rt:89:56
 sub-entry-at-2 : tie.Need-sub-entry-at-2
 sub-entry-at-2 c = search key-past
 
--- src/map_writer.rt:85:21
+-- src/map_writer.rt:89:21
 entry-at-requires : tie.Need-entry-at-requires
 entry-at-requires c κs = search needs
 
--- src/map_writer.rt:86:17
+-- src/map_writer.rt:90:17
 field-in-requires : tie.Need-field-in-requires
 field-in-requires c κs = (search needs, search key-entry)
 
--- src/map_writer.rt:86:17
+-- src/map_writer.rt:90:17
 returns-2 : tie.Need-returns-2
 returns-2 c = search exits
 
--- src/map_writer.rt:90:22
-enum-told-2 : tie.Need-enum-told-2
-enum-told-2 c = search needs
+-- src/map_writer.rt:94:22
+enum-told : tie.Need-enum-told
+enum-told c = search needs
 
--- src/map_writer.rt:64:1
+-- src/map_writer.rt:68:1
 returns-3 : tie.Need-returns-3
 returns-3 c = search exits
 
--- src/map_writer.rt:64:1
+-- src/map_writer.rt:68:1
 returns-4 : tie.Need-returns-4
 returns-4 c = search exits
 
@@ -74,14 +66,12 @@ key-in-spec =
     next-requires
     enum-known-step
     field-of-key-requires
-    enum-known-found
-    enum-told
     returns
     sub-entry-at
     sub-entry-at-2
     entry-at-requires
     field-in-requires
     returns-2
-    enum-told-2
+    enum-told
     returns-3
     returns-4)

@@ -7,44 +7,48 @@ use Rattle.type_category.proofs.Numbers.{category-is}
 use Rattle.field_types.proofs.Numbers.{check-is}
 use Rattle.shape.proofs.Strides.{Along, along-start, along-again, along-fits, next-dimension, fills-further}
 use Rattle.shape.specs.Array.{strideOf}
-use Rattle.ser.proofs.Exits.{walk-deep, value-end, value-array, value-map, value-leaf, map-array, map-leaf, map-odd, map-given, map-own, own-fine, own-lacks, own-endless, keys-start, keys-stop, keys-again, keys-end, keyed-stop, keyed-over, keyed-value, keyed-typed, keyed-category, map-ready, given-none, firsts-empty, own-entries, last-given, array-stop, array-element, counted-stop, counted-elements, counted-given, counted-firsts, elements-start, elements-again, elements-stop, elements-over, elements-under, elements-end, element-last, element-further, leaf-inside, entered-typed, entered-fills, part-end, part-fills}
+use Rattle.ser.proofs.Exits.{walk-deep, value-end, value-array, value-map, value-leaf, map-array, map-leaf, map-odd, map-given, map-own, own-fine, own-lacks, own-endless, keys-start, keys-stop, keys-end, keys-turn, keyed-stop, keyed-over, keyed-value, key-all, keyed-valid, keyed-typed, keyed-category, map-ready, given-none, firsts-empty, own-entries, last-given, element-none, array-stop, array-element, counted-stop, counted-elements, counted-given, counted-firsts, elements-start, elements-again, elements-stop, elements-over, elements-under, elements-end, element-last, element-further, leaf-inside, entered-typed, entered-fills, part-end, part-fills}
 use borrow.Fn.Kinds.{In}
 use borrow.Fn.PlainCycle.{Measures, is, falls, and}
 use Rattle.ser.proofs.array_writer.array.Reads as array-writer·array
 use Rattle.ser.proofs.array_writer.array.Kinds as array-writer·array-kinds
-use Rattle.ser.proofs.+array_writer-array+array_writer-dimension+array_writer-element+array_writer-elements+map_writer-each_key+map_writer-key+map_writer-keys+map_writer-map+map_writer-own_keys+serializer-value.Lts-array_writer-array as array-writer·array-lts
+use Rattle.ser.proofs.+array_writer-array+array_writer-dimension+array_writer-each_element+array_writer-element+array_writer-elements+map_writer-each_key+map_writer-keyed_value+map_writer-keys+map_writer-map+map_writer-own_keys+serializer-value.Lts-array_writer-array as array-writer·array-lts
 use Rattle.ser.proofs.array_writer.dimension.Reads as array-writer·dimension
 use Rattle.ser.proofs.array_writer.dimension.Kinds as array-writer·dimension-kinds
-use Rattle.ser.proofs.+array_writer-array+array_writer-dimension+array_writer-element+array_writer-elements+map_writer-each_key+map_writer-key+map_writer-keys+map_writer-map+map_writer-own_keys+serializer-value.Lts-array_writer-dimension as array-writer·dimension-lts
+use Rattle.ser.proofs.+array_writer-array+array_writer-dimension+array_writer-each_element+array_writer-element+array_writer-elements+map_writer-each_key+map_writer-keyed_value+map_writer-keys+map_writer-map+map_writer-own_keys+serializer-value.Lts-array_writer-dimension as array-writer·dimension-lts
+use Rattle.ser.proofs.array_writer.each_element.Reads as array-writer·each-element
+use Rattle.ser.proofs.array_writer.each_element.Kinds as array-writer·each-element-kinds
+use Rattle.ser.proofs.+array_writer-array+array_writer-dimension+array_writer-each_element+array_writer-element+array_writer-elements+map_writer-each_key+map_writer-keyed_value+map_writer-keys+map_writer-map+map_writer-own_keys+serializer-value.Lts-array_writer-each_element as array-writer·each-element-lts
 use Rattle.ser.proofs.array_writer.element.Reads as array-writer·element
 use Rattle.ser.proofs.array_writer.element.Kinds as array-writer·element-kinds
-use Rattle.ser.proofs.+array_writer-array+array_writer-dimension+array_writer-element+array_writer-elements+map_writer-each_key+map_writer-key+map_writer-keys+map_writer-map+map_writer-own_keys+serializer-value.Lts-array_writer-element as array-writer·element-lts
+use Rattle.ser.proofs.+array_writer-array+array_writer-dimension+array_writer-each_element+array_writer-element+array_writer-elements+map_writer-each_key+map_writer-keyed_value+map_writer-keys+map_writer-map+map_writer-own_keys+serializer-value.Lts-array_writer-element as array-writer·element-lts
 use Rattle.ser.proofs.array_writer.elements.Reads as array-writer·elements
 use Rattle.ser.proofs.array_writer.elements.Kinds as array-writer·elements-kinds
-use Rattle.ser.proofs.+array_writer-array+array_writer-dimension+array_writer-element+array_writer-elements+map_writer-each_key+map_writer-key+map_writer-keys+map_writer-map+map_writer-own_keys+serializer-value.Lts-array_writer-elements as array-writer·elements-lts
+use Rattle.ser.proofs.+array_writer-array+array_writer-dimension+array_writer-each_element+array_writer-element+array_writer-elements+map_writer-each_key+map_writer-keyed_value+map_writer-keys+map_writer-map+map_writer-own_keys+serializer-value.Lts-array_writer-elements as array-writer·elements-lts
 use Rattle.ser.proofs.map_writer.each_key.Reads as map-writer·each-key
 use Rattle.ser.proofs.map_writer.each_key.Kinds as map-writer·each-key-kinds
-use Rattle.ser.proofs.+array_writer-array+array_writer-dimension+array_writer-element+array_writer-elements+map_writer-each_key+map_writer-key+map_writer-keys+map_writer-map+map_writer-own_keys+serializer-value.Lts-map_writer-each_key as map-writer·each-key-lts
-use Rattle.ser.proofs.map_writer.key.Reads as map-writer·key
-use Rattle.ser.proofs.map_writer.key.Kinds as map-writer·key-kinds
-use Rattle.ser.proofs.+array_writer-array+array_writer-dimension+array_writer-element+array_writer-elements+map_writer-each_key+map_writer-key+map_writer-keys+map_writer-map+map_writer-own_keys+serializer-value.Lts-map_writer-key as map-writer·key-lts
+use Rattle.ser.proofs.+array_writer-array+array_writer-dimension+array_writer-each_element+array_writer-element+array_writer-elements+map_writer-each_key+map_writer-keyed_value+map_writer-keys+map_writer-map+map_writer-own_keys+serializer-value.Lts-map_writer-each_key as map-writer·each-key-lts
+use Rattle.ser.proofs.map_writer.keyed_value.Reads as map-writer·keyed-value
+use Rattle.ser.proofs.map_writer.keyed_value.Kinds as map-writer·keyed-value-kinds
+use Rattle.ser.proofs.+array_writer-array+array_writer-dimension+array_writer-each_element+array_writer-element+array_writer-elements+map_writer-each_key+map_writer-keyed_value+map_writer-keys+map_writer-map+map_writer-own_keys+serializer-value.Lts-map_writer-keyed_value as map-writer·keyed-value-lts
 use Rattle.ser.proofs.map_writer.keys.Reads as map-writer·keys
 use Rattle.ser.proofs.map_writer.keys.Kinds as map-writer·keys-kinds
-use Rattle.ser.proofs.+array_writer-array+array_writer-dimension+array_writer-element+array_writer-elements+map_writer-each_key+map_writer-key+map_writer-keys+map_writer-map+map_writer-own_keys+serializer-value.Lts-map_writer-keys as map-writer·keys-lts
+use Rattle.ser.proofs.+array_writer-array+array_writer-dimension+array_writer-each_element+array_writer-element+array_writer-elements+map_writer-each_key+map_writer-keyed_value+map_writer-keys+map_writer-map+map_writer-own_keys+serializer-value.Lts-map_writer-keys as map-writer·keys-lts
 use Rattle.ser.proofs.map_writer.map.Reads as map-writer·map
 use Rattle.ser.proofs.map_writer.map.Kinds as map-writer·map-kinds
-use Rattle.ser.proofs.+array_writer-array+array_writer-dimension+array_writer-element+array_writer-elements+map_writer-each_key+map_writer-key+map_writer-keys+map_writer-map+map_writer-own_keys+serializer-value.Lts-map_writer-map as map-writer·map-lts
+use Rattle.ser.proofs.+array_writer-array+array_writer-dimension+array_writer-each_element+array_writer-element+array_writer-elements+map_writer-each_key+map_writer-keyed_value+map_writer-keys+map_writer-map+map_writer-own_keys+serializer-value.Lts-map_writer-map as map-writer·map-lts
 use Rattle.ser.proofs.map_writer.own_keys.Reads as map-writer·own-keys
 use Rattle.ser.proofs.map_writer.own_keys.Kinds as map-writer·own-keys-kinds
-use Rattle.ser.proofs.+array_writer-array+array_writer-dimension+array_writer-element+array_writer-elements+map_writer-each_key+map_writer-key+map_writer-keys+map_writer-map+map_writer-own_keys+serializer-value.Lts-map_writer-own_keys as map-writer·own-keys-lts
+use Rattle.ser.proofs.+array_writer-array+array_writer-dimension+array_writer-each_element+array_writer-element+array_writer-elements+map_writer-each_key+map_writer-keyed_value+map_writer-keys+map_writer-map+map_writer-own_keys+serializer-value.Lts-map_writer-own_keys as map-writer·own-keys-lts
 use Rattle.ser.proofs.serializer.value.Reads as serializer·value
 use Rattle.ser.proofs.serializer.value.Kinds as serializer·value-kinds
-use Rattle.ser.proofs.+array_writer-array+array_writer-dimension+array_writer-element+array_writer-elements+map_writer-each_key+map_writer-key+map_writer-keys+map_writer-map+map_writer-own_keys+serializer-value.Lts-serializer-value as serializer·value-lts
+use Rattle.ser.proofs.+array_writer-array+array_writer-dimension+array_writer-each_element+array_writer-element+array_writer-elements+map_writer-each_key+map_writer-keyed_value+map_writer-keys+map_writer-map+map_writer-own_keys+serializer-value.Lts-serializer-value as serializer·value-lts
 use Rattle.field_plan.proofs.plan_fields_in.Reads as plan-fields-in-reads
 use Rattle.first_fields.proofs.note_firsts.Reads as note-firsts-reads
 use Rattle.ser.proofs.array_writer.dimension_in.Reads as dimension-in-reads
 use Rattle.ser.proofs.array_writer.enter.Reads as enter-reads
 use Rattle.ser.proofs.map_writer.key_in.Reads as key-in-reads
+use Rattle.ser.proofs.map_writer.note_long.Reads as note-long-reads
 use Rattle.ser.proofs.serializer.end.Reads as end-reads
 use Rattle.ser.proofs.serializer.leaf.Reads as leaf-reads
 use Rattle.shape.proofs.array.is_last.Reads as is-last-reads
@@ -55,10 +59,10 @@ use Rattle.type_category.proofs.type_category.AdsTypeCategory.determine.Reads a
 use Rattle.typebook.proofs.block.count.Reads as count-reads
 use Rattle.typebook.proofs.block.fields.Reads as fields-reads
 use Rattle.typebook.proofs.block.size.Reads as size-reads
-use Rattle.ser.proofs.+array_writer-array+array_writer-dimension+array_writer-element+array_writer-elements+map_writer-each_key+map_writer-key+map_writer-keys+map_writer-map+map_writer-own_keys+serializer-value.{
+use Rattle.ser.proofs.+array_writer-array+array_writer-dimension+array_writer-each_element+array_writer-element+array_writer-elements+map_writer-each_key+map_writer-keyed_value+map_writer-keys+map_writer-map+map_writer-own_keys+serializer-value.{
   statement,
 }
-use Rattle.ser.proofs.+array_writer-array+array_writer-dimension+array_writer-element+array_writer-elements+map_writer-each_key+map_writer-key+map_writer-keys+map_writer-map+map_writer-own_keys+serializer-value.Tie.{
+use Rattle.ser.proofs.+array_writer-array+array_writer-dimension+array_writer-each_element+array_writer-element+array_writer-elements+map_writer-each_key+map_writer-keyed_value+map_writer-keys+map_writer-map+map_writer-own_keys+serializer-value.Tie.{
   close,
 }
 
@@ -80,27 +84,31 @@ ruleset elements-exits = (elements-stop, elements-over, elements-under, elements
 
 abbrev μ-array-writer·array : Measures 4 array-writer·array-kinds.ps ℕ
 μ-array-writer·array κs a =
-    8 * a .1 .1 .1 .1 .1 .1 .1 .1 .0 + 4
+    8 * a .1 .1 .1 .1 .1 .1 .1 .1 .0 + 5
 
 abbrev μ-array-writer·dimension : Measures 4 array-writer·dimension-kinds.ps ℕ
 μ-array-writer·dimension κs a =
-    8 * a .1 .1 .1 .1 .1 .1 .1 .1 .1 .1 .0 + 3
+    8 * a .1 .1 .1 .1 .1 .1 .1 .1 .1 .1 .0 + 4
+
+abbrev μ-array-writer·each-element : Measures 6 array-writer·each-element-kinds.ps ℕ
+μ-array-writer·each-element κs a =
+    8 * a .1 .1 .1 .1 .1 .1 .1 .1 .1 .1 .1 .1 .1 .1 .1 .0 + 2
 
 abbrev μ-array-writer·element : Measures 6 array-writer·element-kinds.ps ℕ
 μ-array-writer·element κs a =
-    8 * a .1 .1 .1 .1 .1 .1 .1 .1 .1 .1 .1 .1 .0 + 1
+    8 * a .1 .1 .1 .1 .1 .1 .1 .1 .1 .1 .1 .1 .1 .0 + 1
 
 abbrev μ-array-writer·elements : Measures 6 array-writer·elements-kinds.ps ℕ
 μ-array-writer·elements κs a =
-    8 * a .1 .1 .1 .1 .1 .1 .1 .1 .1 .1 .1 .1 .1 .0 + 2
+    8 * a .1 .1 .1 .1 .1 .1 .1 .1 .1 .1 .1 .1 .1 .0 + 3
 
 abbrev μ-map-writer·each-key : Measures 6 map-writer·each-key-kinds.ps ℕ
 μ-map-writer·each-key κs a =
     8 * a .1 .1 .1 .1 .1 .1 .1 .1 .1 .1 .0 + 2
 
-abbrev μ-map-writer·key : Measures 6 map-writer·key-kinds.ps ℕ
-μ-map-writer·key κs a =
-    8 * a .1 .1 .1 .1 .1 .1 .1 .1 .1 .0 + 1
+abbrev μ-map-writer·keyed-value : Measures 5 map-writer·keyed-value-kinds.ps ℕ
+μ-map-writer·keyed-value κs a =
+    8 * a .1 .1 .1 .1 .1 .1 .1 .0 + 1
 
 abbrev μ-map-writer·keys : Measures 6 map-writer·keys-kinds.ps ℕ
 μ-map-writer·keys κs a =
@@ -150,6 +158,22 @@ array-writer·dimension-below t =
     (falls 4 array-writer·dimension-kinds.ps _<_ μ-array-writer·dimension t)
     array-writer·dimension.Pre
 
+abbrev array-writer·each-element-at : ℕ → In 6 array-writer·each-element-kinds.ps
+array-writer·each-element-at t =
+    and
+    6
+    array-writer·each-element-kinds.ps
+    (is 6 array-writer·each-element-kinds.ps μ-array-writer·each-element t)
+    array-writer·each-element.Pre
+
+abbrev array-writer·each-element-below : ℕ → In 6 array-writer·each-element-kinds.ps
+array-writer·each-element-below t =
+    and
+    6
+    array-writer·each-element-kinds.ps
+    (falls 6 array-writer·each-element-kinds.ps _<_ μ-array-writer·each-element t)
+    array-writer·each-element.Pre
+
 abbrev array-writer·element-at : ℕ → In 6 array-writer·element-kinds.ps
 array-writer·element-at t =
     and
@@ -198,21 +222,21 @@ map-writer·each-key-below t =
     (falls 6 map-writer·each-key-kinds.ps _<_ μ-map-writer·each-key t)
     map-writer·each-key.Pre
 
-abbrev map-writer·key-at : ℕ → In 6 map-writer·key-kinds.ps
-map-writer·key-at t =
+abbrev map-writer·keyed-value-at : ℕ → In 5 map-writer·keyed-value-kinds.ps
+map-writer·keyed-value-at t =
     and
-    6
-    map-writer·key-kinds.ps
-    (is 6 map-writer·key-kinds.ps μ-map-writer·key t)
-    map-writer·key.Pre
+    5
+    map-writer·keyed-value-kinds.ps
+    (is 5 map-writer·keyed-value-kinds.ps μ-map-writer·keyed-value t)
+    map-writer·keyed-value.Pre
 
-abbrev map-writer·key-below : ℕ → In 6 map-writer·key-kinds.ps
-map-writer·key-below t =
+abbrev map-writer·keyed-value-below : ℕ → In 5 map-writer·keyed-value-kinds.ps
+map-writer·keyed-value-below t =
     and
-    6
-    map-writer·key-kinds.ps
-    (falls 6 map-writer·key-kinds.ps _<_ μ-map-writer·key t)
-    map-writer·key.Pre
+    5
+    map-writer·keyed-value-kinds.ps
+    (falls 5 map-writer·keyed-value-kinds.ps _<_ μ-map-writer·keyed-value t)
+    map-writer·keyed-value.Pre
 
 abbrev map-writer·keys-at : ℕ → In 6 map-writer·keys-kinds.ps
 map-writer·keys-at t =
@@ -284,23 +308,26 @@ array-writer·array-calls t = (enter-reads.Asked, enter-reads.Learnt, determine-
 abbrev array-writer·dimension-calls : ℕ → array-writer·dimension-lts.Claims
 array-writer·dimension-calls t = (dimension-in-reads.Asked, dimension-in-reads.Learnt, array-writer·elements-below t, array-writer·elements.Post)
 
+abbrev array-writer·each-element-calls : ℕ → array-writer·each-element-lts.Claims
+array-writer·each-element-calls t = (stride-of-reads.Asked, stride-of-reads.Learnt, array-writer·element-below t, array-writer·element.Post, end-reads.Asked, end-reads.Learnt)
+
 abbrev array-writer·element-calls : ℕ → array-writer·element-lts.Claims
-array-writer·element-calls t = (is-last-reads.Asked, is-last-reads.Learnt, serializer·value-below t, serializer·value.Post, array-writer·dimension-below t, array-writer·dimension.Post)
+array-writer·element-calls t = (serializer·value-below t, serializer·value.Post, array-writer·dimension-below t, array-writer·dimension.Post)
 
 abbrev array-writer·elements-calls : ℕ → array-writer·elements-lts.Claims
-array-writer·elements-calls t = (count-reads.Asked, count-reads.Learnt, stride-of-reads.Asked, stride-of-reads.Learnt, array-writer·element-below t, array-writer·element.Post, end-reads.Asked, end-reads.Learnt)
+array-writer·elements-calls t = (count-reads.Asked, count-reads.Learnt, is-last-reads.Asked, is-last-reads.Learnt, fields-reads.Asked, fields-reads.Learnt, array-writer·each-element-below t, array-writer·each-element.Post)
 
 abbrev map-writer·each-key-calls : ℕ → map-writer·each-key-lts.Claims
-map-writer·each-key-calls t = (map-writer·key-below t, map-writer·key.Post, end-reads.Asked, end-reads.Learnt)
+map-writer·each-key-calls t = (key-in-reads.Asked, key-in-reads.Learnt, map-writer·keyed-value-below t, map-writer·keyed-value.Post, end-reads.Asked, end-reads.Learnt)
 
-abbrev map-writer·key-calls : ℕ → map-writer·key-lts.Claims
-map-writer·key-calls t = (key-in-reads.Asked, key-in-reads.Learnt, serializer·value-below t, serializer·value.Post)
+abbrev map-writer·keyed-value-calls : ℕ → map-writer·keyed-value-lts.Claims
+map-writer·keyed-value-calls t = (serializer·value-below t, serializer·value.Post)
 
 abbrev map-writer·keys-calls : ℕ → map-writer·keys-lts.Claims
-map-writer·keys-calls t = (fields-reads.Asked, fields-reads.Learnt, map-writer·each-key-below t, map-writer·each-key.Post, note-firsts-reads.Asked, note-firsts-reads.Learnt)
+map-writer·keys-calls t = (fields-reads.Asked, fields-reads.Learnt, map-writer·each-key-below t, map-writer·each-key.Post, note-long-reads.Asked, note-long-reads.Learnt)
 
 abbrev map-writer·map-calls : ℕ → map-writer·map-lts.Claims
-map-writer·map-calls t = (shape-of-reads.Asked, shape-of-reads.Learnt, size-reads.Asked, size-reads.Learnt, map-writer·keys-below t, map-writer·keys.Post, map-writer·own-keys-below t, map-writer·own-keys.Post)
+map-writer·map-calls t = (shape-of-reads.Asked, shape-of-reads.Learnt, size-reads.Asked, size-reads.Learnt, map-writer·each-key-below t, map-writer·each-key.Post, map-writer·own-keys-below t, map-writer·own-keys.Post)
 
 abbrev map-writer·own-keys-calls : ℕ → map-writer·own-keys-lts.Claims
 map-writer·own-keys-calls t = (plan-fields-in-reads.Asked, plan-fields-in-reads.Learnt, note-firsts-reads.Asked, note-firsts-reads.Learnt, map-writer·keys-below t, map-writer·keys.Post)
@@ -377,8 +404,91 @@ array-writer·dimension-returns t c = search dimensions
 array-writer·dimension-returns-2 : (t : ℕ) → array-writer·dimension-lts.Need-returns-2 (array-writer·dimension-calls t) (array-writer·dimension-at t) array-writer·dimension.Post
 array-writer·dimension-returns-2 t c = search dimensions
 
-array-writer·element-is-last-requires : (t : ℕ) → array-writer·element-lts.Need-is-last-requires (array-writer·element-calls t) (array-writer·element-at t) array-writer·element.Post
-array-writer·element-is-last-requires t c κs = search needs
+abbrev array-writer·each-element-Inv-loop : array-writer·each-element-lts.InvT-loop
+array-writer·each-element-Inv-loop book index width d t e last category plan firsts tape text n k left out₀ stride here₀ from₀ i₀ out here from i =
+    (i ≤ n) × Along book d t e n stride from i (length out₀) × (length out ≡ length out₀) × ((outcomeOf here out then elementsFrom (walk (ctx book width tape text) left) (ctx book width tape text) (elementItem (ctx book width tape text) d t e) (strideOf book d t e) n i from (k - i)) ≡ (outcomeOf here₀ out₀ then elementsFrom (walk (ctx book width tape text) left) (ctx book width tape text) (elementItem (ctx book width tape text) d t e) (strideOf book d t e) n 0 0 k))
+
+abbrev array-writer·each-element-μ-loop : array-writer·each-element-lts.MeasureT-loop
+array-writer·each-element-μ-loop book index width d t e last category plan firsts tape text n k left out₀ stride here₀ from₀ i₀ out here from i =
+    k - i
+
+array-writer·each-element-stride-of-requires :
+    (t : ℕ) → array-writer·each-element-lts.Need-stride-of-requires (array-writer·each-element-calls t) (array-writer·each-element-at t) array-writer·each-element.Post array-writer·each-element-Inv-loop array-writer·each-element-μ-loop
+array-writer·each-element-stride-of-requires t c κs = search needs
+
+array-writer·each-element-loop-holds : (t : ℕ) → array-writer·each-element-lts.Need-loop-holds (array-writer·each-element-calls t) (array-writer·each-element-at t) array-writer·each-element.Post array-writer·each-element-Inv-loop array-writer·each-element-μ-loop
+array-writer·each-element-loop-holds t c = (search needs, search along-start, search needs, search elements-start)
+
+array-writer·each-element-enum-known-here : (t : ℕ) → array-writer·each-element-lts.Need-enum-known-here (array-writer·each-element-calls t) (array-writer·each-element-at t) array-writer·each-element.Post array-writer·each-element-Inv-loop array-writer·each-element-μ-loop
+array-writer·each-element-enum-known-here t c = search needs
+
+array-writer·each-element-enum-told : (t : ℕ) → array-writer·each-element-lts.Need-enum-told (array-writer·each-element-calls t) (array-writer·each-element-at t) array-writer·each-element.Post array-writer·each-element-Inv-loop array-writer·each-element-μ-loop
+array-writer·each-element-enum-told t c = search needs
+
+array-writer·each-element-same-length : (t : ℕ) → array-writer·each-element-lts.Need-same-length (array-writer·each-element-calls t) (array-writer·each-element-at t) array-writer·each-element.Post array-writer·each-element-Inv-loop array-writer·each-element-μ-loop
+array-writer·each-element-same-length t c = search needs
+
+array-writer·each-element-returns : (t : ℕ) → array-writer·each-element-lts.Need-returns (array-writer·each-element-calls t) (array-writer·each-element-at t) array-writer·each-element.Post array-writer·each-element-Inv-loop array-writer·each-element-μ-loop
+array-writer·each-element-returns t c = search elements-exits
+
+array-writer·each-element-same-length-2 : (t : ℕ) → array-writer·each-element-lts.Need-same-length-2 (array-writer·each-element-calls t) (array-writer·each-element-at t) array-writer·each-element.Post array-writer·each-element-Inv-loop array-writer·each-element-μ-loop
+array-writer·each-element-same-length-2 t c = search needs
+
+array-writer·each-element-returns-2 : (t : ℕ) → array-writer·each-element-lts.Need-returns-2 (array-writer·each-element-calls t) (array-writer·each-element-at t) array-writer·each-element.Post array-writer·each-element-Inv-loop array-writer·each-element-μ-loop
+array-writer·each-element-returns-2 t c = search elements-exits
+
+array-writer·each-element-add-to : (t : ℕ) → array-writer·each-element-lts.Need-add-to (array-writer·each-element-calls t) (array-writer·each-element-at t) array-writer·each-element.Post array-writer·each-element-Inv-loop array-writer·each-element-μ-loop
+array-writer·each-element-add-to t c = along-fits _ _ _ _ _ _ _ _ _ (search needs) (c .before .before .before .before .before .loop .inv .1) (search needs)
+
+array-writer·each-element-sub-element : (t : ℕ) → array-writer·each-element-lts.Need-sub-element (array-writer·each-element-calls t) (array-writer·each-element-at t) array-writer·each-element.Post array-writer·each-element-Inv-loop array-writer·each-element-μ-loop
+array-writer·each-element-sub-element t c = search needs
+
+array-writer·each-element-part-element-start :
+    (t : ℕ) → array-writer·each-element-lts.Need-part-element-start (array-writer·each-element-calls t) (array-writer·each-element-at t) array-writer·each-element.Post array-writer·each-element-Inv-loop array-writer·each-element-μ-loop
+array-writer·each-element-part-element-start t c = search needs
+
+array-writer·each-element-part-element-end : (t : ℕ) → array-writer·each-element-lts.Need-part-element-end (array-writer·each-element-calls t) (array-writer·each-element-at t) array-writer·each-element.Post array-writer·each-element-Inv-loop array-writer·each-element-μ-loop
+array-writer·each-element-part-element-end t c = part-end _ _ _ _ _ _ _ _ _ _ (search needs) (c .before .before .before .before .before .loop .inv .2) (c .before .before .before .before .before .loop .inv .1)
+
+array-writer·each-element-element-requires : (t : ℕ) → array-writer·each-element-lts.Need-element-requires (array-writer·each-element-calls t) (array-writer·each-element-at t) array-writer·each-element.Post array-writer·each-element-Inv-loop array-writer·each-element-μ-loop
+array-writer·each-element-element-requires t c κs = (search needs, (search needs, search needs, search needs, search needs, search needs, search needs, search part-fills))
+
+array-writer·each-element-add-i : (t : ℕ) → array-writer·each-element-lts.Need-add-i (array-writer·each-element-calls t) (array-writer·each-element-at t) array-writer·each-element.Post array-writer·each-element-Inv-loop array-writer·each-element-μ-loop
+array-writer·each-element-add-i t c = search needs
+
+array-writer·each-element-loop-less : (t : ℕ) → array-writer·each-element-lts.Need-loop-less (array-writer·each-element-calls t) (array-writer·each-element-at t) array-writer·each-element.Post array-writer·each-element-Inv-loop array-writer·each-element-μ-loop
+array-writer·each-element-loop-less t c = search needs
+
+array-writer·each-element-loop-again : (t : ℕ) → array-writer·each-element-lts.Need-loop-again (array-writer·each-element-calls t) (array-writer·each-element-at t) array-writer·each-element.Post array-writer·each-element-Inv-loop array-writer·each-element-μ-loop
+array-writer·each-element-loop-again t c = (search needs, search along-again, search needs, search elements-again)
+
+array-writer·each-element-enum-known-here-2 :
+    (t : ℕ) → array-writer·each-element-lts.Need-enum-known-here-2 (array-writer·each-element-calls t) (array-writer·each-element-at t) array-writer·each-element.Post array-writer·each-element-Inv-loop array-writer·each-element-μ-loop
+array-writer·each-element-enum-known-here-2 t c = search needs
+
+array-writer·each-element-enum-told-2 : (t : ℕ) → array-writer·each-element-lts.Need-enum-told-2 (array-writer·each-element-calls t) (array-writer·each-element-at t) array-writer·each-element.Post array-writer·each-element-Inv-loop array-writer·each-element-μ-loop
+array-writer·each-element-enum-told-2 t c = search needs
+
+array-writer·each-element-same-length-3 : (t : ℕ) → array-writer·each-element-lts.Need-same-length-3 (array-writer·each-element-calls t) (array-writer·each-element-at t) array-writer·each-element.Post array-writer·each-element-Inv-loop array-writer·each-element-μ-loop
+array-writer·each-element-same-length-3 t c = search needs
+
+array-writer·each-element-returns-3 : (t : ℕ) → array-writer·each-element-lts.Need-returns-3 (array-writer·each-element-calls t) (array-writer·each-element-at t) array-writer·each-element.Post array-writer·each-element-Inv-loop array-writer·each-element-μ-loop
+array-writer·each-element-returns-3 t c = search elements-exits
+
+array-writer·each-element-same-length-4 : (t : ℕ) → array-writer·each-element-lts.Need-same-length-4 (array-writer·each-element-calls t) (array-writer·each-element-at t) array-writer·each-element.Post array-writer·each-element-Inv-loop array-writer·each-element-μ-loop
+array-writer·each-element-same-length-4 t c = search needs
+
+array-writer·each-element-returns-4 : (t : ℕ) → array-writer·each-element-lts.Need-returns-4 (array-writer·each-element-calls t) (array-writer·each-element-at t) array-writer·each-element.Post array-writer·each-element-Inv-loop array-writer·each-element-μ-loop
+array-writer·each-element-returns-4 t c = search elements-exits
+
+array-writer·each-element-end-requires : (t : ℕ) → array-writer·each-element-lts.Need-end-requires (array-writer·each-element-calls t) (array-writer·each-element-at t) array-writer·each-element.Post array-writer·each-element-Inv-loop array-writer·each-element-μ-loop
+array-writer·each-element-end-requires t c κs = search needs
+
+array-writer·each-element-same-length-5 : (t : ℕ) → array-writer·each-element-lts.Need-same-length-5 (array-writer·each-element-calls t) (array-writer·each-element-at t) array-writer·each-element.Post array-writer·each-element-Inv-loop array-writer·each-element-μ-loop
+array-writer·each-element-same-length-5 t c = search needs
+
+array-writer·each-element-returns-5 : (t : ℕ) → array-writer·each-element-lts.Need-returns-5 (array-writer·each-element-calls t) (array-writer·each-element-at t) array-writer·each-element.Post array-writer·each-element-Inv-loop array-writer·each-element-μ-loop
+array-writer·each-element-returns-5 t c = search elements-exits
 
 array-writer·element-value-requires : (t : ℕ) → array-writer·element-lts.Need-value-requires (array-writer·element-calls t) (array-writer·element-at t) array-writer·element.Post
 array-writer·element-value-requires t c κs = (search needs, (search needs, search needs, search needs, search last-given, search needs))
@@ -408,97 +518,62 @@ array-writer·element-same-length-2 t c = search needs
 array-writer·element-returns-3 : (t : ℕ) → array-writer·element-lts.Need-returns-3 (array-writer·element-calls t) (array-writer·element-at t) array-writer·element.Post
 array-writer·element-returns-3 t c = search element-further
 
-abbrev array-writer·elements-Inv-loop : array-writer·elements-lts.InvT-loop
-array-writer·elements-Inv-loop book index width d t e category plan firsts tape text k left out₀ n stride here₀ from₀ i₀ out here from i =
-    (i ≤ n) × Along book d t e n stride from i (length out₀) × (length out ≡ length out₀) × ((outcomeOf here out then elementsFrom (walk (ctx book width tape text) left) (ctx book width tape text) (elementItem (ctx book width tape text) d t e) (strideOf book d t e) n i from (k - i)) ≡ (outcomeOf here₀ out₀ then elementsFrom (walk (ctx book width tape text) left) (ctx book width tape text) (elementItem (ctx book width tape text) d t e) (strideOf book d t e) n 0 0 k))
-
-abbrev array-writer·elements-μ-loop : array-writer·elements-lts.MeasureT-loop
-array-writer·elements-μ-loop book index width d t e category plan firsts tape text k left out₀ n stride here₀ from₀ i₀ out here from i =
-    k - i
-
-array-writer·elements-count-requires : (t : ℕ) → array-writer·elements-lts.Need-count-requires (array-writer·elements-calls t) (array-writer·elements-at t) array-writer·elements.Post array-writer·elements-Inv-loop array-writer·elements-μ-loop
+array-writer·elements-count-requires : (t : ℕ) → array-writer·elements-lts.Need-count-requires (array-writer·elements-calls t) (array-writer·elements-at t) array-writer·elements.Post
 array-writer·elements-count-requires t c κs = search needs
 
-array-writer·elements-cast-n : (t : ℕ) → array-writer·elements-lts.Need-cast-n (array-writer·elements-calls t) (array-writer·elements-at t) array-writer·elements.Post array-writer·elements-Inv-loop array-writer·elements-μ-loop
+array-writer·elements-cast-n : (t : ℕ) → array-writer·elements-lts.Need-cast-n (array-writer·elements-calls t) (array-writer·elements-at t) array-writer·elements.Post
 array-writer·elements-cast-n t c = search needs
 
-array-writer·elements-stride-of-requires :
-    (t : ℕ) → array-writer·elements-lts.Need-stride-of-requires (array-writer·elements-calls t) (array-writer·elements-at t) array-writer·elements.Post array-writer·elements-Inv-loop array-writer·elements-μ-loop
-array-writer·elements-stride-of-requires t c κs = search needs
+array-writer·elements-is-last-requires : (t : ℕ) → array-writer·elements-lts.Need-is-last-requires (array-writer·elements-calls t) (array-writer·elements-at t) array-writer·elements.Post
+array-writer·elements-is-last-requires t c κs = search needs
 
-array-writer·elements-loop-holds : (t : ℕ) → array-writer·elements-lts.Need-loop-holds (array-writer·elements-calls t) (array-writer·elements-at t) array-writer·elements.Post array-writer·elements-Inv-loop array-writer·elements-μ-loop
-array-writer·elements-loop-holds t c = (search needs, search along-start, search needs, search elements-start)
+array-writer·elements-fields-requires : (t : ℕ) → array-writer·elements-lts.Need-fields-requires (array-writer·elements-calls t) (array-writer·elements-at t) array-writer·elements.Post
+array-writer·elements-fields-requires t c κs = search needs
 
-array-writer·elements-enum-known-here : (t : ℕ) → array-writer·elements-lts.Need-enum-known-here (array-writer·elements-calls t) (array-writer·elements-at t) array-writer·elements.Post array-writer·elements-Inv-loop array-writer·elements-μ-loop
-array-writer·elements-enum-known-here t c = search needs
+array-writer·elements-sub-each-element : (t : ℕ) → array-writer·elements-lts.Need-sub-each-element (array-writer·elements-calls t) (array-writer·elements-at t) array-writer·elements.Post
+array-writer·elements-sub-each-element t c = search needs
 
-array-writer·elements-enum-told : (t : ℕ) → array-writer·elements-lts.Need-enum-told (array-writer·elements-calls t) (array-writer·elements-at t) array-writer·elements.Post array-writer·elements-Inv-loop array-writer·elements-μ-loop
-array-writer·elements-enum-told t c = search needs
+array-writer·elements-part-each-element-start : (t : ℕ) → array-writer·elements-lts.Need-part-each-element-start (array-writer·elements-calls t) (array-writer·elements-at t) array-writer·elements.Post
+array-writer·elements-part-each-element-start t c = search needs
 
-array-writer·elements-same-length : (t : ℕ) → array-writer·elements-lts.Need-same-length (array-writer·elements-calls t) (array-writer·elements-at t) array-writer·elements.Post array-writer·elements-Inv-loop array-writer·elements-μ-loop
+array-writer·elements-part-each-element-end : (t : ℕ) → array-writer·elements-lts.Need-part-each-element-end (array-writer·elements-calls t) (array-writer·elements-at t) array-writer·elements.Post
+array-writer·elements-part-each-element-end t c = search needs
+
+array-writer·elements-sub-each-element-2 : (t : ℕ) → array-writer·elements-lts.Need-sub-each-element-2 (array-writer·elements-calls t) (array-writer·elements-at t) array-writer·elements.Post
+array-writer·elements-sub-each-element-2 t c = search needs
+
+array-writer·elements-part-each-element-start-2 : (t : ℕ) → array-writer·elements-lts.Need-part-each-element-start-2 (array-writer·elements-calls t) (array-writer·elements-at t) array-writer·elements.Post
+array-writer·elements-part-each-element-start-2 t c = search needs
+
+array-writer·elements-part-each-element-end-2 : (t : ℕ) → array-writer·elements-lts.Need-part-each-element-end-2 (array-writer·elements-calls t) (array-writer·elements-at t) array-writer·elements.Post
+array-writer·elements-part-each-element-end-2 t c = search needs
+
+array-writer·elements-each-element-requires : (t : ℕ) → array-writer·elements-lts.Need-each-element-requires (array-writer·elements-calls t) (array-writer·elements-at t) array-writer·elements.Post
+array-writer·elements-each-element-requires t c κs = (search needs, (search needs, search needs, search needs, search needs, search needs, search element-none, search firsts-empty, search needs))
+
+array-writer·elements-same-length : (t : ℕ) → array-writer·elements-lts.Need-same-length (array-writer·elements-calls t) (array-writer·elements-at t) array-writer·elements.Post
 array-writer·elements-same-length t c = search needs
 
-array-writer·elements-returns : (t : ℕ) → array-writer·elements-lts.Need-returns (array-writer·elements-calls t) (array-writer·elements-at t) array-writer·elements.Post array-writer·elements-Inv-loop array-writer·elements-μ-loop
-array-writer·elements-returns t c = search elements-exits
+array-writer·elements-returns : (t : ℕ) → array-writer·elements-lts.Need-returns (array-writer·elements-calls t) (array-writer·elements-at t) array-writer·elements.Post
+array-writer·elements-returns t c = search needs
 
-array-writer·elements-same-length-2 : (t : ℕ) → array-writer·elements-lts.Need-same-length-2 (array-writer·elements-calls t) (array-writer·elements-at t) array-writer·elements.Post array-writer·elements-Inv-loop array-writer·elements-μ-loop
+array-writer·elements-each-element-requires-2 : (t : ℕ) → array-writer·elements-lts.Need-each-element-requires-2 (array-writer·elements-calls t) (array-writer·elements-at t) array-writer·elements.Post
+array-writer·elements-each-element-requires-2 t c κs = (search needs, (search needs, search needs, search needs, search needs, search needs, search needs, search needs, search needs))
+
+array-writer·elements-same-length-2 : (t : ℕ) → array-writer·elements-lts.Need-same-length-2 (array-writer·elements-calls t) (array-writer·elements-at t) array-writer·elements.Post
 array-writer·elements-same-length-2 t c = search needs
 
-array-writer·elements-returns-2 : (t : ℕ) → array-writer·elements-lts.Need-returns-2 (array-writer·elements-calls t) (array-writer·elements-at t) array-writer·elements.Post array-writer·elements-Inv-loop array-writer·elements-μ-loop
-array-writer·elements-returns-2 t c = search elements-exits
+array-writer·elements-returns-2 : (t : ℕ) → array-writer·elements-lts.Need-returns-2 (array-writer·elements-calls t) (array-writer·elements-at t) array-writer·elements.Post
+array-writer·elements-returns-2 t c = search needs
 
-array-writer·elements-add-to : (t : ℕ) → array-writer·elements-lts.Need-add-to (array-writer·elements-calls t) (array-writer·elements-at t) array-writer·elements.Post array-writer·elements-Inv-loop array-writer·elements-μ-loop
-array-writer·elements-add-to t c = along-fits _ _ _ _ _ _ _ _ _ (search needs) (c .before .before .before .before .before .loop .inv .1) (search needs)
+array-writer·elements-each-element-requires-3 : (t : ℕ) → array-writer·elements-lts.Need-each-element-requires-3 (array-writer·elements-calls t) (array-writer·elements-at t) array-writer·elements.Post
+array-writer·elements-each-element-requires-3 t c κs = (search needs, (search needs, search needs, search needs, search needs, search needs, search needs, search needs, search needs))
 
-array-writer·elements-sub-element : (t : ℕ) → array-writer·elements-lts.Need-sub-element (array-writer·elements-calls t) (array-writer·elements-at t) array-writer·elements.Post array-writer·elements-Inv-loop array-writer·elements-μ-loop
-array-writer·elements-sub-element t c = search needs
-
-array-writer·elements-part-element-start :
-    (t : ℕ) → array-writer·elements-lts.Need-part-element-start (array-writer·elements-calls t) (array-writer·elements-at t) array-writer·elements.Post array-writer·elements-Inv-loop array-writer·elements-μ-loop
-array-writer·elements-part-element-start t c = search needs
-
-array-writer·elements-part-element-end : (t : ℕ) → array-writer·elements-lts.Need-part-element-end (array-writer·elements-calls t) (array-writer·elements-at t) array-writer·elements.Post array-writer·elements-Inv-loop array-writer·elements-μ-loop
-array-writer·elements-part-element-end t c = part-end _ _ _ _ _ _ _ _ _ _ (search needs) (c .before .before .before .before .before .loop .inv .2) (c .before .before .before .before .before .loop .inv .1)
-
-array-writer·elements-element-requires : (t : ℕ) → array-writer·elements-lts.Need-element-requires (array-writer·elements-calls t) (array-writer·elements-at t) array-writer·elements.Post array-writer·elements-Inv-loop array-writer·elements-μ-loop
-array-writer·elements-element-requires t c κs = (search needs, (search needs, search needs, search needs, search needs, search needs, search part-fills))
-
-array-writer·elements-add-i : (t : ℕ) → array-writer·elements-lts.Need-add-i (array-writer·elements-calls t) (array-writer·elements-at t) array-writer·elements.Post array-writer·elements-Inv-loop array-writer·elements-μ-loop
-array-writer·elements-add-i t c = search needs
-
-array-writer·elements-loop-less : (t : ℕ) → array-writer·elements-lts.Need-loop-less (array-writer·elements-calls t) (array-writer·elements-at t) array-writer·elements.Post array-writer·elements-Inv-loop array-writer·elements-μ-loop
-array-writer·elements-loop-less t c = search needs
-
-array-writer·elements-loop-again : (t : ℕ) → array-writer·elements-lts.Need-loop-again (array-writer·elements-calls t) (array-writer·elements-at t) array-writer·elements.Post array-writer·elements-Inv-loop array-writer·elements-μ-loop
-array-writer·elements-loop-again t c = (search needs, search along-again, search needs, search elements-again)
-
-array-writer·elements-enum-known-here-2 :
-    (t : ℕ) → array-writer·elements-lts.Need-enum-known-here-2 (array-writer·elements-calls t) (array-writer·elements-at t) array-writer·elements.Post array-writer·elements-Inv-loop array-writer·elements-μ-loop
-array-writer·elements-enum-known-here-2 t c = search needs
-
-array-writer·elements-enum-told-2 : (t : ℕ) → array-writer·elements-lts.Need-enum-told-2 (array-writer·elements-calls t) (array-writer·elements-at t) array-writer·elements.Post array-writer·elements-Inv-loop array-writer·elements-μ-loop
-array-writer·elements-enum-told-2 t c = search needs
-
-array-writer·elements-same-length-3 : (t : ℕ) → array-writer·elements-lts.Need-same-length-3 (array-writer·elements-calls t) (array-writer·elements-at t) array-writer·elements.Post array-writer·elements-Inv-loop array-writer·elements-μ-loop
+array-writer·elements-same-length-3 : (t : ℕ) → array-writer·elements-lts.Need-same-length-3 (array-writer·elements-calls t) (array-writer·elements-at t) array-writer·elements.Post
 array-writer·elements-same-length-3 t c = search needs
 
-array-writer·elements-returns-3 : (t : ℕ) → array-writer·elements-lts.Need-returns-3 (array-writer·elements-calls t) (array-writer·elements-at t) array-writer·elements.Post array-writer·elements-Inv-loop array-writer·elements-μ-loop
-array-writer·elements-returns-3 t c = search elements-exits
-
-array-writer·elements-same-length-4 : (t : ℕ) → array-writer·elements-lts.Need-same-length-4 (array-writer·elements-calls t) (array-writer·elements-at t) array-writer·elements.Post array-writer·elements-Inv-loop array-writer·elements-μ-loop
-array-writer·elements-same-length-4 t c = search needs
-
-array-writer·elements-returns-4 : (t : ℕ) → array-writer·elements-lts.Need-returns-4 (array-writer·elements-calls t) (array-writer·elements-at t) array-writer·elements.Post array-writer·elements-Inv-loop array-writer·elements-μ-loop
-array-writer·elements-returns-4 t c = search elements-exits
-
-array-writer·elements-end-requires : (t : ℕ) → array-writer·elements-lts.Need-end-requires (array-writer·elements-calls t) (array-writer·elements-at t) array-writer·elements.Post array-writer·elements-Inv-loop array-writer·elements-μ-loop
-array-writer·elements-end-requires t c κs = search needs
-
-array-writer·elements-same-length-5 : (t : ℕ) → array-writer·elements-lts.Need-same-length-5 (array-writer·elements-calls t) (array-writer·elements-at t) array-writer·elements.Post array-writer·elements-Inv-loop array-writer·elements-μ-loop
-array-writer·elements-same-length-5 t c = search needs
-
-array-writer·elements-returns-5 : (t : ℕ) → array-writer·elements-lts.Need-returns-5 (array-writer·elements-calls t) (array-writer·elements-at t) array-writer·elements.Post array-writer·elements-Inv-loop array-writer·elements-μ-loop
-array-writer·elements-returns-5 t c = search elements-exits
+array-writer·elements-returns-3 : (t : ℕ) → array-writer·elements-lts.Need-returns-3 (array-writer·elements-calls t) (array-writer·elements-at t) array-writer·elements.Post
+array-writer·elements-returns-3 t c = search needs
 
 abbrev map-writer·each-key-Inv-loop : map-writer·each-key-lts.InvT-loop
 map-writer·each-key-Inv-loop book index width t plan firsts tape text n left out₀ here₀ i₀ out here i =
@@ -523,8 +598,11 @@ map-writer·each-key-same-length t c = search needs
 map-writer·each-key-returns : (t : ℕ) → map-writer·each-key-lts.Need-returns (map-writer·each-key-calls t) (map-writer·each-key-at t) map-writer·each-key.Post map-writer·each-key-Inv-loop map-writer·each-key-μ-loop
 map-writer·each-key-returns t c = search keys-exits
 
-map-writer·each-key-key-requires : (t : ℕ) → map-writer·each-key-lts.Need-key-requires (map-writer·each-key-calls t) (map-writer·each-key-at t) map-writer·each-key.Post map-writer·each-key-Inv-loop map-writer·each-key-μ-loop
-map-writer·each-key-key-requires t c κs = search needs
+map-writer·each-key-key-in-requires : (t : ℕ) → map-writer·each-key-lts.Need-key-in-requires (map-writer·each-key-calls t) (map-writer·each-key-at t) map-writer·each-key.Post map-writer·each-key-Inv-loop map-writer·each-key-μ-loop
+map-writer·each-key-key-in-requires t c κs = search needs
+
+map-writer·each-key-keyed-value-requires : (t : ℕ) → map-writer·each-key-lts.Need-keyed-value-requires (map-writer·each-key-calls t) (map-writer·each-key-at t) map-writer·each-key.Post map-writer·each-key-Inv-loop map-writer·each-key-μ-loop
+map-writer·each-key-keyed-value-requires t c κs = (search needs, search key-all)
 
 map-writer·each-key-add-i : (t : ℕ) → map-writer·each-key-lts.Need-add-i (map-writer·each-key-calls t) (map-writer·each-key-at t) map-writer·each-key.Post map-writer·each-key-Inv-loop map-writer·each-key-μ-loop
 map-writer·each-key-add-i t c = search needs
@@ -533,7 +611,7 @@ map-writer·each-key-loop-less : (t : ℕ) → map-writer·each-key-lts.Need-loo
 map-writer·each-key-loop-less t c = search needs
 
 map-writer·each-key-loop-again : (t : ℕ) → map-writer·each-key-lts.Need-loop-again (map-writer·each-key-calls t) (map-writer·each-key-at t) map-writer·each-key.Post map-writer·each-key-Inv-loop map-writer·each-key-μ-loop
-map-writer·each-key-loop-again t c = (search needs, search keys-again)
+map-writer·each-key-loop-again t c = (search needs, search keys-turn)
 
 map-writer·each-key-enum-known-here-2 : (t : ℕ) → map-writer·each-key-lts.Need-enum-known-here-2 (map-writer·each-key-calls t) (map-writer·each-key-at t) map-writer·each-key.Post map-writer·each-key-Inv-loop map-writer·each-key-μ-loop
 map-writer·each-key-enum-known-here-2 t c = search needs
@@ -556,65 +634,62 @@ map-writer·each-key-same-length-3 t c = search needs
 map-writer·each-key-returns-3 : (t : ℕ) → map-writer·each-key-lts.Need-returns-3 (map-writer·each-key-calls t) (map-writer·each-key-at t) map-writer·each-key.Post map-writer·each-key-Inv-loop map-writer·each-key-μ-loop
 map-writer·each-key-returns-3 t c = search keys-exits
 
-map-writer·key-key-in-requires : (t : ℕ) → map-writer·key-lts.Need-key-in-requires (map-writer·key-calls t) (map-writer·key-at t) map-writer·key.Post
-map-writer·key-key-in-requires t c κs = search needs
+map-writer·keyed-value-enum-known-keyed : (t : ℕ) → map-writer·keyed-value-lts.Need-enum-known-keyed (map-writer·keyed-value-calls t) (map-writer·keyed-value-at t) map-writer·keyed-value.Post
+map-writer·keyed-value-enum-known-keyed t c = search needs
 
-map-writer·key-enum-known-keyed : (t : ℕ) → map-writer·key-lts.Need-enum-known-keyed (map-writer·key-calls t) (map-writer·key-at t) map-writer·key.Post
-map-writer·key-enum-known-keyed t c = search needs
+map-writer·keyed-value-cast-from : (t : ℕ) → map-writer·keyed-value-lts.Need-cast-from (map-writer·keyed-value-calls t) (map-writer·keyed-value-at t) map-writer·keyed-value.Post
+map-writer·keyed-value-cast-from t c = search needs
 
-map-writer·key-cast-from : (t : ℕ) → map-writer·key-lts.Need-cast-from (map-writer·key-calls t) (map-writer·key-at t) map-writer·key.Post
-map-writer·key-cast-from t c = search needs
+map-writer·keyed-value-cast-to : (t : ℕ) → map-writer·keyed-value-lts.Need-cast-to (map-writer·keyed-value-calls t) (map-writer·keyed-value-at t) map-writer·keyed-value.Post
+map-writer·keyed-value-cast-to t c = search needs
 
-map-writer·key-cast-to : (t : ℕ) → map-writer·key-lts.Need-cast-to (map-writer·key-calls t) (map-writer·key-at t) map-writer·key.Post
-map-writer·key-cast-to t c = search needs
+map-writer·keyed-value-add-to : (t : ℕ) → map-writer·keyed-value-lts.Need-add-to (map-writer·keyed-value-calls t) (map-writer·keyed-value-at t) map-writer·keyed-value.Post
+map-writer·keyed-value-add-to t c = search needs
 
-map-writer·key-add-to : (t : ℕ) → map-writer·key-lts.Need-add-to (map-writer·key-calls t) (map-writer·key-at t) map-writer·key.Post
-map-writer·key-add-to t c = search needs
+map-writer·keyed-value-returns : (t : ℕ) → map-writer·keyed-value-lts.Need-returns (map-writer·keyed-value-calls t) (map-writer·keyed-value-at t) map-writer·keyed-value.Post
+map-writer·keyed-value-returns t c = search key-exits
 
-map-writer·key-returns : (t : ℕ) → map-writer·key-lts.Need-returns (map-writer·key-calls t) (map-writer·key-at t) map-writer·key.Post
-map-writer·key-returns t c = search key-exits
+map-writer·keyed-value-sub-value : (t : ℕ) → map-writer·keyed-value-lts.Need-sub-value (map-writer·keyed-value-calls t) (map-writer·keyed-value-at t) map-writer·keyed-value.Post
+map-writer·keyed-value-sub-value t c = search needs
 
-map-writer·key-sub-value : (t : ℕ) → map-writer·key-lts.Need-sub-value (map-writer·key-calls t) (map-writer·key-at t) map-writer·key.Post
-map-writer·key-sub-value t c = search needs
+map-writer·keyed-value-part-value-start : (t : ℕ) → map-writer·keyed-value-lts.Need-part-value-start (map-writer·keyed-value-calls t) (map-writer·keyed-value-at t) map-writer·keyed-value.Post
+map-writer·keyed-value-part-value-start t c = search needs
 
-map-writer·key-part-value-start : (t : ℕ) → map-writer·key-lts.Need-part-value-start (map-writer·key-calls t) (map-writer·key-at t) map-writer·key.Post
-map-writer·key-part-value-start t c = search needs
+map-writer·keyed-value-part-value-end : (t : ℕ) → map-writer·keyed-value-lts.Need-part-value-end (map-writer·keyed-value-calls t) (map-writer·keyed-value-at t) map-writer·keyed-value.Post
+map-writer·keyed-value-part-value-end t c = search needs
 
-map-writer·key-part-value-end : (t : ℕ) → map-writer·key-lts.Need-part-value-end (map-writer·key-calls t) (map-writer·key-at t) map-writer·key.Post
-map-writer·key-part-value-end t c = search needs
+map-writer·keyed-value-sub-value-2 : (t : ℕ) → map-writer·keyed-value-lts.Need-sub-value-2 (map-writer·keyed-value-calls t) (map-writer·keyed-value-at t) map-writer·keyed-value.Post
+map-writer·keyed-value-sub-value-2 t c = search needs
 
-map-writer·key-sub-value-2 : (t : ℕ) → map-writer·key-lts.Need-sub-value-2 (map-writer·key-calls t) (map-writer·key-at t) map-writer·key.Post
-map-writer·key-sub-value-2 t c = search needs
+map-writer·keyed-value-part-value-start-2 : (t : ℕ) → map-writer·keyed-value-lts.Need-part-value-start-2 (map-writer·keyed-value-calls t) (map-writer·keyed-value-at t) map-writer·keyed-value.Post
+map-writer·keyed-value-part-value-start-2 t c = search needs
 
-map-writer·key-part-value-start-2 : (t : ℕ) → map-writer·key-lts.Need-part-value-start-2 (map-writer·key-calls t) (map-writer·key-at t) map-writer·key.Post
-map-writer·key-part-value-start-2 t c = search needs
+map-writer·keyed-value-part-value-end-2 : (t : ℕ) → map-writer·keyed-value-lts.Need-part-value-end-2 (map-writer·keyed-value-calls t) (map-writer·keyed-value-at t) map-writer·keyed-value.Post
+map-writer·keyed-value-part-value-end-2 t c = search needs
 
-map-writer·key-part-value-end-2 : (t : ℕ) → map-writer·key-lts.Need-part-value-end-2 (map-writer·key-calls t) (map-writer·key-at t) map-writer·key.Post
-map-writer·key-part-value-end-2 t c = search needs
+map-writer·keyed-value-sub-value-3 : (t : ℕ) → map-writer·keyed-value-lts.Need-sub-value-3 (map-writer·keyed-value-calls t) (map-writer·keyed-value-at t) map-writer·keyed-value.Post
+map-writer·keyed-value-sub-value-3 t c = search needs
 
-map-writer·key-sub-value-3 : (t : ℕ) → map-writer·key-lts.Need-sub-value-3 (map-writer·key-calls t) (map-writer·key-at t) map-writer·key.Post
-map-writer·key-sub-value-3 t c = search needs
+map-writer·keyed-value-part-value-start-3 : (t : ℕ) → map-writer·keyed-value-lts.Need-part-value-start-3 (map-writer·keyed-value-calls t) (map-writer·keyed-value-at t) map-writer·keyed-value.Post
+map-writer·keyed-value-part-value-start-3 t c = search needs
 
-map-writer·key-part-value-start-3 : (t : ℕ) → map-writer·key-lts.Need-part-value-start-3 (map-writer·key-calls t) (map-writer·key-at t) map-writer·key.Post
-map-writer·key-part-value-start-3 t c = search needs
+map-writer·keyed-value-part-value-end-3 : (t : ℕ) → map-writer·keyed-value-lts.Need-part-value-end-3 (map-writer·keyed-value-calls t) (map-writer·keyed-value-at t) map-writer·keyed-value.Post
+map-writer·keyed-value-part-value-end-3 t c = search needs
 
-map-writer·key-part-value-end-3 : (t : ℕ) → map-writer·key-lts.Need-part-value-end-3 (map-writer·key-calls t) (map-writer·key-at t) map-writer·key.Post
-map-writer·key-part-value-end-3 t c = search needs
+map-writer·keyed-value-value-requires : (t : ℕ) → map-writer·keyed-value-lts.Need-value-requires (map-writer·keyed-value-calls t) (map-writer·keyed-value-at t) map-writer·keyed-value.Post
+map-writer·keyed-value-value-requires t c κs = (search needs, (search keyed-valid, search keyed-typed, search keyed-category, search given-none, search firsts-empty))
 
-map-writer·key-value-requires : (t : ℕ) → map-writer·key-lts.Need-value-requires (map-writer·key-calls t) (map-writer·key-at t) map-writer·key.Post
-map-writer·key-value-requires t c κs = let p = c .before .before .before .before .before .before .before .before .before .before .before .before .before .before .before .before .before .pre in (search needs, (search p, search keyed-typed, search keyed-category, search given-none, search firsts-empty))
+map-writer·keyed-value-enum-known-keyed-2 : (t : ℕ) → map-writer·keyed-value-lts.Need-enum-known-keyed-2 (map-writer·keyed-value-calls t) (map-writer·keyed-value-at t) map-writer·keyed-value.Post
+map-writer·keyed-value-enum-known-keyed-2 t c = search needs
 
-map-writer·key-enum-known-keyed-2 : (t : ℕ) → map-writer·key-lts.Need-enum-known-keyed-2 (map-writer·key-calls t) (map-writer·key-at t) map-writer·key.Post
-map-writer·key-enum-known-keyed-2 t c = search needs
+map-writer·keyed-value-same-length : (t : ℕ) → map-writer·keyed-value-lts.Need-same-length (map-writer·keyed-value-calls t) (map-writer·keyed-value-at t) map-writer·keyed-value.Post
+map-writer·keyed-value-same-length t c = search needs
 
-map-writer·key-same-length : (t : ℕ) → map-writer·key-lts.Need-same-length (map-writer·key-calls t) (map-writer·key-at t) map-writer·key.Post
-map-writer·key-same-length t c = search needs
+map-writer·keyed-value-returns-2 : (t : ℕ) → map-writer·keyed-value-lts.Need-returns-2 (map-writer·keyed-value-calls t) (map-writer·keyed-value-at t) map-writer·keyed-value.Post
+map-writer·keyed-value-returns-2 t c = search key-exits
 
-map-writer·key-returns-2 : (t : ℕ) → map-writer·key-lts.Need-returns-2 (map-writer·key-calls t) (map-writer·key-at t) map-writer·key.Post
-map-writer·key-returns-2 t c = search key-exits
-
-map-writer·key-returns-3 : (t : ℕ) → map-writer·key-lts.Need-returns-3 (map-writer·key-calls t) (map-writer·key-at t) map-writer·key.Post
-map-writer·key-returns-3 t c = search key-exits
+map-writer·keyed-value-returns-3 : (t : ℕ) → map-writer·keyed-value-lts.Need-returns-3 (map-writer·keyed-value-calls t) (map-writer·keyed-value-at t) map-writer·keyed-value.Post
+map-writer·keyed-value-returns-3 t c = search key-exits
 
 map-writer·keys-fields-requires : (t : ℕ) → map-writer·keys-lts.Need-fields-requires (map-writer·keys-calls t) (map-writer·keys-at t) map-writer·keys.Post
 map-writer·keys-fields-requires t c κs = search needs
@@ -628,12 +703,12 @@ map-writer·keys-same-length t c = search needs
 map-writer·keys-returns : (t : ℕ) → map-writer·keys-lts.Need-returns (map-writer·keys-calls t) (map-writer·keys-at t) map-writer·keys.Post
 map-writer·keys-returns t c = search needs
 
-map-writer·keys-slice-aggregate-note-firsts :
-    (t : ℕ) → map-writer·keys-lts.Need-slice-aggregate-note-firsts (map-writer·keys-calls t) (map-writer·keys-at t) map-writer·keys.Post
-map-writer·keys-slice-aggregate-note-firsts t c = search needs
+map-writer·keys-slice-aggregate-note-long :
+    (t : ℕ) → map-writer·keys-lts.Need-slice-aggregate-note-long (map-writer·keys-calls t) (map-writer·keys-at t) map-writer·keys.Post
+map-writer·keys-slice-aggregate-note-long t c = search needs
 
-map-writer·keys-note-firsts-requires : (t : ℕ) → map-writer·keys-lts.Need-note-firsts-requires (map-writer·keys-calls t) (map-writer·keys-at t) map-writer·keys.Post
-map-writer·keys-note-firsts-requires t c κs = search leaf-inside
+map-writer·keys-note-long-requires : (t : ℕ) → map-writer·keys-lts.Need-note-long-requires (map-writer·keys-calls t) (map-writer·keys-at t) map-writer·keys.Post
+map-writer·keys-note-long-requires t c κs = search needs
 
 map-writer·keys-slice-aggregate-each-key :
     (t : ℕ) → map-writer·keys-lts.Need-slice-aggregate-each-key (map-writer·keys-calls t) (map-writer·keys-at t) map-writer·keys.Post
@@ -663,8 +738,8 @@ map-writer·map-cast-if1 t c = search needs
 map-writer·map-returns : (t : ℕ) → map-writer·map-lts.Need-returns (map-writer·map-calls t) (map-writer·map-at t) map-writer·map.Post
 map-writer·map-returns t c = search maps
 
-map-writer·map-keys-requires : (t : ℕ) → map-writer·map-lts.Need-keys-requires (map-writer·map-calls t) (map-writer·map-at t) map-writer·map.Post
-map-writer·map-keys-requires t c κs = (search needs, (search needs, search needs, search map-ready, search needs))
+map-writer·map-each-key-requires : (t : ℕ) → map-writer·map-lts.Need-each-key-requires (map-writer·map-calls t) (map-writer·map-at t) map-writer·map.Post
+map-writer·map-each-key-requires t c κs = (search needs, (search needs, search needs, search map-ready, search needs))
 
 map-writer·map-same-length : (t : ℕ) → map-writer·map-lts.Need-same-length (map-writer·map-calls t) (map-writer·map-at t) map-writer·map.Post
 map-writer·map-same-length t c = search needs
@@ -789,16 +864,17 @@ serializer·value-returns-4 t c = search values
 serializer·value-returns-5 : (t : ℕ) → serializer·value-lts.Need-returns-5 (serializer·value-calls t) (serializer·value-at t) serializer·value.Post
 serializer·value-returns-5 t c = search values
 
-pub +array-writer·array+array-writer·dimension+array-writer·element+array-writer·elements+map-writer·each-key+map-writer·key+map-writer·keys+map-writer·map+map-writer·own-keys+serializer·value-spec :
+pub +array-writer·array+array-writer·dimension+array-writer·each-element+array-writer·element+array-writer·elements+map-writer·each-key+map-writer·keyed-value+map-writer·keys+map-writer·map+map-writer·own-keys+serializer·value-spec :
     {M : Type 1} → statement M
-+array-writer·array+array-writer·dimension+array-writer·element+array-writer·elements+map-writer·each-key+map-writer·key+map-writer·keys+map-writer·map+map-writer·own-keys+serializer·value-spec =
++array-writer·array+array-writer·dimension+array-writer·each-element+array-writer·element+array-writer·elements+map-writer·each-key+map-writer·keyed-value+map-writer·keys+map-writer·map+map-writer·own-keys+serializer·value-spec =
     close
     μ-array-writer·array
     μ-array-writer·dimension
+    μ-array-writer·each-element
     μ-array-writer·element
     μ-array-writer·elements
     μ-map-writer·each-key
-    μ-map-writer·key
+    μ-map-writer·keyed-value
     μ-map-writer·keys
     μ-map-writer·map
     μ-map-writer·own-keys
@@ -827,9 +903,37 @@ pub +array-writer·array+array-writer·dimension+array-writer·element+array-wri
     (array-writer·dimension-same-length t)
     (array-writer·dimension-returns t)
     (array-writer·dimension-returns-2 t))
+    (λ t. array-writer·each-element-lts.spec (array-writer·each-element-calls t) (array-writer·each-element-at t)
+    array-writer·each-element.Post
+    array-writer·each-element-Inv-loop
+    array-writer·each-element-μ-loop
+    (array-writer·each-element-stride-of-requires t)
+    (array-writer·each-element-loop-holds t)
+    (array-writer·each-element-enum-known-here t)
+    (array-writer·each-element-enum-told t)
+    (array-writer·each-element-same-length t)
+    (array-writer·each-element-returns t)
+    (array-writer·each-element-same-length-2 t)
+    (array-writer·each-element-returns-2 t)
+    (array-writer·each-element-add-to t)
+    (array-writer·each-element-sub-element t)
+    (array-writer·each-element-part-element-start t)
+    (array-writer·each-element-part-element-end t)
+    (array-writer·each-element-element-requires t)
+    (array-writer·each-element-add-i t)
+    (array-writer·each-element-loop-less t)
+    (array-writer·each-element-loop-again t)
+    (array-writer·each-element-enum-known-here-2 t)
+    (array-writer·each-element-enum-told-2 t)
+    (array-writer·each-element-same-length-3 t)
+    (array-writer·each-element-returns-3 t)
+    (array-writer·each-element-same-length-4 t)
+    (array-writer·each-element-returns-4 t)
+    (array-writer·each-element-end-requires t)
+    (array-writer·each-element-same-length-5 t)
+    (array-writer·each-element-returns-5 t))
     (λ t. array-writer·element-lts.spec (array-writer·element-calls t) (array-writer·element-at t)
     array-writer·element.Post
-    (array-writer·element-is-last-requires t)
     (array-writer·element-value-requires t)
     (array-writer·element-same-length t)
     (array-writer·element-returns t)
@@ -841,35 +945,25 @@ pub +array-writer·array+array-writer·dimension+array-writer·element+array-wri
     (array-writer·element-returns-3 t))
     (λ t. array-writer·elements-lts.spec (array-writer·elements-calls t) (array-writer·elements-at t)
     array-writer·elements.Post
-    array-writer·elements-Inv-loop
-    array-writer·elements-μ-loop
     (array-writer·elements-count-requires t)
     (array-writer·elements-cast-n t)
-    (array-writer·elements-stride-of-requires t)
-    (array-writer·elements-loop-holds t)
-    (array-writer·elements-enum-known-here t)
-    (array-writer·elements-enum-told t)
+    (array-writer·elements-is-last-requires t)
+    (array-writer·elements-fields-requires t)
+    (array-writer·elements-sub-each-element t)
+    (array-writer·elements-part-each-element-start t)
+    (array-writer·elements-part-each-element-end t)
+    (array-writer·elements-sub-each-element-2 t)
+    (array-writer·elements-part-each-element-start-2 t)
+    (array-writer·elements-part-each-element-end-2 t)
+    (array-writer·elements-each-element-requires t)
     (array-writer·elements-same-length t)
     (array-writer·elements-returns t)
+    (array-writer·elements-each-element-requires-2 t)
     (array-writer·elements-same-length-2 t)
     (array-writer·elements-returns-2 t)
-    (array-writer·elements-add-to t)
-    (array-writer·elements-sub-element t)
-    (array-writer·elements-part-element-start t)
-    (array-writer·elements-part-element-end t)
-    (array-writer·elements-element-requires t)
-    (array-writer·elements-add-i t)
-    (array-writer·elements-loop-less t)
-    (array-writer·elements-loop-again t)
-    (array-writer·elements-enum-known-here-2 t)
-    (array-writer·elements-enum-told-2 t)
+    (array-writer·elements-each-element-requires-3 t)
     (array-writer·elements-same-length-3 t)
-    (array-writer·elements-returns-3 t)
-    (array-writer·elements-same-length-4 t)
-    (array-writer·elements-returns-4 t)
-    (array-writer·elements-end-requires t)
-    (array-writer·elements-same-length-5 t)
-    (array-writer·elements-returns-5 t))
+    (array-writer·elements-returns-3 t))
     (λ t. map-writer·each-key-lts.spec (map-writer·each-key-calls t) (map-writer·each-key-at t)
     map-writer·each-key.Post
     map-writer·each-key-Inv-loop
@@ -879,7 +973,8 @@ pub +array-writer·array+array-writer·dimension+array-writer·element+array-wri
     (map-writer·each-key-enum-told t)
     (map-writer·each-key-same-length t)
     (map-writer·each-key-returns t)
-    (map-writer·each-key-key-requires t)
+    (map-writer·each-key-key-in-requires t)
+    (map-writer·each-key-keyed-value-requires t)
     (map-writer·each-key-add-i t)
     (map-writer·each-key-loop-less t)
     (map-writer·each-key-loop-again t)
@@ -890,36 +985,35 @@ pub +array-writer·array+array-writer·dimension+array-writer·element+array-wri
     (map-writer·each-key-end-requires t)
     (map-writer·each-key-same-length-3 t)
     (map-writer·each-key-returns-3 t))
-    (λ t. map-writer·key-lts.spec (map-writer·key-calls t) (map-writer·key-at t)
-    map-writer·key.Post
-    (map-writer·key-key-in-requires t)
-    (map-writer·key-enum-known-keyed t)
-    (map-writer·key-cast-from t)
-    (map-writer·key-cast-to t)
-    (map-writer·key-add-to t)
-    (map-writer·key-returns t)
-    (map-writer·key-sub-value t)
-    (map-writer·key-part-value-start t)
-    (map-writer·key-part-value-end t)
-    (map-writer·key-sub-value-2 t)
-    (map-writer·key-part-value-start-2 t)
-    (map-writer·key-part-value-end-2 t)
-    (map-writer·key-sub-value-3 t)
-    (map-writer·key-part-value-start-3 t)
-    (map-writer·key-part-value-end-3 t)
-    (map-writer·key-value-requires t)
-    (map-writer·key-enum-known-keyed-2 t)
-    (map-writer·key-same-length t)
-    (map-writer·key-returns-2 t)
-    (map-writer·key-returns-3 t))
+    (λ t. map-writer·keyed-value-lts.spec (map-writer·keyed-value-calls t) (map-writer·keyed-value-at t)
+    map-writer·keyed-value.Post
+    (map-writer·keyed-value-enum-known-keyed t)
+    (map-writer·keyed-value-cast-from t)
+    (map-writer·keyed-value-cast-to t)
+    (map-writer·keyed-value-add-to t)
+    (map-writer·keyed-value-returns t)
+    (map-writer·keyed-value-sub-value t)
+    (map-writer·keyed-value-part-value-start t)
+    (map-writer·keyed-value-part-value-end t)
+    (map-writer·keyed-value-sub-value-2 t)
+    (map-writer·keyed-value-part-value-start-2 t)
+    (map-writer·keyed-value-part-value-end-2 t)
+    (map-writer·keyed-value-sub-value-3 t)
+    (map-writer·keyed-value-part-value-start-3 t)
+    (map-writer·keyed-value-part-value-end-3 t)
+    (map-writer·keyed-value-value-requires t)
+    (map-writer·keyed-value-enum-known-keyed-2 t)
+    (map-writer·keyed-value-same-length t)
+    (map-writer·keyed-value-returns-2 t)
+    (map-writer·keyed-value-returns-3 t))
     (λ t. map-writer·keys-lts.spec (map-writer·keys-calls t) (map-writer·keys-at t)
     map-writer·keys.Post
     (map-writer·keys-fields-requires t)
     (map-writer·keys-each-key-requires t)
     (map-writer·keys-same-length t)
     (map-writer·keys-returns t)
-    (map-writer·keys-slice-aggregate-note-firsts t)
-    (map-writer·keys-note-firsts-requires t)
+    (map-writer·keys-slice-aggregate-note-long t)
+    (map-writer·keys-note-long-requires t)
     (map-writer·keys-slice-aggregate-each-key t)
     (map-writer·keys-each-key-requires-2 t)
     (map-writer·keys-same-length-2 t)
@@ -931,7 +1025,7 @@ pub +array-writer·array+array-writer·dimension+array-writer·element+array-wri
     (map-writer·map-size-requires t)
     (map-writer·map-cast-if1 t)
     (map-writer·map-returns t)
-    (map-writer·map-keys-requires t)
+    (map-writer·map-each-key-requires t)
     (map-writer·map-same-length t)
     (map-writer·map-returns-2 t)
     (map-writer·map-own-keys-requires t)
