@@ -7,7 +7,7 @@ use native.Mathlib.Omega.{arith}
 use lib.ListN.{length, take, drop}
 use lib.Dec.{eqb}
 use borrow.Author.Tests.{le-leb, lt-leb}
-use Rattle.field_types.specs.Fields.{resolveField, checkNumbers, fieldNumbers}
+use Rattle.field_types.specs.Fields.{resolveField}
 use Rattle.typebook.specs.Book.{isType, sizeOf, fieldsOf, entriesOf, countOf, typeNameOf}
 use Rattle.type_provider.specs.Find.{foundNumbers, find}
 use Rattle.type_provider.specs.declared.Found.{Found}
@@ -18,7 +18,7 @@ use mir.Syntax.{w32}
 use mir.Val.{Fits}
 use Rattle.type_category.specs.Category.{categoryOf}
 use Rattle.type_category.specs.declared.type_category.AdsTypeCategory.{AdsTypeCategory}
-use Rattle.resolvers.specs.Resolve.{resolveAlias, ResolvedIs, resolvedNumbers}
+use Rattle.resolvers.specs.Resolve.{resolveAlias, ResolvedIs}
 use Rattle.resolvers.proofs.Chains.{found-type}
 use Rattle.resolvers.specs.declared.Resolved.{Resolved}
 use Rattle.resolvers.specs.declared.Resolved.the-variants as resolved
@@ -28,8 +28,8 @@ use Rattle.field_plan.specs.declared.PlannedField.{PlannedField}
 use Rattle.field_plan.specs.declared.Planned.{Planned}
 use Rattle.field_plan.specs.declared.Planned.the-variants as planned
 use Rattle.type_provider.proofs.Numbers.{found-is}
-use Rattle.resolvers.proofs.Numbers.{resolved-is}
-use Rattle.field_types.proofs.Numbers.{check-is}
+use Rattle.resolvers.proofs.Numbers.{resolved-is, lacks-numbers, long-numbers}
+use Rattle.field_types.proofs.Numbers.{check-is, check-lacks, check-long, field-lacks, field-long}
 use Rattle.field_plan.specs.Plan.{PlannedIs, Entries, Ready, PlanIs}
 use Rattle.field_plan.proofs.Plans.{ready-none}
 use Rattle.steps.specs.declared.Step.{Step}
@@ -117,20 +117,20 @@ module _ (c : Ctx) (f len : ℕ) where
 
   module _ (a : Planned) (q : PlannedIs (c .book) (c .width) f a) where
     pub part-lacks : (b : ℕ) → a ≡ planned.Lacks b → PartIs c f len (part.Stop 7 b)
-    unfolding partOf fieldNumbers
-    part-lacks b e = stopped 7 b (rw (q .lacks b e))
+    unfolding partOf
+    part-lacks b e = stopped 7 b (rw (q .lacks b e, field-lacks b))
 
     pub part-endless : a ≡ planned.TooLong → PartIs c f len (part.Stop 8 0)
-    unfolding partOf fieldNumbers
-    part-endless e = stopped 8 0 (rw (q .endless e))
+    unfolding partOf
+    part-endless e = stopped 8 0 (rw (q .endless e, field-long))
 
     module _ (x : PlannedField) (e : a ≡ planned.Field x) where
       pub part-over : len < x .offset + x .size → PartIs c f len (part.Stop 10 0)
-      unfolding partOf fieldNumbers
+      unfolding partOf
       part-over l = let h = q .field x e in stopped 10 0 (rw (h .found, h .offset-is, h .size-is, lt-leb (x .offset + x .size) len l))
 
       pub part-value : x .offset + x .size ≤ len → PartIs c f len (part.Value (record { named = x .named; resolved = x .resolved; category = x .category }) (x .offset) (x .offset + x .size))
-      unfolding partOf fieldNumbers
+      unfolding partOf
       part-value l =
           let h = q .field x e in
           let made : _≡_ {A = Typed} (record { named = x .named; resolved = x .resolved; category = x .category }) (typedOf c (h .whole .named) (h .whole .resolved)) = rw (h .named-is, h .resolved-is, ← h .category-is) in
@@ -181,21 +181,21 @@ module _ (child : Child) (c : Ctx) (x : Typed) (size : ℕ) (sz : size ≡ sizeO
   map-odd o h = from-as (walks.map-odd child c mem x size sz o) (halted h)
 
   pub map-given : {tape′ txt′ : List ℕ} (plan : List ℕ) → length mem ≡ size → Ready (c .book) (c .width) (x .resolved) plan → 0 < length plan → From (membersOf child c x mem) tape txt s r tape′ txt′ → From (mapOf child c x mem) tape txt s r tape′ txt′
-  unfolding checked checkNumbers
+  unfolding checked
   map-given plan ev g l h = from-as (walks.map-even child c mem x size sz ev check.Fine (sym (g .fine (λ z. absurd (omega arith))))) h
 
   module _ (ev : length mem ≡ size) (k : FieldsCheck) (before after : List ℕ) (p : PlanIs (c .book) (c .width) (x .resolved) before k after) where
     pub map-fine : {tape′ txt′ : List ℕ} → k ≡ check.Fine → From (membersOf child c x mem) tape txt s r tape′ txt′ → From (mapOf child c x mem) tape txt s r tape′ txt′
-    unfolding checked checkNumbers
+    unfolding checked
     map-fine e h = from-as (walks.map-even child c mem x size sz ev check.Fine (sym e ∙ check-is _ _ (p .is))) h
 
     pub map-lacks : (b : ℕ) → k ≡ check.Lacks b → Halts s 7 b r → From (mapOf child c x mem) tape txt s r tape txt
-    unfolding checked checkNumbers
-    map-lacks b e h = from-as (walks.map-even child c mem x size sz ev (check.Lacks b) (sym e ∙ check-is _ _ (p .is))) (halted h)
+    unfolding checked
+    map-lacks b e h = from-as (walks.map-even child c mem x size sz ev (check.Lacks b) (sym e ∙ check-is _ _ (p .is)) ∙ rw (check-lacks b)) (halted h)
 
     pub map-endless : k ≡ check.TooLong → Halts s 8 0 r → From (mapOf child c x mem) tape txt s r tape txt
-    unfolding checked checkNumbers
-    map-endless e h = from-as (walks.map-even child c mem x size sz ev check.TooLong (sym e ∙ check-is _ _ (p .is))) (halted h)
+    unfolding checked
+    map-endless e h = from-as (walks.map-even child c mem x size sz ev check.TooLong (sym e ∙ check-is _ _ (p .is)) ∙ rw check-long) (halted h)
 
 -- ---- array
 
@@ -209,37 +209,37 @@ module _ (child : Child) (c : Ctx) (x : Typed) (size : ℕ) (sz : size ≡ sizeO
 
     module _ (n : ℕ) (en : f ≡ At n) (k : Resolved) (q : ResolvedIs (c .book) (resolveAlias (c .book) (c .width) n) k) where
       pub array-lacks : (b : ℕ) → k ≡ resolved.Lacks b → Halts s 7 b r → From (arrayOf child c x mem) tape txt s r tape txt
-      unfolding elementBy resolvedNumbers
-      array-lacks b e h = from-as (walks.array-at child c mem x size sz ev f (found-is _ _ ef) n en k (resolved-is _ _ (q .is)) ∙ rw e) (halted h)
+      unfolding elementBy
+      array-lacks b e h = from-as (walks.array-at child c mem x size sz ev f (found-is _ _ ef) n en k (resolved-is _ _ (q .is)) ∙ rw (e, lacks-numbers b)) (halted h)
 
       pub array-endless : k ≡ resolved.TooLong → Halts s 8 0 r → From (arrayOf child c x mem) tape txt s r tape txt
-      unfolding elementBy resolvedNumbers
-      array-endless e h = from-as (walks.array-at child c mem x size sz ev f (found-is _ _ ef) n en k (resolved-is _ _ (q .is)) ∙ rw e) (halted h)
+      unfolding elementBy
+      array-endless e h = from-as (walks.array-at child c mem x size sz ev f (found-is _ _ ef) n en k (resolved-is _ _ (q .is)) ∙ rw (e, long-numbers)) (halted h)
 
       module _ (e : ℕ) (z : k ≡ resolved.Base e) (b : Bool) (p : b ≡ eqb (bytesOf (c .book) (x .resolved) e) (length mem)) where
         pub array-other : b ≡ false → Halts s 10 0 r → From (arrayOf child c x mem) tape txt s r tape txt
-        unfolding elementBy resolvedNumbers
+        unfolding elementBy
         array-other h y = from-as (walks.array-at child c mem x size sz ev f (found-is _ _ ef) n en k (resolved-is _ _ (q .is)) ∙ rw (z, ← p, h)) (halted y)
 
         pub array-base : (w : AdsTypeCategory) → w ≡ categoryOf (c .book) (c .width) e → {tape′ txt′ : List ℕ} → b ≡ true
             → From (dimensionOf child c 0 (x .resolved) (record { named = n; resolved = e; category = w }) mem) tape txt s r tape′ txt′ → From (arrayOf child c x mem) tape txt s r tape′ txt′
-        unfolding elementBy resolvedNumbers
+        unfolding elementBy
         array-base w ew h y = from-as (walks.array-at child c mem x size sz ev f (found-is _ _ ef) n en k (resolved-is _ _ (q .is)) ∙ rw (z, ← p, h, ← ew)) y
 
 -- ---- dimension
 
 module _ (child : Child) (c : Ctx) (d t : ℕ) (e : Typed) (mem : List ℕ) {tape txt : List ℕ} {s r : Step} (k : FieldsCheck) (before after : List ℕ) (p : ElementChecked (c .book) (c .width) d t (e .resolved) before k after) where
   pub dimension-fine : {tape′ txt′ : List ℕ} → k ≡ check.Fine → From (elementsOf child c d t e mem) tape txt s r tape′ txt′ → From (dimensionOf child c d t e mem) tape txt s r tape′ txt′
-  unfolding checked checkNumbers
+  unfolding checked
   dimension-fine z h = from-as (walks.dimension-by child c mem d t e check.Fine (sym z ∙ p .is)) h
 
   pub dimension-lacks : (b : ℕ) → k ≡ check.Lacks b → Halts s 7 b r → From (dimensionOf child c d t e mem) tape txt s r tape txt
-  unfolding checked checkNumbers
-  dimension-lacks b z h = from-as (walks.dimension-by child c mem d t e (check.Lacks b) (sym z ∙ p .is)) (halted h)
+  unfolding checked
+  dimension-lacks b z h = from-as (walks.dimension-by child c mem d t e (check.Lacks b) (sym z ∙ p .is) ∙ rw (check-lacks b)) (halted h)
 
   pub dimension-endless : k ≡ check.TooLong → Halts s 8 0 r → From (dimensionOf child c d t e mem) tape txt s r tape txt
-  unfolding checked checkNumbers
-  dimension-endless z h = from-as (walks.dimension-by child c mem d t e check.TooLong (sym z ∙ p .is)) (halted h)
+  unfolding checked
+  dimension-endless z h = from-as (walks.dimension-by child c mem d t e check.TooLong (sym z ∙ p .is) ∙ rw check-long) (halted h)
 
 -- ---- elements
 

@@ -11,8 +11,10 @@ use Rattle.typebook.specs.Book.{sizeOf, fieldsOf, countOf, typeNameOf}
 use Rattle.type_provider.specs.Find.{find}
 use Rattle.type_provider.specs.declared.Found.{Found}
 use Rattle.type_provider.specs.declared.Found.the-variants.{At, Nothing}
-use Rattle.resolvers.specs.Resolve.{resolveAlias, resolvedNumbers}
-use Rattle.field_types.specs.Fields.{resolveField, fieldsCheck, fieldNumbers}
+use Rattle.resolvers.specs.Resolve.{resolveAlias}
+use Rattle.resolvers.proofs.Numbers.{lacks-numbers}
+use Rattle.field_types.specs.Fields.{resolveField, fieldsCheck}
+use Rattle.field_types.proofs.Numbers.{field-lacks, field-long}
 use Rattle.resolvers.specs.declared.Resolved.{Resolved}
 use Rattle.field_types.specs.declared.FieldAnswer.the-variants as answer
 use Rattle.field_types.specs.declared.FieldsCheck.{FieldsCheck}
@@ -63,10 +65,10 @@ module _ (child : Child) (c : Ctx) (mem : List ℕ) where
     inside false x = refl
 
     value-part : (a : FieldAnswer) → fieldValue child c mem a ≡ partWalk (partOf c (length mem) a)
-    unfolding fieldValue partOf partWalk fieldNumbers
+    unfolding fieldValue partOf partWalk
     value-part (answer.Field x) = inside (leb (x .offset + x .size) (length mem)) x
-    value-part (answer.Lacks b) = refl
-    value-part answer.TooLong = refl
+    value-part (answer.Lacks b) = rw (field-lacks b)
+    value-part answer.TooLong = rw field-long
 
     module _ (r : Part) (q : r ≡ partOf c (length mem) (resolveField (c .book) (c .width) f)) where
       member-by : memberOf child c mem f ≡ one (rec (newRecord 4 0 f 0)) then partWalk r
@@ -126,11 +128,11 @@ module _ (child : Child) (c : Ctx) (mem : List ℕ) where
       array-even = rw (← s, eq-eqb (length mem) size h, ef)
 
       pub array-nothing : f ≡ Nothing → arrayOf child c x mem ≡ refuse 7 (x .resolved)
-      unfolding arrayBy resolvedNumbers
-      array-nothing e = array-even ∙ rw e
+      unfolding arrayBy
+      array-nothing e = array-even ∙ rw (e, lacks-numbers (x .resolved))
 
       pub array-at : (n : ℕ) → f ≡ At n → (r : Resolved) → r ≡ resolveAlias (c .book) (c .width) n → arrayOf child c x mem ≡ elementBy child c (x .resolved) n mem r
-      unfolding arrayBy resolvedNumbers
+      unfolding arrayBy
       array-at n e r q = array-even ∙ rw (e, q)
 
   pub elements-of : (d t : ℕ) (e : Typed) (n : ℕ) → n ≡ countOf (c .book) t d

@@ -12,7 +12,7 @@ use Rattle.book_check.specs.declared.RootCheck.the-variants as root
 use Rattle.book_check.proofs.Valid.{root-valid}
 use Rattle.book_check.proofs.Roots.{at-refused, at-block}
 use Rattle.resolvers.proofs.Calls.{root-fits}
-use Rattle.resolvers.specs.Resolve.{resolveAlias, ResolvedIs, resolvedNumbers}
+use Rattle.resolvers.specs.Resolve.{resolveAlias, ResolvedIs}
 use Rattle.resolvers.specs.declared.Resolved.{Resolved}
 use Rattle.resolvers.specs.declared.Resolved.the-variants as resolved
 use Rattle.steps.specs.declared.Step.{Step}
@@ -24,7 +24,7 @@ use Rattle.type_category.specs.declared.type_category.AdsTypeCategory.{AdsTypeC
 use Rattle.array_elements.specs.Element.{whole}
 use Rattle.de.specs.Walk.{Ctx, ctx, walk}
 use Rattle.de.specs.Read.{rootBy, rootTrace, readTrace}
-use Rattle.resolvers.proofs.Numbers.{resolved-is}
+use Rattle.resolvers.proofs.Numbers.{resolved-is, lacks-numbers, long-numbers}
 use Rattle.steps.specs.Answer.{ReadIs, Finished}
 use Rattle.steps.proofs.Answers.{read-by, read-refused, read-as}
 
@@ -36,17 +36,17 @@ came c n k q = resolved-is _ _ (q .is)
 
 module _ (c : Ctx) (n : ℕ) (mem : List ℕ) (k : Resolved) (q : ResolvedIs (c .book) (resolveAlias (c .book) (c .width) n) k) {tape txt tape₂ txt₂ : List ℕ} {r : ReadAnswer} where
   pub root-lacks : (b : ℕ) → k ≡ resolved.Lacks b → Finished (Stop 7 b) tape txt r tape₂ txt₂ → ReadIs (rootTrace c n mem) tape txt r tape₂ txt₂
-  unfolding rootTrace rootBy resolvedNumbers
-  root-lacks b e f = read-as (rw (← came c n k q, e)) (read-refused 7 b f)
+  unfolding rootTrace rootBy
+  root-lacks b e f = read-as (rw (← came c n k q, e, lacks-numbers b)) (read-refused 7 b f)
 
   pub root-endless : k ≡ resolved.TooLong → Finished (Stop 8 0) tape txt r tape₂ txt₂ → ReadIs (rootTrace c n mem) tape txt r tape₂ txt₂
-  unfolding rootTrace rootBy resolvedNumbers
-  root-endless e f = read-as (rw (← came c n k q, e)) (read-refused 8 0 f)
+  unfolding rootTrace rootBy
+  root-endless e f = read-as (rw (← came c n k q, e, long-numbers)) (read-refused 8 0 f)
 
   pub root-base : (t : ℕ) → k ≡ resolved.Base t → (y : AdsTypeCategory) → y ≡ categoryOf (c .book) (c .width) t → (s : Step) {tape₁ txt₁ : List ℕ}
       → From (walk c 64 (whole (record { named = n; resolved = t; category = y })) mem) tape txt (Next 0 0) s tape₁ txt₁
       → length tape₁ ≡ length tape → length txt₁ ≡ length txt → Finished s tape₁ txt₁ r tape₂ txt₂ → ReadIs (rootTrace c n mem) tape txt r tape₂ txt₂
-  unfolding rootTrace rootBy resolvedNumbers
+  unfolding rootTrace rootBy
   root-base t e y ey s {tape₁} {txt₁} h a b f =
       read-as (rw (← came c n k q, e, ← ey)) (read-by (walk c 64 (whole (record { named = n; resolved = t; category = y })) mem) tape txt tape₁ txt₁ s (h .on 0 0 refl) a b f)
 

@@ -1,5 +1,6 @@
 -- The numbers of a field's answer, of a check of several, and of the call's answer tell it. Assumes nothing.
 use mathlib.Core.Path.{_≡_, refl, ap}
+use mathlib.Core.List.{[], _∷_}
 use Prim.Native.Nat.{ℕ}
 use native.Mathlib.Omega.{arith}
 use lib.ListN.{length}
@@ -37,6 +38,15 @@ field-is answer.TooLong answer.TooLong e = refl
 pub field-says : (r a : FieldAnswer) → r ≡ a → fieldNumbers r ≡ fieldNumbers a
 field-says r a e = ap fieldNumbers e
 
+-- the numbers of a field whose type the book lacks, and of one whose chain is too long
+pub field-lacks : (b : ℕ) → fieldNumbers (answer.Lacks b) ≡ 7 ∷ b ∷ []
+unfolding fieldNumbers
+field-lacks b = refl
+
+pub field-long : fieldNumbers answer.TooLong ≡ 8 ∷ []
+unfolding fieldNumbers
+field-long = refl
+
 -- checks of the same numbers are the same
 pub check-is : (r a : FieldsCheck) → checkNumbers r ≡ checkNumbers a → r ≡ a
 unfolding checkNumbers
@@ -53,6 +63,15 @@ check-is check.TooLong check.TooLong e = refl
 -- the same check has the same numbers
 pub check-says : (r a : FieldsCheck) → r ≡ a → checkNumbers r ≡ checkNumbers a
 check-says r a e = ap checkNumbers e
+
+-- the numbers of a check that found such a field
+pub check-lacks : (b : ℕ) → checkNumbers (check.Lacks b) ≡ 7 ∷ b ∷ []
+unfolding checkNumbers
+check-lacks b = refl
+
+pub check-long : checkNumbers check.TooLong ≡ 8 ∷ []
+unfolding checkNumbers
+check-long = refl
 
 -- the call's answers of the same numbers are the same
 pub fields-is : (r a : FieldsAnswer) → fieldsNumbers r ≡ fieldsNumbers a → r ≡ a

@@ -1,5 +1,6 @@
 -- The numbers of what a chain comes to, and of what a call answers, tell it. Assumes nothing.
 use mathlib.Core.Path.{_≡_, refl, ap}
+use mathlib.Core.List.{[], _∷_}
 use Prim.Native.Nat.{ℕ}
 use native.Mathlib.Omega.{arith}
 use lib.ListN.{length}
@@ -26,6 +27,15 @@ resolved-is TooLong TooLong e = refl
 -- what is the same has the same numbers
 pub resolved-says : (r a : Resolved) → r ≡ a → resolvedNumbers r ≡ resolvedNumbers a
 resolved-says r a e = ap resolvedNumbers e
+
+-- the numbers of a type that the book lacks, and of a chain that is too long
+pub lacks-numbers : (b : ℕ) → resolvedNumbers (Lacks b) ≡ 7 ∷ b ∷ []
+unfolding resolvedNumbers
+lacks-numbers b = refl
+
+pub long-numbers : resolvedNumbers TooLong ≡ 8 ∷ []
+unfolding resolvedNumbers
+long-numbers = refl
 
 -- answers of the same numbers are the same
 pub resolution-is : (r a : Resolution) → resolutionNumbers r ≡ resolutionNumbers a → r ≡ a
