@@ -9,7 +9,7 @@ use Rattle.type_category.specs.declared.type_category.AdsTypeCategory.{AdsTypeC
 use Rattle.field_types.specs.declared.FieldsCheck.{FieldsCheck}
 use Rattle.field_types.specs.declared.FieldsCheck.the-variants as check
 use Rattle.field_types.proofs.Numbers.{check-is}
-use Rattle.field_plan.specs.Plan.{PlanIs}
+use Rattle.field_plan.specs.Plan.{FieldPlanIs}
 use Rattle.shape.specs.declared.Shape.{Shape}
 use Rattle.shape.specs.declared.Shape.the-variants as shape
 use Rattle.shape.specs.Value.{shapeOf}
@@ -26,7 +26,7 @@ module _ (book : List ℕ) (width d t e : ℕ) (b : Bool) (q : b ≡ isLast book
     unfolding shapeAt
     s = ek ∙ ap shapeOf ey
 
-    pub check-map : k ≡ shape.Map → (r : FieldsCheck) (before : List ℕ) → PlanIs book width e before r plan → ElementChecked book width d t e before r plan
+    pub check-map : k ≡ shape.Map → (r : FieldsCheck) (before : List ℕ) → FieldPlanIs book width e before r plan → ElementChecked book width d t e before r plan
     unfolding elementCheck shapeCheck elementPlan shapePlan
     check-map z r before x = record { is = rw (← q, h, ← s, z) (check-is _ _ (x .is)); plan = rw (← q, h, ← s, z) (x .plan); entries = λ f l m. x .entries f }
 

@@ -4,7 +4,7 @@ use mathlib.Core.Bool.{Bool, true, false}
 use mathlib.Core.List.{List}
 use Prim.Native.Nat.{ℕ, _+_}
 use Rattle.shape.specs.Array.{isLast}
-use Rattle.array_elements.specs.Element.{Item, whole, further, elementItem}
+use Rattle.array_elements.specs.Element.{Content, whole, further, elementItem}
 
 module _ {X : Type 0} (book : List ℕ) (d t : ℕ) (x : X) (b : Bool) (q : b ≡ isLast book d t) where
   pub item-last : b ≡ true → elementItem book d t x ≡ whole x

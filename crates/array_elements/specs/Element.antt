@@ -8,23 +8,23 @@ use Rattle.type_category.specs.Category.{categoryOf}
 use Rattle.field_types.specs.Fields.{fieldsCheck}
 use Rattle.field_types.specs.declared.FieldsCheck.{FieldsCheck}
 use Rattle.field_types.specs.declared.FieldsCheck.the-variants as check
-use Rattle.field_plan.specs.Plan.{Entries, planOf}
+use Rattle.field_plan.specs.Plan.{Entries, fieldPlanOf}
 use Rattle.shape.specs.declared.Shape.{Shape}
 use Rattle.shape.specs.declared.Shape.the-variants as shape
 use Rattle.shape.specs.Value.{shapeOf}
 use Rattle.shape.specs.Array.{isLast}
 
 -- what some bytes hold: a value of type x; or dimension d, not the first, of array t with elements of type x. What is known of a type is the caller's
-pub data Item (X : Type 0) : Type 0 where
-  whole : X → Item X
-  further : ℕ → ℕ → X → Item X
+pub data Content (X : Type 0) : Type 0 where
+  whole : X → Content X
+  further : ℕ → ℕ → X → Content X
 
 -- the `size` bytes from `from` on
 abbrev pub cut : ℕ → ℕ → List ℕ → List ℕ
 cut from size mem = take size (drop from mem)
 
 -- what one index of dimension d of array t holds, with elements of type x
-unfoldable pub elementItem : {X : Type 0} → List ℕ → ℕ → ℕ → X → Item X
+unfoldable pub elementItem : {X : Type 0} → List ℕ → ℕ → ℕ → X → Content X
 elementItem book d t x = cond (isLast book d t) (whole x) (further (d + 1) t x)
 
 -- by what a value of type block t goes: its fields, its elements, or the whole
@@ -49,7 +49,7 @@ shapePlan shape.Leaf filled plan = plan
 
 -- the same by the dimension
 unfoldable pub elementPlan : List ℕ → ℕ → ℕ → ℕ → ℕ → List ℕ → List ℕ
-elementPlan book width d t e plan = cond (isLast book d t) (shapePlan (shapeAt book width e) (planOf book width e plan) plan) plan
+elementPlan book width d t e plan = cond (isLast book d t) (shapePlan (shapeAt book width e) (fieldPlanOf book width e plan) plan) plan
 
 -- the answer and the plan after it; without a refusal the plan serves for the element's fields, in the last dimension of elements with fields
 pub record ElementChecked (book : List ℕ) (width d t e : ℕ) (before : List ℕ) (r : FieldsCheck) (after : List ℕ) : Type 0 where

@@ -5,9 +5,9 @@ use Prim.Native.Nat.{ℕ, _+_, _-_}
 use lib.Dec.{ltb}
 
 -- no byte is above 7Fh
-unfoldable pub ascii : List ℕ → Bool
-ascii [] = true
-ascii (b ∷ bs) = cond (ltb b 0x80) (ascii bs) false
+unfoldable pub isAscii : List ℕ → Bool
+isAscii [] = true
+isAscii (b ∷ bs) = cond (ltb b 0x80) (isAscii bs) false
 
 -- the end of the block that starts at a place, in `len` bytes: 64 bytes on, or all where there are fewer
 abbrev pub blockEnd : ℕ → ℕ → ℕ

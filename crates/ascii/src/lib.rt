@@ -5,7 +5,7 @@ ghost use mathlib.Core.Bool.{cond};
 ghost use Prim.Native.Nat.{_+_, _<_, _≤_};
 ghost use lib.Dec.{ltb};
 ghost use Rattle.utf_8.specs.Buffer.{Wrote};
-ghost use Rattle.ascii.specs.Ascii.{ascii, blockEnd};
+ghost use Rattle.ascii.specs.Ascii.{isAscii, blockEnd};
 use utf_8::Put;
 
 // The end of the block that starts at a place, in `len` bytes.
@@ -31,7 +31,7 @@ pub fn higher(a: u8, b: u8) -> u8
 
 // Whether some bytes are ASCII: none is above 7Fh. It looks for the highest of them, which needs no branch.
 pub fn is_ascii(bytes: &[u8]) -> bool
-    ensures { λ r. ⌜ r ≡ ascii (now (bytes .entry)) ⌝ }
+    ensures { λ r. ⌜ r ≡ isAscii (now (bytes .entry)) ⌝ }
 {
     let mut highest: u8 = 0;
     let mut i = 0;

@@ -4,7 +4,7 @@ ghost use Prim.Native.Nat.{_+_, _*_, _≤_};
 ghost use Rattle.type_cache.specs.Append.{appendedNumbers};
 ghost use Rattle.lent_values.specs.Values.{Gives};
 ghost use Rattle.typebook.specs.Book.{nameOf, typeNameOf};
-ghost use Rattle.book_answers.specs.Answers.{placeOf, PartGiven};
+ghost use Rattle.book_answers.specs.Answers.{startOf, PartGiven};
 use lent_values::done_1;
 use lent_values::done_2;
 use type_cache::Appended;
@@ -12,7 +12,7 @@ use type_cache::Appended;
 // Where byte k of block n stands, at most the book's end: an offset that no slice of the book refuses.
 fn place_of(book: &[u8], n: u32, k: u64) -> u64
     requires { ⌜ k ≤ 254 ⌝ }
-    ensures { λ r. ⌜ r ≡ placeOf (now (book .entry)) (n * 512 + k) ⌝ }
+    ensures { λ r. ⌜ r ≡ startOf (now (book .entry)) (n * 512 + k) ⌝ }
 {
     let start = n as u64 * 512 + k;
     if start <= book.len() as u64 {

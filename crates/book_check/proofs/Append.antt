@@ -16,7 +16,7 @@ use Rattle.typebook.proofs.Blocks.{block-append, same-byte, same-u32, same-coun
 use Rattle.type_provider.proofs.Finds.{same-named, find-nothing, searched-all}
 use Rattle.block_form.specs.Form.{sumRight, typeForm, fieldForm, entryForm}
 use Rattle.doubles.specs.Doubles.{allFrom, isOther, isFirst}
-use Rattle.book_check.specs.Check.{sumAt, placeOf, onward, placedFrom, placed, ValidBook}
+use Rattle.book_check.specs.Check.{sumAt, placeOf, placesOnward, placedFrom, allInPlace, ValidBook}
 use Rattle.block_form.proofs.Bytes.{and-left, and-right}
 use Rattle.doubles.proofs.All.{all-of, each-of}
 use Rattle.doubles.proofs.Doubles.{other-holds}
@@ -41,7 +41,7 @@ onto b j k l h = let p : j + suc k ≡ j + 1 + k = omega arith in rw p at h
 
 -- blocks that stand in their places stand so in another book that has them, before what follows there
 graft : (a b : List ℕ) (i j k l f e : ℕ) → ((d : ℕ) → d < k → blockOf b (j + d) ≡ blockOf a (i + d)) → placedFrom a i k f e ≡ true → placedFrom b (j + k) l 0 0 ≡ true → placedFrom b j (k + l) f e ≡ true
-unfolding placedFrom placeOf onward
+unfolding placedFrom placeOf placesOnward
 graft a b i j zero l f e same h rest =
     let x : f ≡ 0 = eqb-true f 0 (and-left _ _ h) in
     let y : e ≡ 0 = eqb-true e 0 (and-right (eqb f 0) _ h) in
@@ -102,7 +102,7 @@ module _ (book more : List ℕ) (v : ValidBook book) (w : ValidBook more) where
       (λ m l. rw (left m l) (each-of (sumAt book) (blocks book) (valid-passes book v .sum) m l))
       (λ m l. rw (right m) (each-of (sumAt more) (blocks more) (valid-passes more w .sum) m l)))
 
-  append-placed : placed (book ++ more) ≡ true
+  append-placed : allInPlace (book ++ more) ≡ true
   unfolding placedFrom
   append-placed =
       let o : blocks more + 0 ≡ blocks more = omega arith in

@@ -10,7 +10,7 @@ use lib.Dec.{eqb}
 use borrow.Author.Tests.{eq-eqb, ne-eqb, not-true, not-false}
 use Rattle.typebook.specs.Book.{blocks, blockOf, fieldsOf, entriesOf}
 use Rattle.block_form.specs.Form.{sumRight, typeForm, fieldForm, entryForm}
-use Rattle.book_check.specs.Check.{sumAt, placeOf, onward, placedFrom, placed}
+use Rattle.book_check.specs.Check.{sumAt, placeOf, placesOnward, placedFrom, allInPlace}
 use Rattle.book_check.specs.declared.Place.{Place}
 use Rattle.book_check.specs.declared.Place.the-variants.{Next, Wrong}
 
@@ -79,30 +79,30 @@ module _ (book : List ℕ) (n f e : ℕ) (s : List ℕ) (q : s ≡ blockOf book 
     place-no-type h = sym (type ∙ rw h)
 
 module _ (book : List ℕ) where
-  pub placed-start : placed book ≡ placedFrom book 0 (blocks book - 0) 0 0
+  pub placed-start : allInPlace book ≡ placedFrom book 0 (blocks book - 0) 0 0
   placed-start = let k : blocks book - 0 ≡ blocks book = omega arith in rw k
 
-  module _ (i f e : ℕ) (inv : placed book ≡ placedFrom book i (blocks book - i) f e) (m : ℕ) (q : m ≡ blocks book) where
+  module _ (i f e : ℕ) (inv : allInPlace book ≡ placedFrom book i (blocks book - i) f e) (m : ℕ) (q : m ≡ blocks book) where
     module _ (l : i < m) (r : Place) (o : r ≡ placeOf book i f e) where
-      next : placed book ≡ onward (placedFrom book (i + 1) (blocks book - (i + 1))) r
+      next : allInPlace book ≡ placesOnward (placedFrom book (i + 1) (blocks book - (i + 1))) r
       unfolding placedFrom
       next = let k : blocks book - i ≡ suc (blocks book - (i + 1)) = omega arith in inv ∙ rw (k, o)
 
-      pub placed-stop : r ≡ Wrong → false ≡ placed book
-      unfolding onward
+      pub placed-stop : r ≡ Wrong → false ≡ allInPlace book
+      unfolding placesOnward
       placed-stop h = sym (next ∙ rw h)
 
-      pub placed-again : (f′ e′ : ℕ) → r ≡ Next f′ e′ → placed book ≡ placedFrom book (i + 1) (blocks book - (i + 1)) f′ e′
-      unfolding onward
+      pub placed-again : (f′ e′ : ℕ) → r ≡ Next f′ e′ → allInPlace book ≡ placedFrom book (i + 1) (blocks book - (i + 1)) f′ e′
+      unfolding placesOnward
       placed-again f′ e′ h = next ∙ rw h
 
     module _ (l : m ≤ i) where
-      last : placed book ≡ eqb f 0 && eqb e 0
+      last : allInPlace book ≡ eqb f 0 && eqb e 0
       unfolding placedFrom
       last = let k : blocks book - i ≡ 0 = omega arith in inv ∙ rw k
 
-      pub placed-fields : (f ≡ 0 → ⊥) → false ≡ placed book
+      pub placed-fields : (f ≡ 0 → ⊥) → false ≡ allInPlace book
       placed-fields h = sym (last ∙ rw (ne-eqb f 0 h))
 
-      pub placed-end : f ≡ 0 → eqb e 0 ≡ placed book
+      pub placed-end : f ≡ 0 → eqb e 0 ≡ allInPlace book
       placed-end h = sym (last ∙ rw (eq-eqb f 0 h))

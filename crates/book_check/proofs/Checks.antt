@@ -11,7 +11,7 @@ use lib.Dec.{eqb, leb, ltb}
 use Rattle.number.specs.Answer.{refusalOf}
 use Rattle.typebook.specs.Book.{blocks, isType}
 use Rattle.doubles.specs.Doubles.{distinct}
-use Rattle.book_check.specs.Check.{sizeRight, sums, placed, checkBlocks, checkBook, bookNumbers, rootOf, checkRoot}
+use Rattle.book_check.specs.Check.{sizeRight, sums, allInPlace, checkBlocks, checkBook, bookNumbers, rootOf, checkRoot}
 use Rattle.book_check.specs.declared.BookCheck.{BookCheck}
 use Rattle.book_check.specs.declared.BookCheck.the-variants.{Valid, Size, Sum, Form, Doubled}
 use Rattle.book_check.specs.declared.RootCheck.{RootCheck}
@@ -89,7 +89,7 @@ module _ (buffer : List ℕ) (len : ℕ) where
         unfolding checkBook checkBlocks
         book-sum g = rw (← e, not-false t h, ← o, not-true u g)
 
-        module _ (g : not u ≡ false) (v : Bool) (p : v ≡ placed (take len buffer)) where
+        module _ (g : not u ≡ false) (v : Bool) (p : v ≡ allInPlace (take len buffer)) where
           pub book-form : not v ≡ true → Form ≡ checkBook buffer len
           unfolding checkBook checkBlocks
           book-form k = rw (← e, not-false t h, ← o, not-false u g, ← p, not-true v k)
@@ -114,7 +114,7 @@ then t a b h e = rw h at e
 pub record Passed (room len : ℕ) (book : List ℕ) : Type 0 where
   pub size : Sized room len
   pub sum : sums book ≡ true
-  pub place : placed book ≡ true
+  pub place : allInPlace book ≡ true
   pub name : distinct book ≡ true
 
 pub passes : (buffer : List ℕ) (len : ℕ) → checkBook buffer len ≡ Valid → Passed (length buffer) len (take len buffer)
@@ -122,10 +122,10 @@ unfolding checkBook checkBlocks
 passes buffer len e =
     let book : List ℕ = take len buffer in
     let s : sizeRight (length buffer) len ≡ true = passed _ _ _ (λ q. let z : _≡_ {A = ℕ} 0 1 = cc in omega arith) e in
-    let a : cond (sums book) (cond (placed book) (cond (distinct book) Valid Doubled) Form) Sum ≡ Valid = then _ _ _ s e in
+    let a : cond (sums book) (cond (allInPlace book) (cond (distinct book) Valid Doubled) Form) Sum ≡ Valid = then _ _ _ s e in
     let u : sums book ≡ true = passed _ _ _ (λ q. let z : _≡_ {A = ℕ} 0 1 = cc in omega arith) a in
-    let b : cond (placed book) (cond (distinct book) Valid Doubled) Form ≡ Valid = then _ _ _ u a in
-    let v : placed book ≡ true = passed _ _ _ (λ q. let z : _≡_ {A = ℕ} 0 1 = cc in omega arith) b in
+    let b : cond (allInPlace book) (cond (distinct book) Valid Doubled) Form ≡ Valid = then _ _ _ u a in
+    let v : allInPlace book ≡ true = passed _ _ _ (λ q. let z : _≡_ {A = ℕ} 0 1 = cc in omega arith) b in
     let d : cond (distinct book) Valid Doubled ≡ Valid = then _ _ _ v b in
     record {
       size = sized _ _ s;
@@ -147,7 +147,7 @@ size-again room len h =
     let z : Sized room len = sized room len h in
     size-in len len (omega arith) (record { fits = omega arith; some = z .some; whole = z .whole; few = z .few })
 
-pub passes-again : (buffer : List ℕ) (len : ℕ) → sizeRight (length buffer) len ≡ true → sums (take len buffer) ≡ true → placed (take len buffer) ≡ true → distinct (take len buffer) ≡ true → checkBook buffer len ≡ Valid
+pub passes-again : (buffer : List ℕ) (len : ℕ) → sizeRight (length buffer) len ≡ true → sums (take len buffer) ≡ true → allInPlace (take len buffer) ≡ true → distinct (take len buffer) ≡ true → checkBook buffer len ≡ Valid
 unfolding checkBook checkBlocks
 passes-again buffer len z s p d = rw (z, s, p, d)
 

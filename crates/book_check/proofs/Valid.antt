@@ -17,7 +17,7 @@ use Rattle.typebook.proofs.Blocks.{byte-of-block, part-of-block}
 use Rattle.type_provider.proofs.Finds.{named-own, find-is, searched-all}
 use Rattle.block_form.specs.Form.{every, isZero, isPrintable, part, unusedZero, nameForm, namesForm, flagsForm, typeForm, fieldForm, entryForm}
 use Rattle.doubles.specs.Doubles.{allFrom, isOther, isFirst}
-use Rattle.book_check.specs.Check.{sizeRight, placeOf, onward, placedFrom, checkBook, ValidBook, rootOf, checkRoot, bookNumbers}
+use Rattle.book_check.specs.Check.{sizeRight, placeOf, placesOnward, placedFrom, checkBook, ValidBook, rootOf, checkRoot, bookNumbers}
 use Rattle.book_check.specs.declared.Place.the-variants.{Next, Wrong}
 use Rattle.book_check.specs.declared.BookCheck.the-variants.{Valid}
 use Rattle.book_check.specs.declared.RootCheck.the-variants.{Root, Refused}
@@ -147,13 +147,13 @@ pub record Run (book : List ℕ) (i k f e : ℕ) : Type 0 where
   pub entries : (j : ℕ) → j < e → entryForm (blockOf book (i + f + j)) ≡ true
 
 -- how a block passes its place
-pub chosen : (t : Bool) (go : ℕ → ℕ → Bool) (f e : ℕ) → onward go (cond t (Next f e) Wrong) ≡ true → t ≡ true
-unfolding onward
+pub chosen : (t : Bool) (go : ℕ → ℕ → Bool) (f e : ℕ) → placesOnward go (cond t (Next f e) Wrong) ≡ true → t ≡ true
+unfolding placesOnward
 chosen true go f e h = refl
 chosen false go f e h = h
 
-pub went : (t : Bool) (go : ℕ → ℕ → Bool) (f e : ℕ) → onward go (cond t (Next f e) Wrong) ≡ true → go f e ≡ true
-unfolding onward
+pub went : (t : Bool) (go : ℕ → ℕ → Bool) (f e : ℕ) → placesOnward go (cond t (Next f e) Wrong) ≡ true → go f e ≡ true
+unfolding placesOnward
 went true go f e h = h
 went false go f e h = cc
 

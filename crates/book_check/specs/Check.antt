@@ -39,22 +39,22 @@ placeOf book n zero (suc e) = cond (entryForm (blockOf book n)) (Next zero e) Wr
 placeOf book n zero zero = cond (typeForm (blockOf book n)) (Next (fieldsOf book n) (entriesOf book n)) Wrong
 
 -- what `go` says of the fields and entries due after a block; after a block that is not of its place, false
-unfoldable pub onward : (ℕ → ℕ → Bool) → Place → Bool
-onward go (Next f e) = go f e
-onward go Wrong = false
+unfoldable pub placesOnward : (ℕ → ℕ → Bool) → Place → Bool
+placesOnward go (Next f e) = go f e
+placesOnward go Wrong = false
 
 -- the k blocks from block n on have the form of their places, and nothing is due after them
 unfoldable pub placedFrom : List ℕ → ℕ → ℕ → ℕ → ℕ → Bool
 placedFrom book n zero f e = eqb f 0 && eqb e 0
-placedFrom book n (suc k) f e = onward (placedFrom book (n + 1) k) (placeOf book n f e)
+placedFrom book n (suc k) f e = placesOnward (placedFrom book (n + 1) k) (placeOf book n f e)
 
 -- 3: all blocks of the book have the form of their places, and nothing is due before the first or after the last
-abbrev pub placed : List ℕ → Bool
-placed book = placedFrom book 0 (blocks book) 0 0
+abbrev pub allInPlace : List ℕ → Bool
+allInPlace book = placedFrom book 0 (blocks book) 0 0
 
 -- 2 to 4 of a book: all of 2 before all of 3, all of 3 before 4, which is `distinct`: no two types of one name
 unfoldable pub checkBlocks : List ℕ → BookCheck
-checkBlocks book = cond (sums book) (cond (placed book) (cond (distinct book) Valid Doubled) Form) Sum
+checkBlocks book = cond (sums book) (cond (allInPlace book) (cond (distinct book) Valid Doubled) Form) Sum
 
 -- the book in the first `len` bytes of a buffer: 1 before 2 to 4
 unfoldable pub checkBook : List ℕ → ℕ → BookCheck

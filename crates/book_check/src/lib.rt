@@ -5,7 +5,7 @@ ghost use Prim.Native.Nat.{_≤_, _<_};
 ghost use lib.ListN.{length};
 ghost use Rattle.number.specs.Answer.{refusalOf};
 ghost use Rattle.typebook.specs.Book.{blocks as blocksOf, blockOf};
-ghost use Rattle.book_check.specs.Check.{sizeRight, sums, placeOf, placed as placedIn, checkBook, bookNumbers, rootNumbers, rootOf, checkRoot};
+ghost use Rattle.book_check.specs.Check.{sizeRight, sums, placeOf, allInPlace as placedIn, checkBook, bookNumbers, rootNumbers, rootOf, checkRoot};
 use block_form::entry_form;
 use block_form::field_form;
 use block_form::sum_right;

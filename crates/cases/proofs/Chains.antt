@@ -20,7 +20,7 @@ use Rattle.type_category.specs.Number as type-category-number
 use Rattle.type_provider.specs.Find as type-provider-find
 use Rattle.resolvers.specs.Resolve as resolvers-resolve
 use Rattle.resolvers.specs.Calls as resolvers-calls
-use Rattle.book_check.specs.Check.{sizeRight, sums, placed, rootOf}
+use Rattle.book_check.specs.Check.{sizeRight, sums, allInPlace, rootOf}
 use Rattle.book_check.specs.declared.RootCheck.the-variants as root
 use Rattle.doubles.specs.Doubles.{distinct, allFrom, isOther, isFirst}
 use Rattle.doubles.proofs.All.{all-of, each-of}
@@ -34,7 +34,7 @@ use Rattle.cases.specs.Blocks.{block, sumOf}
 use Rattle.cases.specs.Rows.{link, chain, aliases, aliasRow}
 
 -- a book that passes 1 to 4 part by part, and whose block 0 is a type: the answer is what the chain comes to
-by-parts : (b : List ℕ) (r : Resolved) → sizeRight (length b) (length b) ≡ true → sums b ≡ true → placed b ≡ true → distinct b ≡ true
+by-parts : (b : List ℕ) (r : Resolved) → sizeRight (length b) (length b) ≡ true → sums b ≡ true → allInPlace b ≡ true → distinct b ≡ true
     → rootOf b 0 ≡ root.Root 0 → resolveAlias b 8 0 ≡ r → aliasRow b ≡ resolutionNumbers (resolution r)
 unfolding book-check-check.checkBlocks book-check-check.checkBook book-check-check.bookNumbers book-check-check.checkRoot book-check-check.atRoot resolvers-calls.rootResolution
 by-parts b r size sum place other base goes = rw (take-length b, size, sum, place, other, base, goes)
@@ -76,8 +76,8 @@ hops-31-sums : sums (chain 31) ≡ true
 unfolding aliases block sumOf number-le.leValue number-le.leBytes block-form-form.sumOf block-form-form.sumRight book-check-check.sumAt doubles-doubles.allFrom
 hops-31-sums = refl
 
-hops-31-placed : placed (chain 31) ≡ true
-unfolding aliases block sumOf number-le.leValue number-le.leBytes book-check-check.placeOf book-check-check.onward book-check-check.placedFrom block-form-form.sumOf block-form-form.sumRight block-form-form.every block-form-form.unusedZero block-form-form.nameForm block-form-form.namesForm block-form-form.flagsForm block-form-form.typeForm block-form-form.fieldForm block-form-form.entryForm
+hops-31-placed : allInPlace (chain 31) ≡ true
+unfolding aliases block sumOf number-le.leValue number-le.leBytes book-check-check.placeOf book-check-check.placesOnward book-check-check.placedFrom block-form-form.sumOf block-form-form.sumRight block-form-form.every block-form-form.unusedZero block-form-form.nameForm block-form-form.namesForm block-form-form.flagsForm block-form-form.typeForm block-form-form.fieldForm block-form-form.entryForm
 hops-31-placed = refl
 
 hops-31-names : allFrom (linked (chain 31)) 0 (blocks (chain 31)) ≡ true
@@ -89,7 +89,7 @@ unfolding aliases block sumOf number-le.leValue number-le.leBytes book-check-che
 hops-31-root = refl
 
 hops-31-goes : resolveAlias (chain 31) 8 0 ≡ Base 31
-unfolding aliases block sumOf number-le.leValue number-le.leBytes type-id-typeid.idOf type-names-text.isOneOf type-names-text.startsWith type-names-text.contains type-names-names.isPointerName type-names-names.isSubRangeName type-names-names.isPrimitiveName type-category-category.isPointer type-category-category.isReference type-category-category.isAlias type-category-category.orElse type-category-category.isUnion type-category-category.methodsCategory type-category-category.fieldsCategory type-category-category.isEmptyStruct type-category-category.bareCategory type-category-category.sizeCategory type-category-category.complexCategory type-category-category.simpleCategory type-category-category.categoryOf type-category-number.categoryNumbers type-category-number.categoryAt type-provider-find.findFrom type-provider-find.find resolvers-resolve.resolvedNumbers resolvers-resolve.isFollowed resolvers-resolve.onward resolvers-resolve.follow resolvers-resolve.lookUp typebook-book.sameName typebook-book.isNamed
+unfolding aliases block sumOf number-le.leValue number-le.leBytes type-id-typeid.idOf type-names-text.isOneOf type-names-text.startsWith type-names-text.contains type-names-names.isPointerName type-names-names.isSubRangeName type-names-names.isPrimitiveName type-category-category.isPointer type-category-category.isReference type-category-category.isAlias type-category-category.orElse type-category-category.isUnion type-category-category.methodsCategory type-category-category.fieldsCategory type-category-category.isEmptyStruct type-category-category.bareCategory type-category-category.sizeCategory type-category-category.complexCategory type-category-category.simpleCategory type-category-category.categoryOf type-category-number.categoryNumbers type-category-number.categoryAt type-provider-find.findFrom type-provider-find.find resolvers-resolve.resolvedNumbers resolvers-resolve.isFollowed resolvers-resolve.chainOnward resolvers-resolve.follow resolvers-resolve.lookUp typebook-book.sameName typebook-book.isNamed
 hops-31-goes = refl
 
 pub hops-31 : _≡_ {A = List ℕ} (aliasRow (chain 31)) (0 ∷ 31 ∷ [])
@@ -104,8 +104,8 @@ hops-32-sums : sums (chain 32) ≡ true
 unfolding aliases block sumOf number-le.leValue number-le.leBytes block-form-form.sumOf block-form-form.sumRight book-check-check.sumAt doubles-doubles.allFrom
 hops-32-sums = refl
 
-hops-32-placed : placed (chain 32) ≡ true
-unfolding aliases block sumOf number-le.leValue number-le.leBytes book-check-check.placeOf book-check-check.onward book-check-check.placedFrom block-form-form.sumOf block-form-form.sumRight block-form-form.every block-form-form.unusedZero block-form-form.nameForm block-form-form.namesForm block-form-form.flagsForm block-form-form.typeForm block-form-form.fieldForm block-form-form.entryForm
+hops-32-placed : allInPlace (chain 32) ≡ true
+unfolding aliases block sumOf number-le.leValue number-le.leBytes book-check-check.placeOf book-check-check.placesOnward book-check-check.placedFrom block-form-form.sumOf block-form-form.sumRight block-form-form.every block-form-form.unusedZero block-form-form.nameForm block-form-form.namesForm block-form-form.flagsForm block-form-form.typeForm block-form-form.fieldForm block-form-form.entryForm
 hops-32-placed = refl
 
 hops-32-names : allFrom (linked (chain 32)) 0 (blocks (chain 32)) ≡ true
@@ -117,7 +117,7 @@ unfolding aliases block sumOf number-le.leValue number-le.leBytes book-check-che
 hops-32-root = refl
 
 hops-32-goes : resolveAlias (chain 32) 8 0 ≡ TooLong
-unfolding aliases block sumOf number-le.leValue number-le.leBytes type-id-typeid.idOf type-names-text.isOneOf type-names-text.startsWith type-names-text.contains type-names-names.isPointerName type-names-names.isSubRangeName type-names-names.isPrimitiveName type-category-category.isPointer type-category-category.isReference type-category-category.isAlias type-category-category.orElse type-category-category.isUnion type-category-category.methodsCategory type-category-category.fieldsCategory type-category-category.isEmptyStruct type-category-category.bareCategory type-category-category.sizeCategory type-category-category.complexCategory type-category-category.simpleCategory type-category-category.categoryOf type-category-number.categoryNumbers type-category-number.categoryAt type-provider-find.findFrom type-provider-find.find resolvers-resolve.resolvedNumbers resolvers-resolve.isFollowed resolvers-resolve.onward resolvers-resolve.follow resolvers-resolve.lookUp typebook-book.sameName typebook-book.isNamed
+unfolding aliases block sumOf number-le.leValue number-le.leBytes type-id-typeid.idOf type-names-text.isOneOf type-names-text.startsWith type-names-text.contains type-names-names.isPointerName type-names-names.isSubRangeName type-names-names.isPrimitiveName type-category-category.isPointer type-category-category.isReference type-category-category.isAlias type-category-category.orElse type-category-category.isUnion type-category-category.methodsCategory type-category-category.fieldsCategory type-category-category.isEmptyStruct type-category-category.bareCategory type-category-category.sizeCategory type-category-category.complexCategory type-category-category.simpleCategory type-category-category.categoryOf type-category-number.categoryNumbers type-category-number.categoryAt type-provider-find.findFrom type-provider-find.find resolvers-resolve.resolvedNumbers resolvers-resolve.isFollowed resolvers-resolve.chainOnward resolvers-resolve.follow resolvers-resolve.lookUp typebook-book.sameName typebook-book.isNamed
 hops-32-goes = refl
 
 pub hops-32 : _≡_ {A = List ℕ} (aliasRow (chain 32)) (8 ∷ [])
@@ -132,8 +132,8 @@ target-missing-sums : sums (aliases 0 32) ≡ true
 unfolding aliases block sumOf number-le.leValue number-le.leBytes block-form-form.sumOf block-form-form.sumRight book-check-check.sumAt doubles-doubles.allFrom
 target-missing-sums = refl
 
-target-missing-placed : placed (aliases 0 32) ≡ true
-unfolding aliases block sumOf number-le.leValue number-le.leBytes book-check-check.placeOf book-check-check.onward book-check-check.placedFrom block-form-form.sumOf block-form-form.sumRight block-form-form.every block-form-form.unusedZero block-form-form.nameForm block-form-form.namesForm block-form-form.flagsForm block-form-form.typeForm block-form-form.fieldForm block-form-form.entryForm
+target-missing-placed : allInPlace (aliases 0 32) ≡ true
+unfolding aliases block sumOf number-le.leValue number-le.leBytes book-check-check.placeOf book-check-check.placesOnward book-check-check.placedFrom block-form-form.sumOf block-form-form.sumRight block-form-form.every block-form-form.unusedZero block-form-form.nameForm block-form-form.namesForm block-form-form.flagsForm block-form-form.typeForm block-form-form.fieldForm block-form-form.entryForm
 target-missing-placed = refl
 
 target-missing-names : allFrom (linked (aliases 0 32)) 0 (blocks (aliases 0 32)) ≡ true
@@ -145,7 +145,7 @@ unfolding aliases block sumOf number-le.leValue number-le.leBytes book-check-che
 target-missing-root = refl
 
 target-missing-goes : resolveAlias (aliases 0 32) 8 0 ≡ Lacks 31
-unfolding aliases block sumOf number-le.leValue number-le.leBytes type-id-typeid.idOf type-names-text.isOneOf type-names-text.startsWith type-names-text.contains type-names-names.isPointerName type-names-names.isSubRangeName type-names-names.isPrimitiveName type-category-category.isPointer type-category-category.isReference type-category-category.isAlias type-category-category.orElse type-category-category.isUnion type-category-category.methodsCategory type-category-category.fieldsCategory type-category-category.isEmptyStruct type-category-category.bareCategory type-category-category.sizeCategory type-category-category.complexCategory type-category-category.simpleCategory type-category-category.categoryOf type-category-number.categoryNumbers type-category-number.categoryAt type-provider-find.findFrom type-provider-find.find resolvers-resolve.resolvedNumbers resolvers-resolve.isFollowed resolvers-resolve.onward resolvers-resolve.follow resolvers-resolve.lookUp typebook-book.sameName typebook-book.isNamed
+unfolding aliases block sumOf number-le.leValue number-le.leBytes type-id-typeid.idOf type-names-text.isOneOf type-names-text.startsWith type-names-text.contains type-names-names.isPointerName type-names-names.isSubRangeName type-names-names.isPrimitiveName type-category-category.isPointer type-category-category.isReference type-category-category.isAlias type-category-category.orElse type-category-category.isUnion type-category-category.methodsCategory type-category-category.fieldsCategory type-category-category.isEmptyStruct type-category-category.bareCategory type-category-category.sizeCategory type-category-category.complexCategory type-category-category.simpleCategory type-category-category.categoryOf type-category-number.categoryNumbers type-category-number.categoryAt type-provider-find.findFrom type-provider-find.find resolvers-resolve.resolvedNumbers resolvers-resolve.isFollowed resolvers-resolve.chainOnward resolvers-resolve.follow resolvers-resolve.lookUp typebook-book.sameName typebook-book.isNamed
 target-missing-goes = refl
 
 pub target-missing : _≡_ {A = List ℕ} (aliasRow (aliases 0 32)) (7 ∷ 31 ∷ [])

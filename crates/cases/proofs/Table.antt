@@ -54,60 +54,60 @@ use Rattle.cases.proofs.Chains.{hops-31, hops-32, target-missing}
 
 -- integers, texts read and written, categories: each row is computed
 minus-128 : _≡_ {A = List ℕ} (integerReadNumbers (readInteger Int8 (0x80 ∷ []))) (integerIs 1 (negsuc 127))
-unfolding integer-integer.integerNumbers integer-integer.integerReadNumbers integer-integer.integerWriteNumbers integer-integer.twosComplement integer-integer.twosBits integer-integer.bytesValue integer-integer.integerOf integer-integer.readInteger integer-integer.fitsSigned integer-integer.fitsUnsigned integer-integer.fitsId integer-integer.writeInteger integer-integer.bufferAfter integer-integer.integerBytes number-le.leValue
+unfolding integer-integer.integerNumbers integer-integer.integerReadNumbers integer-integer.integerWriteNumbers integer-integer.twosComplement integer-integer.twosBits integer-integer.bytesValue integer-integer.integerOf integer-integer.readInteger integer-integer.fitsSigned integer-integer.fitsUnsigned integer-integer.fitsId integer-integer.writeInteger integer-integer.integerAfter integer-integer.integerBytes number-le.leValue
 minus-128 = refl
 
 minus-32768 : _≡_ {A = List ℕ} (integerReadNumbers (readInteger Int16 (0x00 ∷ 0x80 ∷ []))) (integerIs 2 (negsuc 32767))
-unfolding integer-integer.integerNumbers integer-integer.integerReadNumbers integer-integer.integerWriteNumbers integer-integer.twosComplement integer-integer.twosBits integer-integer.bytesValue integer-integer.integerOf integer-integer.readInteger integer-integer.fitsSigned integer-integer.fitsUnsigned integer-integer.fitsId integer-integer.writeInteger integer-integer.bufferAfter integer-integer.integerBytes number-le.leValue
+unfolding integer-integer.integerNumbers integer-integer.integerReadNumbers integer-integer.integerWriteNumbers integer-integer.twosComplement integer-integer.twosBits integer-integer.bytesValue integer-integer.integerOf integer-integer.readInteger integer-integer.fitsSigned integer-integer.fitsUnsigned integer-integer.fitsId integer-integer.writeInteger integer-integer.integerAfter integer-integer.integerBytes number-le.leValue
 minus-32768 = refl
 
 plus-32767 : _≡_ {A = List ℕ} (integerReadNumbers (readInteger Int16 (0xff ∷ 0x7f ∷ []))) (integerIs 2 (pos 32767))
-unfolding integer-integer.integerNumbers integer-integer.integerReadNumbers integer-integer.integerWriteNumbers integer-integer.twosComplement integer-integer.twosBits integer-integer.bytesValue integer-integer.integerOf integer-integer.readInteger integer-integer.fitsSigned integer-integer.fitsUnsigned integer-integer.fitsId integer-integer.writeInteger integer-integer.bufferAfter integer-integer.integerBytes number-le.leValue
+unfolding integer-integer.integerNumbers integer-integer.integerReadNumbers integer-integer.integerWriteNumbers integer-integer.twosComplement integer-integer.twosBits integer-integer.bytesValue integer-integer.integerOf integer-integer.readInteger integer-integer.fitsSigned integer-integer.fitsUnsigned integer-integer.fitsId integer-integer.writeInteger integer-integer.integerAfter integer-integer.integerBytes number-le.leValue
 plus-32767 = refl
 
 wide-text : _≡_ {A = List ℕ} (readRow (oneType 31 6) (0x41 ∷ 0x00 ∷ 0x3d ∷ 0xd8 ∷ 0x00 ∷ 0x00 ∷ []) 4) ((0 ∷ 1 ∷ 4 ∷ 0x41 ∷ 0xef ∷ 0xbf ∷ 0xbd ∷ []))
-unfolding flatMap block sumOf number-le.leValue number-le.leBytes typebook-book.sameName typebook-book.isNamed block-form-form.sumOf block-form-form.sumRight block-form-form.every block-form-form.unusedZero block-form-form.nameForm block-form-form.namesForm block-form-form.flagsForm block-form-form.typeForm block-form-form.fieldForm block-form-form.entryForm doubles-doubles.allFrom doubles-doubles.isOther doubles-doubles.isFirst book-check-check.sizeRight book-check-check.sumAt book-check-check.placeOf book-check-check.onward book-check-check.placedFrom book-check-check.checkBlocks book-check-check.checkBook book-check-check.bookNumbers book-check-check.rootOf book-check-check.checkRoot book-check-check.atRoot type-id-typeid.idOf type-names-text.isOneOf type-names-text.startsWith type-names-text.contains type-names-names.isPointerName type-names-names.isSubRangeName type-names-names.isPrimitiveName type-category-category.isPointer type-category-category.isReference type-category-category.isAlias type-category-category.orElse type-category-category.isUnion type-category-category.methodsCategory type-category-category.fieldsCategory type-category-category.isEmptyStruct type-category-category.bareCategory type-category-category.sizeCategory type-category-category.complexCategory type-category-category.simpleCategory type-category-category.categoryOf type-category-number.categoryNumbers type-category-number.categoryAt type-provider-find.findFrom type-provider-find.find resolvers-resolve.resolvedNumbers resolvers-resolve.isFollowed resolvers-resolve.onward resolvers-resolve.follow resolvers-resolve.lookUp resolvers-calls.resolutionNumbers resolvers-calls.resolution resolvers-calls.rootResolution utf-8-buffer.splice utf-8-buffer.fitsIn utf-8-utf8.leading utf-8-utf8.following utf-8-utf8.after utf-8-utf8.decodeFrom utf-8-utf8.noError utf-8-utf8.found utf-8-utf8.nextFrom utf-8-utf8.encoded utf-8-utf8.utf8Of utf-16-decode.unitAlone utf-16-decode.unitAfter utf-16-decode.decodeFrom utf-16-decode.decodeScalars utf-16-wstring.endFrom text-decoder-text.endBy text-decoder-text.decodedBy tape-record.recordBytes tape-record.recordOf tape-record.stepAt leaves-leaf.leafNumbers leaves-leaf.boolLeaf leaves-leaf.integerLeaf leaves-leaf.realOr leaves-leaf.numberLeaf leaves-leaf.pointerLeaf leaves-leaf.decoderOf leaves-leaf.textLeaf leaves-leaf.entryFrom leaves-leaf.unlisted leaves-leaf.enumLeaf leaves-leaf.kindLeaf leaves-leaf.leafBy leaves-leaf.leafAt steps-trace.textBytes steps-trace.tapeBytes steps-trace.eventsOf steps-trace.endOf steps-trace._then_ steps-trace.fits steps-trace.stepOf steps-trace.fitting steps-answer.readNumbers array-elements-element.elementItem array-elements-element.shapeAt array-elements-element.shapeCheck array-elements-element.elementCheck array-elements-element.shapePlan array-elements-element.elementPlan de-walk.leafOf de-walk.checked de-walk.fieldValue de-walk.memberOf de-walk.membersFrom de-walk.membersOf de-walk.mapOf de-walk.elementsFrom de-walk.elementsOf de-walk.dimensionOf de-walk.elementBy de-walk.arrayBy de-walk.arrayOf de-walk.shapeWalk de-walk.itemWalk de-walk.walk de-read.rootBy de-read.rootTrace de-read.readTrace
+unfolding flatMap block sumOf number-le.leValue number-le.leBytes typebook-book.sameName typebook-book.isNamed block-form-form.sumOf block-form-form.sumRight block-form-form.every block-form-form.unusedZero block-form-form.nameForm block-form-form.namesForm block-form-form.flagsForm block-form-form.typeForm block-form-form.fieldForm block-form-form.entryForm doubles-doubles.allFrom doubles-doubles.isOther doubles-doubles.isFirst book-check-check.sizeRight book-check-check.sumAt book-check-check.placeOf book-check-check.placesOnward book-check-check.placedFrom book-check-check.checkBlocks book-check-check.checkBook book-check-check.bookNumbers book-check-check.rootOf book-check-check.checkRoot book-check-check.atRoot type-id-typeid.idOf type-names-text.isOneOf type-names-text.startsWith type-names-text.contains type-names-names.isPointerName type-names-names.isSubRangeName type-names-names.isPrimitiveName type-category-category.isPointer type-category-category.isReference type-category-category.isAlias type-category-category.orElse type-category-category.isUnion type-category-category.methodsCategory type-category-category.fieldsCategory type-category-category.isEmptyStruct type-category-category.bareCategory type-category-category.sizeCategory type-category-category.complexCategory type-category-category.simpleCategory type-category-category.categoryOf type-category-number.categoryNumbers type-category-number.categoryAt type-provider-find.findFrom type-provider-find.find resolvers-resolve.resolvedNumbers resolvers-resolve.isFollowed resolvers-resolve.chainOnward resolvers-resolve.follow resolvers-resolve.lookUp resolvers-calls.resolutionNumbers resolvers-calls.resolution resolvers-calls.rootResolution utf-8-buffer.splice utf-8-buffer.fitsIn utf-8-utf8.leading utf-8-utf8.following utf-8-utf8.afterReply utf-8-utf8.decodeFrom utf-8-utf8.noError utf-8-utf8.found utf-8-utf8.nextFrom utf-8-utf8.encoded utf-8-utf8.utf8Of utf-16-decode.unitAlone utf-16-decode.unitAfter utf-16-decode.decodeFrom utf-16-decode.decodeScalars utf-16-wstring.endFrom text-decoder-text.endBy text-decoder-text.decodedBy tape-record.recordBytes tape-record.recordOf tape-record.stepAt leaves-leaf.leafNumbers leaves-leaf.boolLeaf leaves-leaf.integerLeaf leaves-leaf.realOr leaves-leaf.numberLeaf leaves-leaf.pointerLeaf leaves-leaf.decoderOf leaves-leaf.textLeaf leaves-leaf.entryFrom leaves-leaf.unlisted leaves-leaf.enumLeaf leaves-leaf.kindLeaf leaves-leaf.leafBy leaves-leaf.leafAt steps-trace.textBytes steps-trace.tapeBytes steps-trace.eventsOf steps-trace.endOf steps-trace._then_ steps-trace.fits steps-trace.stepOf steps-trace.fitting steps-answer.readNumbers array-elements-element.elementItem array-elements-element.shapeAt array-elements-element.shapeCheck array-elements-element.elementCheck array-elements-element.shapePlan array-elements-element.elementPlan de-walk.leafOf de-walk.checked de-walk.fieldValue de-walk.memberOf de-walk.membersFrom de-walk.membersOf de-walk.mapOf de-walk.elementsFrom de-walk.elementsOf de-walk.dimensionOf de-walk.elementBy de-walk.arrayBy de-walk.arrayOf de-walk.shapeWalk de-walk.itemWalk de-walk.walk de-read.rootBy de-read.rootTrace de-read.readTrace
 wide-text = refl
 
 odd-byte : _≡_ {A = List ℕ} (readRow (oneType 31 1) (0x41 ∷ []) 3) ((0 ∷ 1 ∷ 3 ∷ 0xef ∷ 0xbf ∷ 0xbd ∷ []))
-unfolding flatMap block sumOf number-le.leValue number-le.leBytes typebook-book.sameName typebook-book.isNamed block-form-form.sumOf block-form-form.sumRight block-form-form.every block-form-form.unusedZero block-form-form.nameForm block-form-form.namesForm block-form-form.flagsForm block-form-form.typeForm block-form-form.fieldForm block-form-form.entryForm doubles-doubles.allFrom doubles-doubles.isOther doubles-doubles.isFirst book-check-check.sizeRight book-check-check.sumAt book-check-check.placeOf book-check-check.onward book-check-check.placedFrom book-check-check.checkBlocks book-check-check.checkBook book-check-check.bookNumbers book-check-check.rootOf book-check-check.checkRoot book-check-check.atRoot type-id-typeid.idOf type-names-text.isOneOf type-names-text.startsWith type-names-text.contains type-names-names.isPointerName type-names-names.isSubRangeName type-names-names.isPrimitiveName type-category-category.isPointer type-category-category.isReference type-category-category.isAlias type-category-category.orElse type-category-category.isUnion type-category-category.methodsCategory type-category-category.fieldsCategory type-category-category.isEmptyStruct type-category-category.bareCategory type-category-category.sizeCategory type-category-category.complexCategory type-category-category.simpleCategory type-category-category.categoryOf type-category-number.categoryNumbers type-category-number.categoryAt type-provider-find.findFrom type-provider-find.find resolvers-resolve.resolvedNumbers resolvers-resolve.isFollowed resolvers-resolve.onward resolvers-resolve.follow resolvers-resolve.lookUp resolvers-calls.resolutionNumbers resolvers-calls.resolution resolvers-calls.rootResolution utf-8-buffer.splice utf-8-buffer.fitsIn utf-8-utf8.leading utf-8-utf8.following utf-8-utf8.after utf-8-utf8.decodeFrom utf-8-utf8.noError utf-8-utf8.found utf-8-utf8.nextFrom utf-8-utf8.encoded utf-8-utf8.utf8Of utf-16-decode.unitAlone utf-16-decode.unitAfter utf-16-decode.decodeFrom utf-16-decode.decodeScalars utf-16-wstring.endFrom text-decoder-text.endBy text-decoder-text.decodedBy tape-record.recordBytes tape-record.recordOf tape-record.stepAt leaves-leaf.leafNumbers leaves-leaf.boolLeaf leaves-leaf.integerLeaf leaves-leaf.realOr leaves-leaf.numberLeaf leaves-leaf.pointerLeaf leaves-leaf.decoderOf leaves-leaf.textLeaf leaves-leaf.entryFrom leaves-leaf.unlisted leaves-leaf.enumLeaf leaves-leaf.kindLeaf leaves-leaf.leafBy leaves-leaf.leafAt steps-trace.textBytes steps-trace.tapeBytes steps-trace.eventsOf steps-trace.endOf steps-trace._then_ steps-trace.fits steps-trace.stepOf steps-trace.fitting steps-answer.readNumbers array-elements-element.elementItem array-elements-element.shapeAt array-elements-element.shapeCheck array-elements-element.elementCheck array-elements-element.shapePlan array-elements-element.elementPlan de-walk.leafOf de-walk.checked de-walk.fieldValue de-walk.memberOf de-walk.membersFrom de-walk.membersOf de-walk.mapOf de-walk.elementsFrom de-walk.elementsOf de-walk.dimensionOf de-walk.elementBy de-walk.arrayBy de-walk.arrayOf de-walk.shapeWalk de-walk.itemWalk de-walk.walk de-read.rootBy de-read.rootTrace de-read.readTrace
+unfolding flatMap block sumOf number-le.leValue number-le.leBytes typebook-book.sameName typebook-book.isNamed block-form-form.sumOf block-form-form.sumRight block-form-form.every block-form-form.unusedZero block-form-form.nameForm block-form-form.namesForm block-form-form.flagsForm block-form-form.typeForm block-form-form.fieldForm block-form-form.entryForm doubles-doubles.allFrom doubles-doubles.isOther doubles-doubles.isFirst book-check-check.sizeRight book-check-check.sumAt book-check-check.placeOf book-check-check.placesOnward book-check-check.placedFrom book-check-check.checkBlocks book-check-check.checkBook book-check-check.bookNumbers book-check-check.rootOf book-check-check.checkRoot book-check-check.atRoot type-id-typeid.idOf type-names-text.isOneOf type-names-text.startsWith type-names-text.contains type-names-names.isPointerName type-names-names.isSubRangeName type-names-names.isPrimitiveName type-category-category.isPointer type-category-category.isReference type-category-category.isAlias type-category-category.orElse type-category-category.isUnion type-category-category.methodsCategory type-category-category.fieldsCategory type-category-category.isEmptyStruct type-category-category.bareCategory type-category-category.sizeCategory type-category-category.complexCategory type-category-category.simpleCategory type-category-category.categoryOf type-category-number.categoryNumbers type-category-number.categoryAt type-provider-find.findFrom type-provider-find.find resolvers-resolve.resolvedNumbers resolvers-resolve.isFollowed resolvers-resolve.chainOnward resolvers-resolve.follow resolvers-resolve.lookUp resolvers-calls.resolutionNumbers resolvers-calls.resolution resolvers-calls.rootResolution utf-8-buffer.splice utf-8-buffer.fitsIn utf-8-utf8.leading utf-8-utf8.following utf-8-utf8.afterReply utf-8-utf8.decodeFrom utf-8-utf8.noError utf-8-utf8.found utf-8-utf8.nextFrom utf-8-utf8.encoded utf-8-utf8.utf8Of utf-16-decode.unitAlone utf-16-decode.unitAfter utf-16-decode.decodeFrom utf-16-decode.decodeScalars utf-16-wstring.endFrom text-decoder-text.endBy text-decoder-text.decodedBy tape-record.recordBytes tape-record.recordOf tape-record.stepAt leaves-leaf.leafNumbers leaves-leaf.boolLeaf leaves-leaf.integerLeaf leaves-leaf.realOr leaves-leaf.numberLeaf leaves-leaf.pointerLeaf leaves-leaf.decoderOf leaves-leaf.textLeaf leaves-leaf.entryFrom leaves-leaf.unlisted leaves-leaf.enumLeaf leaves-leaf.kindLeaf leaves-leaf.leafBy leaves-leaf.leafAt steps-trace.textBytes steps-trace.tapeBytes steps-trace.eventsOf steps-trace.endOf steps-trace._then_ steps-trace.fits steps-trace.stepOf steps-trace.fitting steps-answer.readNumbers array-elements-element.elementItem array-elements-element.shapeAt array-elements-element.shapeCheck array-elements-element.elementCheck array-elements-element.shapePlan array-elements-element.elementPlan de-walk.leafOf de-walk.checked de-walk.fieldValue de-walk.memberOf de-walk.membersFrom de-walk.membersOf de-walk.mapOf de-walk.elementsFrom de-walk.elementsOf de-walk.dimensionOf de-walk.elementBy de-walk.arrayBy de-walk.arrayOf de-walk.shapeWalk de-walk.itemWalk de-walk.walk de-read.rootBy de-read.rootTrace de-read.readTrace
 odd-byte = refl
 
 fits-eight : _≡_ {A = List ℕ} (writeRow 8) ((0 ∷ 0x26 ∷ 0x23 ∷ 0x31 ∷ 0x30 ∷ 0x34 ∷ 0x36 ∷ 0x3b ∷ 0x00 ∷ []))
-unfolding flatMap block sumOf number-le.leValue number-le.leBytes typebook-book.sameName typebook-book.isNamed block-form-form.sumOf block-form-form.sumRight block-form-form.every block-form-form.unusedZero block-form-form.nameForm block-form-form.namesForm block-form-form.flagsForm block-form-form.typeForm block-form-form.fieldForm block-form-form.entryForm doubles-doubles.allFrom doubles-doubles.isOther doubles-doubles.isFirst book-check-check.sizeRight book-check-check.sumAt book-check-check.placeOf book-check-check.onward book-check-check.placedFrom book-check-check.checkBlocks book-check-check.checkBook book-check-check.bookNumbers book-check-check.rootOf book-check-check.checkRoot book-check-check.atRoot type-id-typeid.idOf type-names-text.isOneOf type-names-text.startsWith type-names-text.contains type-names-names.isPointerName type-names-names.isSubRangeName type-names-names.isPrimitiveName type-category-category.isPointer type-category-category.isReference type-category-category.isAlias type-category-category.orElse type-category-category.isUnion type-category-category.methodsCategory type-category-category.fieldsCategory type-category-category.isEmptyStruct type-category-category.bareCategory type-category-category.sizeCategory type-category-category.complexCategory type-category-category.simpleCategory type-category-category.categoryOf type-category-number.categoryNumbers type-category-number.categoryAt type-provider-find.findFrom type-provider-find.find resolvers-resolve.resolvedNumbers resolvers-resolve.isFollowed resolvers-resolve.onward resolvers-resolve.follow resolvers-resolve.lookUp resolvers-calls.resolutionNumbers resolvers-calls.resolution resolvers-calls.rootResolution integer-integer.integerNumbers integer-integer.integerReadNumbers integer-integer.integerWriteNumbers integer-integer.twosComplement integer-integer.twosBits integer-integer.bytesValue integer-integer.integerOf integer-integer.readInteger integer-integer.fitsSigned integer-integer.fitsUnsigned integer-integer.fitsId integer-integer.writeInteger integer-integer.bufferAfter integer-integer.integerBytes utf-8-buffer.splice utf-8-buffer.fitsIn utf-8-utf8.leading utf-8-utf8.following utf-8-utf8.after utf-8-utf8.decodeFrom utf-8-utf8.noError utf-8-utf8.found utf-8-utf8.nextFrom utf-8-utf8.encoded utf-8-utf8.utf8Of windows-1252-index.listed windows-1252-index.codePoint windows-1252-index.firstFrom windows-1252-index.byteOf windows-1252-text.endFrom windows-1252-text.decodeText windows-1252-text.digits windows-1252-text.bytesBy windows-1252-text.encodeText tape-record.recordBytes tape-record.recordOf tape-record.stepAt tape-text.partOf tape-text.nameIn tape-text.recordText tape-form-ranges.unused tape-form-ranges.isWidth tape-form-ranges.blockIs tape-form-ranges.textIn tape-form-ranges.onlyA tape-form-ranges.empty tape-form-ranges.names tape-form-ranges.onlyB tape-form-ranges.sized tape-form-ranges.integerFine tape-form-ranges.textual tape-form-ranges.leafBy tape-form-ranges.leafFine tape-form-form.withRecord tape-form-form.onward tape-form-form.closing tape-form-form.several tape-form-form.memberAt tape-form-form.shapeOf tape-form-form.valueBy tape-form-form.valueAt tape-form-form.endsAt tape-form-form.formed ser-leaf-leaf.exactly ser-leaf-leaf.boolLeaf ser-leaf-leaf.realLeaf ser-leaf-leaf.integerBy ser-leaf-leaf.pointerLeaf ser-leaf-leaf.integerLeaf ser-leaf-leaf.entryBy ser-leaf-leaf.entryLeaf ser-leaf-leaf.enumLeaf ser-leaf-leaf.padded ser-leaf-leaf.textBy ser-leaf-leaf.textLeaf ser-leaf-leaf.leafBy ser-write._then_ ser-write.placed ser-write.takenBy ser-write.taken ser-write.endBy ser-write.leafEnd ser-write.leafOf ser-write.checked ser-write.fieldValue ser-write.foundValue ser-write.keyBy ser-write.keyOf ser-write.keysFrom ser-write.mapBy ser-write.mapOf ser-write.elementsFrom ser-write.elementsBy ser-write.dimensionOf ser-write.elementType ser-write.enteredBy ser-write.enteredAt ser-write.arrayBy ser-write.arrayOf ser-write.valueBy ser-write.itemWalk ser-write.walk ser-call.typeWrite ser-call.rootBy ser-call.rootWrite ser-call.refusedBefore ser-call.bookWrite ser-call.writeCall ser-call.writeNumbers
+unfolding flatMap block sumOf number-le.leValue number-le.leBytes typebook-book.sameName typebook-book.isNamed block-form-form.sumOf block-form-form.sumRight block-form-form.every block-form-form.unusedZero block-form-form.nameForm block-form-form.namesForm block-form-form.flagsForm block-form-form.typeForm block-form-form.fieldForm block-form-form.entryForm doubles-doubles.allFrom doubles-doubles.isOther doubles-doubles.isFirst book-check-check.sizeRight book-check-check.sumAt book-check-check.placeOf book-check-check.placesOnward book-check-check.placedFrom book-check-check.checkBlocks book-check-check.checkBook book-check-check.bookNumbers book-check-check.rootOf book-check-check.checkRoot book-check-check.atRoot type-id-typeid.idOf type-names-text.isOneOf type-names-text.startsWith type-names-text.contains type-names-names.isPointerName type-names-names.isSubRangeName type-names-names.isPrimitiveName type-category-category.isPointer type-category-category.isReference type-category-category.isAlias type-category-category.orElse type-category-category.isUnion type-category-category.methodsCategory type-category-category.fieldsCategory type-category-category.isEmptyStruct type-category-category.bareCategory type-category-category.sizeCategory type-category-category.complexCategory type-category-category.simpleCategory type-category-category.categoryOf type-category-number.categoryNumbers type-category-number.categoryAt type-provider-find.findFrom type-provider-find.find resolvers-resolve.resolvedNumbers resolvers-resolve.isFollowed resolvers-resolve.chainOnward resolvers-resolve.follow resolvers-resolve.lookUp resolvers-calls.resolutionNumbers resolvers-calls.resolution resolvers-calls.rootResolution integer-integer.integerNumbers integer-integer.integerReadNumbers integer-integer.integerWriteNumbers integer-integer.twosComplement integer-integer.twosBits integer-integer.bytesValue integer-integer.integerOf integer-integer.readInteger integer-integer.fitsSigned integer-integer.fitsUnsigned integer-integer.fitsId integer-integer.writeInteger integer-integer.integerAfter integer-integer.integerBytes utf-8-buffer.splice utf-8-buffer.fitsIn utf-8-utf8.leading utf-8-utf8.following utf-8-utf8.afterReply utf-8-utf8.decodeFrom utf-8-utf8.noError utf-8-utf8.found utf-8-utf8.nextFrom utf-8-utf8.encoded utf-8-utf8.utf8Of windows-1252-index.listedPoints windows-1252-index.codePoint windows-1252-index.firstFrom windows-1252-index.byteOf windows-1252-text.endFrom windows-1252-text.decodeText windows-1252-text.digits windows-1252-text.bytesBy windows-1252-text.encodeText tape-record.recordBytes tape-record.recordOf tape-record.stepAt tape-text.textPart tape-text.nameIn tape-text.recordText tape-form-ranges.unused tape-form-ranges.isWidth tape-form-ranges.blockIs tape-form-ranges.textIn tape-form-ranges.onlyA tape-form-ranges.empty tape-form-ranges.namesBlock tape-form-ranges.onlyB tape-form-ranges.sized tape-form-ranges.integerFine tape-form-ranges.textual tape-form-ranges.leafBy tape-form-ranges.leafFine tape-form-form.withRecord tape-form-form.formOnward tape-form-form.closingRecord tape-form-form.several tape-form-form.memberAt tape-form-form.recordShape tape-form-form.bodyBy tape-form-form.valueAt tape-form-form.atTapeEnd tape-form-form.formed ser-leaf-leaf.exactly ser-leaf-leaf.boolLeaf ser-leaf-leaf.realLeaf ser-leaf-leaf.integerBy ser-leaf-leaf.pointerLeaf ser-leaf-leaf.integerLeaf ser-leaf-leaf.entryBy ser-leaf-leaf.entryLeaf ser-leaf-leaf.enumLeaf ser-leaf-leaf.padded ser-leaf-leaf.textBy ser-leaf-leaf.textLeaf ser-leaf-leaf.leafBy ser-write._then_ ser-write.placed ser-write.takenBy ser-write.taken ser-write.endRecordBy ser-write.leafEnd ser-write.leafOf ser-write.checked ser-write.fieldValue ser-write.foundValue ser-write.keyBy ser-write.keyOf ser-write.keysFrom ser-write.mapBy ser-write.mapOf ser-write.elementsFrom ser-write.elementsBy ser-write.dimensionOf ser-write.elementType ser-write.enteredBy ser-write.enteredAt ser-write.arrayBy ser-write.arrayOf ser-write.valueBy ser-write.itemWalk ser-write.walk ser-call.typeWrite ser-call.rootBy ser-call.rootWrite ser-call.refusedBefore ser-call.bookWrite ser-call.writeCall ser-call.writeNumbers
 fits-eight = refl
 
 not-seven : _≡_ {A = List ℕ} (writeRow 7) ((10 ∷ image 7))
-unfolding flatMap block sumOf number-le.leValue number-le.leBytes typebook-book.sameName typebook-book.isNamed block-form-form.sumOf block-form-form.sumRight block-form-form.every block-form-form.unusedZero block-form-form.nameForm block-form-form.namesForm block-form-form.flagsForm block-form-form.typeForm block-form-form.fieldForm block-form-form.entryForm doubles-doubles.allFrom doubles-doubles.isOther doubles-doubles.isFirst book-check-check.sizeRight book-check-check.sumAt book-check-check.placeOf book-check-check.onward book-check-check.placedFrom book-check-check.checkBlocks book-check-check.checkBook book-check-check.bookNumbers book-check-check.rootOf book-check-check.checkRoot book-check-check.atRoot type-id-typeid.idOf type-names-text.isOneOf type-names-text.startsWith type-names-text.contains type-names-names.isPointerName type-names-names.isSubRangeName type-names-names.isPrimitiveName type-category-category.isPointer type-category-category.isReference type-category-category.isAlias type-category-category.orElse type-category-category.isUnion type-category-category.methodsCategory type-category-category.fieldsCategory type-category-category.isEmptyStruct type-category-category.bareCategory type-category-category.sizeCategory type-category-category.complexCategory type-category-category.simpleCategory type-category-category.categoryOf type-category-number.categoryNumbers type-category-number.categoryAt type-provider-find.findFrom type-provider-find.find resolvers-resolve.resolvedNumbers resolvers-resolve.isFollowed resolvers-resolve.onward resolvers-resolve.follow resolvers-resolve.lookUp resolvers-calls.resolutionNumbers resolvers-calls.resolution resolvers-calls.rootResolution integer-integer.integerNumbers integer-integer.integerReadNumbers integer-integer.integerWriteNumbers integer-integer.twosComplement integer-integer.twosBits integer-integer.bytesValue integer-integer.integerOf integer-integer.readInteger integer-integer.fitsSigned integer-integer.fitsUnsigned integer-integer.fitsId integer-integer.writeInteger integer-integer.bufferAfter integer-integer.integerBytes utf-8-buffer.splice utf-8-buffer.fitsIn utf-8-utf8.leading utf-8-utf8.following utf-8-utf8.after utf-8-utf8.decodeFrom utf-8-utf8.noError utf-8-utf8.found utf-8-utf8.nextFrom utf-8-utf8.encoded utf-8-utf8.utf8Of windows-1252-index.listed windows-1252-index.codePoint windows-1252-index.firstFrom windows-1252-index.byteOf windows-1252-text.endFrom windows-1252-text.decodeText windows-1252-text.digits windows-1252-text.bytesBy windows-1252-text.encodeText tape-record.recordBytes tape-record.recordOf tape-record.stepAt tape-text.partOf tape-text.nameIn tape-text.recordText tape-form-ranges.unused tape-form-ranges.isWidth tape-form-ranges.blockIs tape-form-ranges.textIn tape-form-ranges.onlyA tape-form-ranges.empty tape-form-ranges.names tape-form-ranges.onlyB tape-form-ranges.sized tape-form-ranges.integerFine tape-form-ranges.textual tape-form-ranges.leafBy tape-form-ranges.leafFine tape-form-form.withRecord tape-form-form.onward tape-form-form.closing tape-form-form.several tape-form-form.memberAt tape-form-form.shapeOf tape-form-form.valueBy tape-form-form.valueAt tape-form-form.endsAt tape-form-form.formed ser-leaf-leaf.exactly ser-leaf-leaf.boolLeaf ser-leaf-leaf.realLeaf ser-leaf-leaf.integerBy ser-leaf-leaf.pointerLeaf ser-leaf-leaf.integerLeaf ser-leaf-leaf.entryBy ser-leaf-leaf.entryLeaf ser-leaf-leaf.enumLeaf ser-leaf-leaf.padded ser-leaf-leaf.textBy ser-leaf-leaf.textLeaf ser-leaf-leaf.leafBy ser-write._then_ ser-write.placed ser-write.takenBy ser-write.taken ser-write.endBy ser-write.leafEnd ser-write.leafOf ser-write.checked ser-write.fieldValue ser-write.foundValue ser-write.keyBy ser-write.keyOf ser-write.keysFrom ser-write.mapBy ser-write.mapOf ser-write.elementsFrom ser-write.elementsBy ser-write.dimensionOf ser-write.elementType ser-write.enteredBy ser-write.enteredAt ser-write.arrayBy ser-write.arrayOf ser-write.valueBy ser-write.itemWalk ser-write.walk ser-call.typeWrite ser-call.rootBy ser-call.rootWrite ser-call.refusedBefore ser-call.bookWrite ser-call.writeCall ser-call.writeNumbers
+unfolding flatMap block sumOf number-le.leValue number-le.leBytes typebook-book.sameName typebook-book.isNamed block-form-form.sumOf block-form-form.sumRight block-form-form.every block-form-form.unusedZero block-form-form.nameForm block-form-form.namesForm block-form-form.flagsForm block-form-form.typeForm block-form-form.fieldForm block-form-form.entryForm doubles-doubles.allFrom doubles-doubles.isOther doubles-doubles.isFirst book-check-check.sizeRight book-check-check.sumAt book-check-check.placeOf book-check-check.placesOnward book-check-check.placedFrom book-check-check.checkBlocks book-check-check.checkBook book-check-check.bookNumbers book-check-check.rootOf book-check-check.checkRoot book-check-check.atRoot type-id-typeid.idOf type-names-text.isOneOf type-names-text.startsWith type-names-text.contains type-names-names.isPointerName type-names-names.isSubRangeName type-names-names.isPrimitiveName type-category-category.isPointer type-category-category.isReference type-category-category.isAlias type-category-category.orElse type-category-category.isUnion type-category-category.methodsCategory type-category-category.fieldsCategory type-category-category.isEmptyStruct type-category-category.bareCategory type-category-category.sizeCategory type-category-category.complexCategory type-category-category.simpleCategory type-category-category.categoryOf type-category-number.categoryNumbers type-category-number.categoryAt type-provider-find.findFrom type-provider-find.find resolvers-resolve.resolvedNumbers resolvers-resolve.isFollowed resolvers-resolve.chainOnward resolvers-resolve.follow resolvers-resolve.lookUp resolvers-calls.resolutionNumbers resolvers-calls.resolution resolvers-calls.rootResolution integer-integer.integerNumbers integer-integer.integerReadNumbers integer-integer.integerWriteNumbers integer-integer.twosComplement integer-integer.twosBits integer-integer.bytesValue integer-integer.integerOf integer-integer.readInteger integer-integer.fitsSigned integer-integer.fitsUnsigned integer-integer.fitsId integer-integer.writeInteger integer-integer.integerAfter integer-integer.integerBytes utf-8-buffer.splice utf-8-buffer.fitsIn utf-8-utf8.leading utf-8-utf8.following utf-8-utf8.afterReply utf-8-utf8.decodeFrom utf-8-utf8.noError utf-8-utf8.found utf-8-utf8.nextFrom utf-8-utf8.encoded utf-8-utf8.utf8Of windows-1252-index.listedPoints windows-1252-index.codePoint windows-1252-index.firstFrom windows-1252-index.byteOf windows-1252-text.endFrom windows-1252-text.decodeText windows-1252-text.digits windows-1252-text.bytesBy windows-1252-text.encodeText tape-record.recordBytes tape-record.recordOf tape-record.stepAt tape-text.textPart tape-text.nameIn tape-text.recordText tape-form-ranges.unused tape-form-ranges.isWidth tape-form-ranges.blockIs tape-form-ranges.textIn tape-form-ranges.onlyA tape-form-ranges.empty tape-form-ranges.namesBlock tape-form-ranges.onlyB tape-form-ranges.sized tape-form-ranges.integerFine tape-form-ranges.textual tape-form-ranges.leafBy tape-form-ranges.leafFine tape-form-form.withRecord tape-form-form.formOnward tape-form-form.closingRecord tape-form-form.several tape-form-form.memberAt tape-form-form.recordShape tape-form-form.bodyBy tape-form-form.valueAt tape-form-form.atTapeEnd tape-form-form.formed ser-leaf-leaf.exactly ser-leaf-leaf.boolLeaf ser-leaf-leaf.realLeaf ser-leaf-leaf.integerBy ser-leaf-leaf.pointerLeaf ser-leaf-leaf.integerLeaf ser-leaf-leaf.entryBy ser-leaf-leaf.entryLeaf ser-leaf-leaf.enumLeaf ser-leaf-leaf.padded ser-leaf-leaf.textBy ser-leaf-leaf.textLeaf ser-leaf-leaf.leafBy ser-write._then_ ser-write.placed ser-write.takenBy ser-write.taken ser-write.endRecordBy ser-write.leafEnd ser-write.leafOf ser-write.checked ser-write.fieldValue ser-write.foundValue ser-write.keyBy ser-write.keyOf ser-write.keysFrom ser-write.mapBy ser-write.mapOf ser-write.elementsFrom ser-write.elementsBy ser-write.dimensionOf ser-write.elementType ser-write.enteredBy ser-write.enteredAt ser-write.arrayBy ser-write.arrayOf ser-write.valueBy ser-write.itemWalk ser-write.walk ser-call.typeWrite ser-call.rootBy ser-call.rootWrite ser-call.refusedBefore ser-call.bookWrite ser-call.writeCall ser-call.writeNumbers
 not-seven = refl
 
 int-alias : _≡_ {A = List ℕ} (categoryRow (typeBlock 2 2 0 int int)) ((0 ∷ categoryNumbers category.Alias))
-unfolding block sumOf number-le.leValue number-le.leBytes typebook-book.sameName typebook-book.isNamed block-form-form.sumOf block-form-form.sumRight block-form-form.every block-form-form.unusedZero block-form-form.nameForm block-form-form.namesForm block-form-form.flagsForm block-form-form.typeForm block-form-form.fieldForm block-form-form.entryForm doubles-doubles.allFrom doubles-doubles.isOther doubles-doubles.isFirst book-check-check.sizeRight book-check-check.sumAt book-check-check.placeOf book-check-check.onward book-check-check.placedFrom book-check-check.checkBlocks book-check-check.checkBook book-check-check.bookNumbers book-check-check.rootOf book-check-check.checkRoot book-check-check.atRoot type-id-typeid.idOf type-names-text.isOneOf type-names-text.startsWith type-names-text.contains type-names-names.isPointerName type-names-names.isSubRangeName type-names-names.isPrimitiveName type-category-category.isPointer type-category-category.isReference type-category-category.isAlias type-category-category.orElse type-category-category.isUnion type-category-category.methodsCategory type-category-category.fieldsCategory type-category-category.isEmptyStruct type-category-category.bareCategory type-category-category.sizeCategory type-category-category.complexCategory type-category-category.simpleCategory type-category-category.categoryOf type-category-number.categoryNumbers type-category-number.categoryAt
+unfolding block sumOf number-le.leValue number-le.leBytes typebook-book.sameName typebook-book.isNamed block-form-form.sumOf block-form-form.sumRight block-form-form.every block-form-form.unusedZero block-form-form.nameForm block-form-form.namesForm block-form-form.flagsForm block-form-form.typeForm block-form-form.fieldForm block-form-form.entryForm doubles-doubles.allFrom doubles-doubles.isOther doubles-doubles.isFirst book-check-check.sizeRight book-check-check.sumAt book-check-check.placeOf book-check-check.placesOnward book-check-check.placedFrom book-check-check.checkBlocks book-check-check.checkBook book-check-check.bookNumbers book-check-check.rootOf book-check-check.checkRoot book-check-check.atRoot type-id-typeid.idOf type-names-text.isOneOf type-names-text.startsWith type-names-text.contains type-names-names.isPointerName type-names-names.isSubRangeName type-names-names.isPrimitiveName type-category-category.isPointer type-category-category.isReference type-category-category.isAlias type-category-category.orElse type-category-category.isUnion type-category-category.methodsCategory type-category-category.fieldsCategory type-category-category.isEmptyStruct type-category-category.bareCategory type-category-category.sizeCategory type-category-category.complexCategory type-category-category.simpleCategory type-category-category.categoryOf type-category-number.categoryNumbers type-category-number.categoryAt
 int-alias = refl
 
 union : _≡_ {A = List ℕ} (categoryRow (twoFields 0 0)) ((0 ∷ categoryNumbers category.Union))
-unfolding block sumOf number-le.leValue number-le.leBytes typebook-book.sameName typebook-book.isNamed block-form-form.sumOf block-form-form.sumRight block-form-form.every block-form-form.unusedZero block-form-form.nameForm block-form-form.namesForm block-form-form.flagsForm block-form-form.typeForm block-form-form.fieldForm block-form-form.entryForm doubles-doubles.allFrom doubles-doubles.isOther doubles-doubles.isFirst book-check-check.sizeRight book-check-check.sumAt book-check-check.placeOf book-check-check.onward book-check-check.placedFrom book-check-check.checkBlocks book-check-check.checkBook book-check-check.bookNumbers book-check-check.rootOf book-check-check.checkRoot book-check-check.atRoot type-id-typeid.idOf type-names-text.isOneOf type-names-text.startsWith type-names-text.contains type-names-names.isPointerName type-names-names.isSubRangeName type-names-names.isPrimitiveName type-category-category.isPointer type-category-category.isReference type-category-category.isAlias type-category-category.orElse type-category-category.isUnion type-category-category.methodsCategory type-category-category.fieldsCategory type-category-category.isEmptyStruct type-category-category.bareCategory type-category-category.sizeCategory type-category-category.complexCategory type-category-category.simpleCategory type-category-category.categoryOf type-category-number.categoryNumbers type-category-number.categoryAt
+unfolding block sumOf number-le.leValue number-le.leBytes typebook-book.sameName typebook-book.isNamed block-form-form.sumOf block-form-form.sumRight block-form-form.every block-form-form.unusedZero block-form-form.nameForm block-form-form.namesForm block-form-form.flagsForm block-form-form.typeForm block-form-form.fieldForm block-form-form.entryForm doubles-doubles.allFrom doubles-doubles.isOther doubles-doubles.isFirst book-check-check.sizeRight book-check-check.sumAt book-check-check.placeOf book-check-check.placesOnward book-check-check.placedFrom book-check-check.checkBlocks book-check-check.checkBook book-check-check.bookNumbers book-check-check.rootOf book-check-check.checkRoot book-check-check.atRoot type-id-typeid.idOf type-names-text.isOneOf type-names-text.startsWith type-names-text.contains type-names-names.isPointerName type-names-names.isSubRangeName type-names-names.isPrimitiveName type-category-category.isPointer type-category-category.isReference type-category-category.isAlias type-category-category.orElse type-category-category.isUnion type-category-category.methodsCategory type-category-category.fieldsCategory type-category-category.isEmptyStruct type-category-category.bareCategory type-category-category.sizeCategory type-category-category.complexCategory type-category-category.simpleCategory type-category-category.categoryOf type-category-number.categoryNumbers type-category-number.categoryAt
 union = refl
 
 function-block : _≡_ {A = List ℕ} (categoryRow (twoFields 4 8)) ((0 ∷ categoryNumbers category.FunctionBlock))
-unfolding block sumOf number-le.leValue number-le.leBytes typebook-book.sameName typebook-book.isNamed block-form-form.sumOf block-form-form.sumRight block-form-form.every block-form-form.unusedZero block-form-form.nameForm block-form-form.namesForm block-form-form.flagsForm block-form-form.typeForm block-form-form.fieldForm block-form-form.entryForm doubles-doubles.allFrom doubles-doubles.isOther doubles-doubles.isFirst book-check-check.sizeRight book-check-check.sumAt book-check-check.placeOf book-check-check.onward book-check-check.placedFrom book-check-check.checkBlocks book-check-check.checkBook book-check-check.bookNumbers book-check-check.rootOf book-check-check.checkRoot book-check-check.atRoot type-id-typeid.idOf type-names-text.isOneOf type-names-text.startsWith type-names-text.contains type-names-names.isPointerName type-names-names.isSubRangeName type-names-names.isPrimitiveName type-category-category.isPointer type-category-category.isReference type-category-category.isAlias type-category-category.orElse type-category-category.isUnion type-category-category.methodsCategory type-category-category.fieldsCategory type-category-category.isEmptyStruct type-category-category.bareCategory type-category-category.sizeCategory type-category-category.complexCategory type-category-category.simpleCategory type-category-category.categoryOf type-category-number.categoryNumbers type-category-number.categoryAt
+unfolding block sumOf number-le.leValue number-le.leBytes typebook-book.sameName typebook-book.isNamed block-form-form.sumOf block-form-form.sumRight block-form-form.every block-form-form.unusedZero block-form-form.nameForm block-form-form.namesForm block-form-form.flagsForm block-form-form.typeForm block-form-form.fieldForm block-form-form.entryForm doubles-doubles.allFrom doubles-doubles.isOther doubles-doubles.isFirst book-check-check.sizeRight book-check-check.sumAt book-check-check.placeOf book-check-check.placesOnward book-check-check.placedFrom book-check-check.checkBlocks book-check-check.checkBook book-check-check.bookNumbers book-check-check.rootOf book-check-check.checkRoot book-check-check.atRoot type-id-typeid.idOf type-names-text.isOneOf type-names-text.startsWith type-names-text.contains type-names-names.isPointerName type-names-names.isSubRangeName type-names-names.isPrimitiveName type-category-category.isPointer type-category-category.isReference type-category-category.isAlias type-category-category.orElse type-category-category.isUnion type-category-category.methodsCategory type-category-category.fieldsCategory type-category-category.isEmptyStruct type-category-category.bareCategory type-category-category.sizeCategory type-category-category.complexCategory type-category-category.simpleCategory type-category-category.categoryOf type-category-number.categoryNumbers type-category-number.categoryAt
 function-block = refl
 
 -- alias chains and walks; the rows over more than 30 blocks are in Chains
 int-endless : _≡_ {A = List ℕ} (aliasRow (typeBlock 2 2 0 int int)) ((8 ∷ []))
-unfolding block sumOf number-le.leValue number-le.leBytes typebook-book.sameName typebook-book.isNamed block-form-form.sumOf block-form-form.sumRight block-form-form.every block-form-form.unusedZero block-form-form.nameForm block-form-form.namesForm block-form-form.flagsForm block-form-form.typeForm block-form-form.fieldForm block-form-form.entryForm doubles-doubles.allFrom doubles-doubles.isOther doubles-doubles.isFirst book-check-check.sizeRight book-check-check.sumAt book-check-check.placeOf book-check-check.onward book-check-check.placedFrom book-check-check.checkBlocks book-check-check.checkBook book-check-check.bookNumbers book-check-check.rootOf book-check-check.checkRoot book-check-check.atRoot type-id-typeid.idOf type-names-text.isOneOf type-names-text.startsWith type-names-text.contains type-names-names.isPointerName type-names-names.isSubRangeName type-names-names.isPrimitiveName type-category-category.isPointer type-category-category.isReference type-category-category.isAlias type-category-category.orElse type-category-category.isUnion type-category-category.methodsCategory type-category-category.fieldsCategory type-category-category.isEmptyStruct type-category-category.bareCategory type-category-category.sizeCategory type-category-category.complexCategory type-category-category.simpleCategory type-category-category.categoryOf type-category-number.categoryNumbers type-category-number.categoryAt type-provider-find.findFrom type-provider-find.find resolvers-resolve.resolvedNumbers resolvers-resolve.isFollowed resolvers-resolve.onward resolvers-resolve.follow resolvers-resolve.lookUp resolvers-calls.resolutionNumbers resolvers-calls.resolution resolvers-calls.rootResolution
+unfolding block sumOf number-le.leValue number-le.leBytes typebook-book.sameName typebook-book.isNamed block-form-form.sumOf block-form-form.sumRight block-form-form.every block-form-form.unusedZero block-form-form.nameForm block-form-form.namesForm block-form-form.flagsForm block-form-form.typeForm block-form-form.fieldForm block-form-form.entryForm doubles-doubles.allFrom doubles-doubles.isOther doubles-doubles.isFirst book-check-check.sizeRight book-check-check.sumAt book-check-check.placeOf book-check-check.placesOnward book-check-check.placedFrom book-check-check.checkBlocks book-check-check.checkBook book-check-check.bookNumbers book-check-check.rootOf book-check-check.checkRoot book-check-check.atRoot type-id-typeid.idOf type-names-text.isOneOf type-names-text.startsWith type-names-text.contains type-names-names.isPointerName type-names-names.isSubRangeName type-names-names.isPrimitiveName type-category-category.isPointer type-category-category.isReference type-category-category.isAlias type-category-category.orElse type-category-category.isUnion type-category-category.methodsCategory type-category-category.fieldsCategory type-category-category.isEmptyStruct type-category-category.bareCategory type-category-category.sizeCategory type-category-category.complexCategory type-category-category.simpleCategory type-category-category.categoryOf type-category-number.categoryNumbers type-category-number.categoryAt type-provider-find.findFrom type-provider-find.find resolvers-resolve.resolvedNumbers resolvers-resolve.isFollowed resolvers-resolve.chainOnward resolvers-resolve.follow resolvers-resolve.lookUp resolvers-calls.resolutionNumbers resolvers-calls.resolution resolvers-calls.rootResolution
 int-endless = refl
 
 missing-block : _≡_ {A = List ℕ} (rmwRow (structOf x fb)) ((0 ∷ 1 ∷ []))
-unfolding block sumOf number-le.leValue number-le.leBytes typebook-book.sameName typebook-book.isNamed block-form-form.sumOf block-form-form.sumRight block-form-form.every block-form-form.unusedZero block-form-form.nameForm block-form-form.namesForm block-form-form.flagsForm block-form-form.typeForm block-form-form.fieldForm block-form-form.entryForm doubles-doubles.allFrom doubles-doubles.isOther doubles-doubles.isFirst book-check-check.sizeRight book-check-check.sumAt book-check-check.placeOf book-check-check.onward book-check-check.placedFrom book-check-check.checkBlocks book-check-check.checkBook book-check-check.bookNumbers book-check-check.rootOf book-check-check.checkRoot book-check-check.atRoot type-id-typeid.idOf type-names-text.isOneOf type-names-text.startsWith type-names-text.contains type-names-names.isPointerName type-names-names.isSubRangeName type-names-names.isPrimitiveName type-category-category.isPointer type-category-category.isReference type-category-category.isAlias type-category-category.orElse type-category-category.isUnion type-category-category.methodsCategory type-category-category.fieldsCategory type-category-category.isEmptyStruct type-category-category.bareCategory type-category-category.sizeCategory type-category-category.complexCategory type-category-category.simpleCategory type-category-category.categoryOf type-category-number.categoryNumbers type-category-number.categoryAt type-provider-find.findFrom type-provider-find.find resolvers-resolve.resolvedNumbers resolvers-resolve.isFollowed resolvers-resolve.onward resolvers-resolve.follow resolvers-resolve.lookUp resolvers-calls.resolutionNumbers resolvers-calls.resolution resolvers-calls.rootResolution visits-parts.after visits-parts.partsIn visits-parts.partsOf walks-walk.has walks-walk.skip walks-walk.push walks-walk.meet walks-walk.turn walks-walk.last walks-walk.walk walks-walk.walkOf walks-reads.names walks-reads.listed walks-reads.whole read-modify-write-reads.rmwOf read-modify-write-calls.rmwNumbers read-modify-write-calls.rmwAnswer read-modify-write-calls.rmwCall missing-types-calls.missingNumbers missing-types-calls.missingAnswer missing-types-calls.missingList missing-types-calls.missingCall
+unfolding block sumOf number-le.leValue number-le.leBytes typebook-book.sameName typebook-book.isNamed block-form-form.sumOf block-form-form.sumRight block-form-form.every block-form-form.unusedZero block-form-form.nameForm block-form-form.namesForm block-form-form.flagsForm block-form-form.typeForm block-form-form.fieldForm block-form-form.entryForm doubles-doubles.allFrom doubles-doubles.isOther doubles-doubles.isFirst book-check-check.sizeRight book-check-check.sumAt book-check-check.placeOf book-check-check.placesOnward book-check-check.placedFrom book-check-check.checkBlocks book-check-check.checkBook book-check-check.bookNumbers book-check-check.rootOf book-check-check.checkRoot book-check-check.atRoot type-id-typeid.idOf type-names-text.isOneOf type-names-text.startsWith type-names-text.contains type-names-names.isPointerName type-names-names.isSubRangeName type-names-names.isPrimitiveName type-category-category.isPointer type-category-category.isReference type-category-category.isAlias type-category-category.orElse type-category-category.isUnion type-category-category.methodsCategory type-category-category.fieldsCategory type-category-category.isEmptyStruct type-category-category.bareCategory type-category-category.sizeCategory type-category-category.complexCategory type-category-category.simpleCategory type-category-category.categoryOf type-category-number.categoryNumbers type-category-number.categoryAt type-provider-find.findFrom type-provider-find.find resolvers-resolve.resolvedNumbers resolvers-resolve.isFollowed resolvers-resolve.chainOnward resolvers-resolve.follow resolvers-resolve.lookUp resolvers-calls.resolutionNumbers resolvers-calls.resolution resolvers-calls.rootResolution visits-parts.blocksAfter visits-parts.partsIn visits-parts.partsOf walks-walk.has walks-walk.skip walks-walk.push walks-walk.meet walks-walk.turn walks-walk.last walks-walk.walk walks-walk.walkOf walks-reads.names walks-reads.listed walks-reads.whole read-modify-write-reads.rmwOf read-modify-write-calls.rmwNumbers read-modify-write-calls.rmwAnswer read-modify-write-calls.rmwCall missing-types-calls.missingNumbers missing-types-calls.missingAnswer missing-types-calls.missingList missing-types-calls.missingCall
 missing-block = refl
 
 block-missing : _≡_ {A = List ℕ} (rmwRow (structOf fb x)) ((7 ∷ 2 ∷ []))
-unfolding block sumOf number-le.leValue number-le.leBytes typebook-book.sameName typebook-book.isNamed block-form-form.sumOf block-form-form.sumRight block-form-form.every block-form-form.unusedZero block-form-form.nameForm block-form-form.namesForm block-form-form.flagsForm block-form-form.typeForm block-form-form.fieldForm block-form-form.entryForm doubles-doubles.allFrom doubles-doubles.isOther doubles-doubles.isFirst book-check-check.sizeRight book-check-check.sumAt book-check-check.placeOf book-check-check.onward book-check-check.placedFrom book-check-check.checkBlocks book-check-check.checkBook book-check-check.bookNumbers book-check-check.rootOf book-check-check.checkRoot book-check-check.atRoot type-id-typeid.idOf type-names-text.isOneOf type-names-text.startsWith type-names-text.contains type-names-names.isPointerName type-names-names.isSubRangeName type-names-names.isPrimitiveName type-category-category.isPointer type-category-category.isReference type-category-category.isAlias type-category-category.orElse type-category-category.isUnion type-category-category.methodsCategory type-category-category.fieldsCategory type-category-category.isEmptyStruct type-category-category.bareCategory type-category-category.sizeCategory type-category-category.complexCategory type-category-category.simpleCategory type-category-category.categoryOf type-category-number.categoryNumbers type-category-number.categoryAt type-provider-find.findFrom type-provider-find.find resolvers-resolve.resolvedNumbers resolvers-resolve.isFollowed resolvers-resolve.onward resolvers-resolve.follow resolvers-resolve.lookUp resolvers-calls.resolutionNumbers resolvers-calls.resolution resolvers-calls.rootResolution visits-parts.after visits-parts.partsIn visits-parts.partsOf walks-walk.has walks-walk.skip walks-walk.push walks-walk.meet walks-walk.turn walks-walk.last walks-walk.walk walks-walk.walkOf walks-reads.names walks-reads.listed walks-reads.whole read-modify-write-reads.rmwOf read-modify-write-calls.rmwNumbers read-modify-write-calls.rmwAnswer read-modify-write-calls.rmwCall missing-types-calls.missingNumbers missing-types-calls.missingAnswer missing-types-calls.missingList missing-types-calls.missingCall
+unfolding block sumOf number-le.leValue number-le.leBytes typebook-book.sameName typebook-book.isNamed block-form-form.sumOf block-form-form.sumRight block-form-form.every block-form-form.unusedZero block-form-form.nameForm block-form-form.namesForm block-form-form.flagsForm block-form-form.typeForm block-form-form.fieldForm block-form-form.entryForm doubles-doubles.allFrom doubles-doubles.isOther doubles-doubles.isFirst book-check-check.sizeRight book-check-check.sumAt book-check-check.placeOf book-check-check.placesOnward book-check-check.placedFrom book-check-check.checkBlocks book-check-check.checkBook book-check-check.bookNumbers book-check-check.rootOf book-check-check.checkRoot book-check-check.atRoot type-id-typeid.idOf type-names-text.isOneOf type-names-text.startsWith type-names-text.contains type-names-names.isPointerName type-names-names.isSubRangeName type-names-names.isPrimitiveName type-category-category.isPointer type-category-category.isReference type-category-category.isAlias type-category-category.orElse type-category-category.isUnion type-category-category.methodsCategory type-category-category.fieldsCategory type-category-category.isEmptyStruct type-category-category.bareCategory type-category-category.sizeCategory type-category-category.complexCategory type-category-category.simpleCategory type-category-category.categoryOf type-category-number.categoryNumbers type-category-number.categoryAt type-provider-find.findFrom type-provider-find.find resolvers-resolve.resolvedNumbers resolvers-resolve.isFollowed resolvers-resolve.chainOnward resolvers-resolve.follow resolvers-resolve.lookUp resolvers-calls.resolutionNumbers resolvers-calls.resolution resolvers-calls.rootResolution visits-parts.blocksAfter visits-parts.partsIn visits-parts.partsOf walks-walk.has walks-walk.skip walks-walk.push walks-walk.meet walks-walk.turn walks-walk.last walks-walk.walk walks-walk.walkOf walks-reads.names walks-reads.listed walks-reads.whole read-modify-write-reads.rmwOf read-modify-write-calls.rmwNumbers read-modify-write-calls.rmwAnswer read-modify-write-calls.rmwCall missing-types-calls.missingNumbers missing-types-calls.missingAnswer missing-types-calls.missingList missing-types-calls.missingCall
 block-missing = refl
 
 listed-twice : _≡_ {A = List ℕ} (missingRow twoAliases) ((0 ∷ 2 ∷ 1 ∷ 3 ∷ 4 ∷ 3 ∷ replicate 4094 0))
-unfolding block sumOf number-le.leValue number-le.leBytes typebook-book.sameName typebook-book.isNamed block-form-form.sumOf block-form-form.sumRight block-form-form.every block-form-form.unusedZero block-form-form.nameForm block-form-form.namesForm block-form-form.flagsForm block-form-form.typeForm block-form-form.fieldForm block-form-form.entryForm doubles-doubles.allFrom doubles-doubles.isOther doubles-doubles.isFirst book-check-check.sizeRight book-check-check.sumAt book-check-check.placeOf book-check-check.onward book-check-check.placedFrom book-check-check.checkBlocks book-check-check.checkBook book-check-check.bookNumbers book-check-check.rootOf book-check-check.checkRoot book-check-check.atRoot type-id-typeid.idOf type-names-text.isOneOf type-names-text.startsWith type-names-text.contains type-names-names.isPointerName type-names-names.isSubRangeName type-names-names.isPrimitiveName type-category-category.isPointer type-category-category.isReference type-category-category.isAlias type-category-category.orElse type-category-category.isUnion type-category-category.methodsCategory type-category-category.fieldsCategory type-category-category.isEmptyStruct type-category-category.bareCategory type-category-category.sizeCategory type-category-category.complexCategory type-category-category.simpleCategory type-category-category.categoryOf type-category-number.categoryNumbers type-category-number.categoryAt type-provider-find.findFrom type-provider-find.find resolvers-resolve.resolvedNumbers resolvers-resolve.isFollowed resolvers-resolve.onward resolvers-resolve.follow resolvers-resolve.lookUp resolvers-calls.resolutionNumbers resolvers-calls.resolution resolvers-calls.rootResolution visits-parts.after visits-parts.partsIn visits-parts.partsOf walks-walk.has walks-walk.skip walks-walk.push walks-walk.meet walks-walk.turn walks-walk.last walks-walk.walk walks-walk.walkOf walks-reads.names walks-reads.listed walks-reads.whole read-modify-write-reads.rmwOf read-modify-write-calls.rmwNumbers read-modify-write-calls.rmwAnswer read-modify-write-calls.rmwCall missing-types-calls.missingNumbers missing-types-calls.missingAnswer missing-types-calls.missingList missing-types-calls.missingCall
+unfolding block sumOf number-le.leValue number-le.leBytes typebook-book.sameName typebook-book.isNamed block-form-form.sumOf block-form-form.sumRight block-form-form.every block-form-form.unusedZero block-form-form.nameForm block-form-form.namesForm block-form-form.flagsForm block-form-form.typeForm block-form-form.fieldForm block-form-form.entryForm doubles-doubles.allFrom doubles-doubles.isOther doubles-doubles.isFirst book-check-check.sizeRight book-check-check.sumAt book-check-check.placeOf book-check-check.placesOnward book-check-check.placedFrom book-check-check.checkBlocks book-check-check.checkBook book-check-check.bookNumbers book-check-check.rootOf book-check-check.checkRoot book-check-check.atRoot type-id-typeid.idOf type-names-text.isOneOf type-names-text.startsWith type-names-text.contains type-names-names.isPointerName type-names-names.isSubRangeName type-names-names.isPrimitiveName type-category-category.isPointer type-category-category.isReference type-category-category.isAlias type-category-category.orElse type-category-category.isUnion type-category-category.methodsCategory type-category-category.fieldsCategory type-category-category.isEmptyStruct type-category-category.bareCategory type-category-category.sizeCategory type-category-category.complexCategory type-category-category.simpleCategory type-category-category.categoryOf type-category-number.categoryNumbers type-category-number.categoryAt type-provider-find.findFrom type-provider-find.find resolvers-resolve.resolvedNumbers resolvers-resolve.isFollowed resolvers-resolve.chainOnward resolvers-resolve.follow resolvers-resolve.lookUp resolvers-calls.resolutionNumbers resolvers-calls.resolution resolvers-calls.rootResolution visits-parts.blocksAfter visits-parts.partsIn visits-parts.partsOf walks-walk.has walks-walk.skip walks-walk.push walks-walk.meet walks-walk.turn walks-walk.last walks-walk.walk walks-walk.walkOf walks-reads.names walks-reads.listed walks-reads.whole read-modify-write-reads.rmwOf read-modify-write-calls.rmwNumbers read-modify-write-calls.rmwAnswer read-modify-write-calls.rmwCall missing-types-calls.missingNumbers missing-types-calls.missingAnswer missing-types-calls.missingList missing-types-calls.missingCall
 listed-twice = refl
 
 cons : {x y : List ℕ} {xs ys : List (List ℕ)} → x ≡ y → xs ≡ ys → _≡_ {A = List (List ℕ)} (x ∷ xs) (y ∷ ys)

@@ -5,8 +5,8 @@ use lib.ListN.{length, replicate}
 use Rattle.number.specs.Le.{leBytes}
 
 -- bytes, filled up with zeros
-abbrev pub padded : ℕ → List ℕ → List ℕ
-padded n bytes = bytes ++ replicate (n - length bytes) 0
+abbrev pub filledUp : ℕ → List ℕ → List ℕ
+filledUp n bytes = bytes ++ replicate (n - length bytes) 0
 
 -- the sum of a list of bytes
 unfoldable pub sumOf : List ℕ → ℕ
@@ -22,7 +22,7 @@ unfoldable pub block : ℕ → ℕ → ℕ → ℕ → List ℕ → List ℕ →
 block kind low size fields name typeName =
     summed
     (kind ∷ 0 ∷ 0 ∷ 0 ∷ (leBytes 4 low ++ leBytes 4 size ++ leBytes 4 fields ++ replicate 36 0
-    ++ (length name ∷ length typeName ∷ (padded 200 name ++ padded 200 typeName ++ replicate 54 0))))
+    ++ (length name ∷ length typeName ∷ (filledUp 200 name ++ filledUp 200 typeName ++ replicate 54 0))))
 
 -- a type block: id, size, number of fields, name, type name
 abbrev pub typeBlock : ℕ → ℕ → ℕ → List ℕ → List ℕ → List ℕ

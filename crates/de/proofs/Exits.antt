@@ -30,7 +30,7 @@ use Rattle.field_plan.specs.declared.Planned.the-variants as planned
 use Rattle.type_provider.proofs.Numbers.{found-is}
 use Rattle.resolvers.proofs.Numbers.{resolved-is, lacks-numbers, long-numbers}
 use Rattle.field_types.proofs.Numbers.{check-is, check-lacks, check-long, field-lacks, field-long}
-use Rattle.field_plan.specs.Plan.{PlannedIs, Entries, Ready, PlanIs}
+use Rattle.field_plan.specs.Plan.{PlannedFieldIs, Entries, PlanServes, FieldPlanIs}
 use Rattle.field_plan.proofs.Plans.{ready-none}
 use Rattle.steps.specs.declared.Step.{Step}
 use Rattle.steps.specs.declared.Step.the-variants.{Stop}
@@ -40,7 +40,7 @@ use Rattle.tape.specs.Record.{newRecord}
 use Rattle.steps.specs.Trace.{rec, one, From, Halts}
 use Rattle.array_elements.specs.Element.{whole, elementItem, shapeAt, shapeCheck, elementCheck, ElementChecked}
 use Rattle.array_elements.proofs.Items.{item-last, item-further}
-use Rattle.de.specs.Plans.{Given, GivenElement, partOf, PartIs}
+use Rattle.de.specs.Plans.{Given, GivenElement, memberPart, PartIs}
 use Rattle.de.specs.declared.reading.Part.{Part}
 use Rattle.de.specs.declared.reading.Part.the-variants as part
 use Rattle.de.specs.declared.reading.Typed.{Typed}
@@ -48,7 +48,7 @@ use Rattle.de.specs.Walk.{Ctx, ctx, typedOf, Child, leafOf, checked, mem
 use Rattle.leaves.specs.Leaf.{leafAt}
 use Rattle.leaf_steps.specs.Leaves.{traceOf}
 use Rattle.shape.specs.Value.{shapeOf}
-use Rattle.shape.specs.Array.{strideOf, isLast, bytesOf}
+use Rattle.shape.specs.Array.{strideOf, isLast, arrayBytes}
 use Rattle.shape.proofs.Strides.{Along}
 use Rattle.steps.proofs.Runs.{Rest, from-as, from-held, halted, chain, rest-all, rest-next}
 use Rattle.de.proofs.Walks as walks
@@ -61,7 +61,7 @@ unfolding shapeAt
 shape-is c t k y ey ek = ek ∙ ap shapeOf ey
 
 -- a plan that was given for a type with fields is ready
-pub map-ready : (book : List ℕ) (width t : ℕ) (plan : List ℕ) (k : Shape) (y : AdsTypeCategory) → y ≡ categoryOf book width t → k ≡ shapeOf y → k ≡ shape.Map → Given (ctx book width) t plan → Ready book width t plan
+pub map-ready : (book : List ℕ) (width t : ℕ) (plan : List ℕ) (k : Shape) (y : AdsTypeCategory) → y ≡ categoryOf book width t → k ≡ shapeOf y → k ≡ shape.Map → Given (ctx book width) t plan → PlanServes book width t plan
 map-ready book width t plan k y ey ek z g = g .given (sym (shape-is (ctx book width) t k y ey ek) ∙ z)
 
 -- no plan is given
@@ -112,25 +112,25 @@ module _ {book : List ℕ} {width f len : ℕ} {a : Part} {x : Typed} {from to :
 -- ---- a field's part, by what its plan says
 
 module _ (c : Ctx) (f len : ℕ) where
-  stopped : (n b : ℕ) → part.Stop n b ≡ partOf c len (resolveField (c .book) (c .width) f) → PartIs c f len (part.Stop n b)
+  stopped : (n b : ℕ) → part.Stop n b ≡ memberPart c len (resolveField (c .book) (c .width) f) → PartIs c f len (part.Stop n b)
   stopped n b e = record { is = e; value = λ x from to h. absurd (let z : _≡_ {A = ℕ} 0 1 = cc in omega arith) }
 
-  module _ (a : Planned) (q : PlannedIs (c .book) (c .width) f a) where
+  module _ (a : Planned) (q : PlannedFieldIs (c .book) (c .width) f a) where
     pub part-lacks : (b : ℕ) → a ≡ planned.Lacks b → PartIs c f len (part.Stop 7 b)
-    unfolding partOf
+    unfolding memberPart
     part-lacks b e = stopped 7 b (rw (q .lacks b e, field-lacks b))
 
     pub part-endless : a ≡ planned.TooLong → PartIs c f len (part.Stop 8 0)
-    unfolding partOf
+    unfolding memberPart
     part-endless e = stopped 8 0 (rw (q .endless e, field-long))
 
     module _ (x : PlannedField) (e : a ≡ planned.Field x) where
       pub part-over : len < x .offset + x .size → PartIs c f len (part.Stop 10 0)
-      unfolding partOf
+      unfolding memberPart
       part-over l = let h = q .field x e in stopped 10 0 (rw (h .found, h .offset-is, h .size-is, lt-leb (x .offset + x .size) len l))
 
       pub part-value : x .offset + x .size ≤ len → PartIs c f len (part.Value (record { named = x .named; resolved = x .resolved; category = x .category }) (x .offset) (x .offset + x .size))
-      unfolding partOf
+      unfolding memberPart
       part-value l =
           let h = q .field x e in
           let made : _≡_ {A = Typed} (record { named = x .named; resolved = x .resolved; category = x .category }) (typedOf c (h .whole .named) (h .whole .resolved)) = rw (h .named-is, h .resolved-is, ← h .category-is) in
@@ -180,11 +180,11 @@ module _ (child : Child) (c : Ctx) (x : Typed) (size : ℕ) (sz : size ≡ sizeO
   pub map-odd : (length mem ≡ size → ⊥) → Halts s 10 0 r → From (mapOf child c x mem) tape txt s r tape txt
   map-odd o h = from-as (walks.map-odd child c mem x size sz o) (halted h)
 
-  pub map-given : {tape′ txt′ : List ℕ} (plan : List ℕ) → length mem ≡ size → Ready (c .book) (c .width) (x .resolved) plan → 0 < length plan → From (membersOf child c x mem) tape txt s r tape′ txt′ → From (mapOf child c x mem) tape txt s r tape′ txt′
+  pub map-given : {tape′ txt′ : List ℕ} (plan : List ℕ) → length mem ≡ size → PlanServes (c .book) (c .width) (x .resolved) plan → 0 < length plan → From (membersOf child c x mem) tape txt s r tape′ txt′ → From (mapOf child c x mem) tape txt s r tape′ txt′
   unfolding checked
   map-given plan ev g l h = from-as (walks.map-even child c mem x size sz ev check.Fine (sym (g .fine (λ z. absurd (omega arith))))) h
 
-  module _ (ev : length mem ≡ size) (k : FieldsCheck) (before after : List ℕ) (p : PlanIs (c .book) (c .width) (x .resolved) before k after) where
+  module _ (ev : length mem ≡ size) (k : FieldsCheck) (before after : List ℕ) (p : FieldPlanIs (c .book) (c .width) (x .resolved) before k after) where
     pub map-fine : {tape′ txt′ : List ℕ} → k ≡ check.Fine → From (membersOf child c x mem) tape txt s r tape′ txt′ → From (mapOf child c x mem) tape txt s r tape′ txt′
     unfolding checked
     map-fine e h = from-as (walks.map-even child c mem x size sz ev check.Fine (sym e ∙ check-is _ _ (p .is))) h
@@ -216,7 +216,7 @@ module _ (child : Child) (c : Ctx) (x : Typed) (size : ℕ) (sz : size ≡ sizeO
       unfolding elementBy
       array-endless e h = from-as (walks.array-at child c mem x size sz ev f (found-is _ _ ef) n en k (resolved-is _ _ (q .is)) ∙ rw (e, long-numbers)) (halted h)
 
-      module _ (e : ℕ) (z : k ≡ resolved.Base e) (b : Bool) (p : b ≡ eqb (bytesOf (c .book) (x .resolved) e) (length mem)) where
+      module _ (e : ℕ) (z : k ≡ resolved.Base e) (b : Bool) (p : b ≡ eqb (arrayBytes (c .book) (x .resolved) e) (length mem)) where
         pub array-other : b ≡ false → Halts s 10 0 r → From (arrayOf child c x mem) tape txt s r tape txt
         unfolding elementBy
         array-other h y = from-as (walks.array-at child c mem x size sz ev f (found-is _ _ ef) n en k (resolved-is _ _ (q .is)) ∙ rw (z, ← p, h)) (halted y)
@@ -300,7 +300,7 @@ pub typed-base : {book : List ℕ} {a r : Resolved} {e : ℕ} → ResolvedIs boo
 typed-base {e = e} h q = h .typed e q
 
 -- a plan that was filled has its entries
-pub own-entries : (book : List ℕ) (width t : ℕ) (k : FieldsCheck) (before after : List ℕ) → PlanIs book width t before k after → k ≡ check.Fine → Entries book width t after
+pub own-entries : (book : List ℕ) (width t : ℕ) (k : FieldsCheck) (before after : List ℕ) → FieldPlanIs book width t before k after → k ≡ check.Fine → Entries book width t after
 own-entries book width t k before after p z = p .entries z
 
 -- the same for the elements of an array, none of whose fields is refused

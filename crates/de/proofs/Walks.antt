@@ -24,17 +24,17 @@ use Rattle.shape.specs.declared.Shape.{Shape}
 use Rattle.shape.specs.Array.{strideOf}
 use Rattle.tape.specs.Record.{newRecord}
 use Rattle.steps.specs.Trace.{Trace, rec, one, refuse, _then_}
-use Rattle.array_elements.specs.Element.{Item, whole, further, cut, elementItem, shapeAt, elementCheck}
+use Rattle.array_elements.specs.Element.{Content, whole, further, cut, elementItem, shapeAt, elementCheck}
 use Rattle.de.specs.declared.reading.Typed.{Typed}
 use Rattle.de.specs.declared.reading.Part.{Part}
 use Rattle.de.specs.declared.reading.Part.the-variants as part
-use Rattle.de.specs.Plans.{partOf}
+use Rattle.de.specs.Plans.{memberPart}
 use Rattle.de.specs.Walk.{Ctx, typedOf, Child, checked, fieldValue, memberOf, membersFrom, membersOf, mapOf, elementsFrom, elementsOf, dimensionOf, elementBy, arrayBy, arrayOf, shapeWalk, itemWalk, walk}
 
 -- ---- a value
 
 module _ (c : Ctx) (left : ℕ) (mem : List ℕ) where
-  pub walk-deep : (i : Item Typed) → left ≡ 0 → walk c left i mem ≡ refuse 14 0
+  pub walk-deep : (i : Content Typed) → left ≡ 0 → walk c left i mem ≡ refuse 14 0
   unfolding walk
   walk-deep i e = rw e
 
@@ -64,13 +64,13 @@ module _ (child : Child) (c : Ctx) (mem : List ℕ) where
     inside true x = let z : x .offset + x .size - x .offset ≡ x .size = omega arith in rw z
     inside false x = refl
 
-    value-part : (a : FieldAnswer) → fieldValue child c mem a ≡ partWalk (partOf c (length mem) a)
-    unfolding fieldValue partOf partWalk
+    value-part : (a : FieldAnswer) → fieldValue child c mem a ≡ partWalk (memberPart c (length mem) a)
+    unfolding fieldValue memberPart partWalk
     value-part (answer.Field x) = inside (leb (x .offset + x .size) (length mem)) x
     value-part (answer.Lacks b) = rw (field-lacks b)
     value-part answer.TooLong = rw field-long
 
-    module _ (r : Part) (q : r ≡ partOf c (length mem) (resolveField (c .book) (c .width) f)) where
+    module _ (r : Part) (q : r ≡ memberPart c (length mem) (resolveField (c .book) (c .width) f)) where
       member-by : memberOf child c mem f ≡ one (rec (newRecord 4 0 f 0)) then partWalk r
       unfolding memberOf
       member-by = ap (λ (u : Trace). one (rec (newRecord 4 0 f 0)) then u) (value-part (resolveField (c .book) (c .width) f) ∙ ap partWalk (sym q))
@@ -144,7 +144,7 @@ module _ (child : Child) (c : Ctx) (mem : List ℕ) where
   unfolding dimensionOf
   dimension-by d t e k q = rw q
 
-module _ (child : Child) (item : Item Typed) (mem : List ℕ) (stride : ℕ) where
+module _ (child : Child) (item : Content Typed) (mem : List ℕ) (stride : ℕ) where
   pub elements-all : (n : ℕ) → elementsFrom child item stride mem 0 n ≡ elementsFrom child item stride mem 0 (n - 0)
   elements-all n = let q : n - 0 ≡ n = omega arith in rw q
 

@@ -11,7 +11,7 @@ use Rattle.field_types.specs.Fields.{resolveField, fieldNumbers}
 use Rattle.field_types.specs.declared.ResolvedField.{ResolvedField}
 use Rattle.field_types.specs.declared.FieldAnswer.{FieldAnswer}
 use Rattle.field_types.specs.declared.FieldAnswer.the-variants as answer
-use Rattle.field_plan.specs.Plan.{Ready}
+use Rattle.field_plan.specs.Plan.{PlanServes}
 use Rattle.shape.specs.declared.Shape.the-variants as shape
 use Rattle.shape.specs.Array.{isLast}
 use Rattle.array_elements.specs.Element.{shapeAt}
@@ -22,18 +22,18 @@ use Rattle.de.specs.Walk.{Ctx, typedOf}
 
 -- the plan of a type that has fields is empty, or none of them is refused
 pub record Given (c : Ctx) (t : ℕ) (plan : List ℕ) : Type 0 where
-  pub given : shapeAt (c .book) (c .width) t ≡ shape.Map → Ready (c .book) (c .width) t plan
+  pub given : shapeAt (c .book) (c .width) t ≡ shape.Map → PlanServes (c .book) (c .width) t plan
 
 -- the same of the elements of type e, in the last dimension
 pub record GivenElement (c : Ctx) (d t e : ℕ) (plan : List ℕ) : Type 0 where
   pub given : isLast (c .book) d t ≡ true → Given c e plan
 
 -- what a field is in `len` bytes, by what resolving it came to: its type and its bytes, 10 if it passes their end, 7 with its block, or 8
-unfoldable pub partOf : Ctx → ℕ → FieldAnswer → Part
-partOf c len (answer.Field f) =
+unfoldable pub memberPart : Ctx → ℕ → FieldAnswer → Part
+memberPart c len (answer.Field f) =
     cond (leb (f .offset + f .size) len) (part.Value (typedOf c (f .named) (f .resolved)) (f .offset) (f .offset + f .size)) (part.Stop 10 0)
-partOf c len (answer.Lacks b) = part.Stop (refusalOf (fieldNumbers (answer.Lacks b))) b
-partOf c len answer.TooLong = part.Stop (refusalOf (fieldNumbers answer.TooLong)) 0
+memberPart c len (answer.Lacks b) = part.Stop (refusalOf (fieldNumbers (answer.Lacks b))) b
+memberPart c len answer.TooLong = part.Stop (refusalOf (fieldNumbers answer.TooLong)) 0
 
 -- a type and the bytes of a field block f that resolves to it
 pub record ValueIs (c : Ctx) (f len : ℕ) (x : Typed) (from to : ℕ) : Type 0 where
@@ -48,5 +48,5 @@ pub record ValueIs (c : Ctx) (f len : ℕ) (x : Typed) (from to : ℕ) : Type 0 
 
 -- that answer; and what it tells where it is a value
 pub record PartIs (c : Ctx) (f len : ℕ) (r : Part) : Type 0 where
-  pub is : r ≡ partOf c len (resolveField (c .book) (c .width) f)
+  pub is : r ≡ memberPart c len (resolveField (c .book) (c .width) f)
   pub value : (x : Typed) (from to : ℕ) → r ≡ part.Value x from to → ValueIs c f len x from to

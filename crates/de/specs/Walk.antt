@@ -20,8 +20,8 @@ use Rattle.field_types.specs.declared.FieldsCheck.{FieldsCheck}
 use Rattle.field_types.specs.declared.FieldsCheck.the-variants as check
 use Rattle.shape.specs.declared.Shape.{Shape}
 use Rattle.shape.specs.declared.Shape.the-variants as shape
-use Rattle.shape.specs.Array.{strideOf, bytesOf}
-use Rattle.array_elements.specs.Element.{Item, whole, further, cut, elementItem, shapeAt, elementCheck}
+use Rattle.shape.specs.Array.{strideOf, arrayBytes}
+use Rattle.array_elements.specs.Element.{Content, whole, further, cut, elementItem, shapeAt, elementCheck}
 use Rattle.de.specs.declared.reading.Typed.{Typed}
 use Rattle.leaves.specs.Leaf.{leafAt}
 use Rattle.leaf_steps.specs.Leaves.{traceOf}
@@ -43,7 +43,7 @@ typedOf c n t = record { named = n; resolved = t; category = categoryOf (c .book
 
 -- what is read at one level less
 abbrev pub Child : Type 0
-Child = Item Typed → List ℕ → Trace
+Child = Content Typed → List ℕ → Trace
 
 -- a value that is read as a whole
 unfoldable pub leafOf : Ctx → ℕ → List ℕ → Trace
@@ -90,7 +90,7 @@ mapOf child c x mem =
 -- ---- an array
 
 -- the k elements of `stride` bytes from `from` on, and the end record
-unfoldable pub elementsFrom : Child → Item Typed → ℕ → List ℕ → ℕ → ℕ → Trace
+unfoldable pub elementsFrom : Child → Content Typed → ℕ → List ℕ → ℕ → ℕ → Trace
 elementsFrom child item stride mem from zero = one (rec (newRecord 2 0 0 0))
 elementsFrom child item stride mem from (suc k) = child item (cut from stride mem) then elementsFrom child item stride mem (from + stride) k
 
@@ -107,7 +107,7 @@ dimensionOf child c d t e mem = checked (elementCheck (c .book) (c .width) d t (
 -- by what the aliases of the element's type, named at block n, come to: 10 unless the whole array's bytes are as many as there are
 unfoldable pub elementBy : Child → Ctx → ℕ → ℕ → List ℕ → Resolved → Trace
 elementBy child c t n mem (resolved.Base e) =
-    cond (eqb (bytesOf (c .book) t e) (length mem)) (dimensionOf child c 0 t (typedOf c n e) mem) (refuse 10 0)
+    cond (eqb (arrayBytes (c .book) t e) (length mem)) (dimensionOf child c 0 t (typedOf c n e) mem) (refuse 10 0)
 elementBy child c t n mem (resolved.Lacks b) = refuseBy (resolvedNumbers (resolved.Lacks b))
 elementBy child c t n mem resolved.TooLong = refuseBy (resolvedNumbers resolved.TooLong)
 
@@ -132,7 +132,7 @@ shapeWalk child c x mem shape.Array = arrayOf child c x mem
 shapeWalk child c x mem shape.Leaf = leafOf c (x .resolved) mem
 
 -- what some bytes hold: a value, read by its type's shape, or a further dimension of an array
-unfoldable pub itemWalk : Child → Ctx → Item Typed → List ℕ → Trace
+unfoldable pub itemWalk : Child → Ctx → Content Typed → List ℕ → Trace
 itemWalk child c (whole x) mem = shapeWalk child c x mem (shapeAt (c .book) (c .width) (x .resolved))
 itemWalk child c (further d t e) mem = dimensionOf child c d t e mem
 

@@ -5,7 +5,7 @@ ghost use Prim.Native.Nat.{_+_, _<_};
 ghost use lib.ListN.{length};
 ghost use Rattle.book_check.specs.Check.{ValidBook};
 ghost use Rattle.typebook.specs.Book.{isType};
-ghost use Rattle.field_plan.specs.Plan.{PlanEntry, Entries, Ready};
+ghost use Rattle.field_plan.specs.Plan.{PlanEntry, Entries, PlanServes};
 ghost use Rattle.steps.specs.Trace.{From};
 ghost use Rattle.de.specs.Plans.{PartIs};
 ghost use Rattle.de.specs.Walk.{ctx, walk, mapOf, membersOf, memberOf};
@@ -36,7 +36,7 @@ pub(crate) fn map(
     tape: &mut [u8],
     text: &mut [u8],
 ) -> Step
-    requires { ⌜ ValidBook (now book) × (isType (now book) (v .typed .resolved) ≡ true) × Ready (now book) (v .width) (v .typed .resolved) (now plan) ⌝ }
+    requires { ⌜ ValidBook (now book) × (isType (now book) (v .typed .resolved) ≡ true) × PlanServes (now book) (v .width) (v .typed .resolved) (now plan) ⌝ }
     ensures { λ r. ⌜ From (mapOf (walk (ctx (now (book .entry)) (v .width)) (v .left)) (ctx (now (book .entry)) (v .width)) (v .typed) (now (bytes .entry))) (now (tape .entry)) (now (text .entry)) s r (now (tape .exit)) (now (text .exit)) ⌝ }
 {
     let t = v.typed.resolved;

@@ -35,7 +35,7 @@ use Rattle.field_plan.specs.declared.Planned.the-variants as planned
 use Rattle.resolvers.proofs.Numbers.{resolved-is as resolved-by, resolved-says}
 use Rattle.field_types.proofs.Numbers.{check-says}
 use Rattle.field_plan.proofs.Numbers.{planned-says}
-use Rattle.field_plan.specs.Plan.{entryBy, entryOf, plannedOf, FieldIs, PlannedIs, Known, PlanEntry, Entries, Ready, noted, planFrom, planOf, PlanIs}
+use Rattle.field_plan.specs.Plan.{planEntryBy, planEntryOf, plannedOf, FieldIs, PlannedFieldIs, Known, PlanEntry, Entries, PlanServes, noted, fieldPlanFrom, fieldPlanOf, FieldPlanIs}
 
 -- ---- one field
 
@@ -62,7 +62,7 @@ module _ (book : List ℕ) (width f : ℕ) (x : ResolvedField) where
   unfolding resolveField
   parts e = parts-found (find book (typeNameOf book f)) e
 
-lacks-only : {book : List ℕ} {width f : ℕ} (b : ℕ) → resolveField book width f ≡ answer.Lacks b → PlannedIs book width f (planned.Lacks b)
+lacks-only : {book : List ℕ} {width f : ℕ} (b : ℕ) → resolveField book width f ≡ answer.Lacks b → PlannedFieldIs book width f (planned.Lacks b)
 unfolding plannedOf
 lacks-only b h = record {
   is = planned-says _ _ (rw h);
@@ -71,7 +71,7 @@ lacks-only b h = record {
   endless = λ g. absurd (let z : _≡_ {A = ℕ} 0 1 = cc in omega arith);
 }
 
-field-only : {book : List ℕ} {width f : ℕ} (x : PlannedField) → FieldIs book width f x → PlannedIs book width f (planned.Field x)
+field-only : {book : List ℕ} {width f : ℕ} (x : PlannedField) → FieldIs book width f x → PlannedFieldIs book width f (planned.Field x)
 unfolding plannedOf
 field-only {book} {width} {f} x h = record {
   is = planned-says _ _ (rw (h .found, h .offset-is, h .size-is, h .named-is, h .resolved-is, ← h .category-is));
@@ -86,7 +86,7 @@ module _ (book : List ℕ) (width f n : ℕ) (w : find book (typeNameOf book f) 
   at = field-at book width f n w ∙ ap (fieldOf book f n) (sym (resolved-by _ _ (q .is)))
 
   pub alias-base : (u o s : ℕ) (c : AdsTypeCategory) → r ≡ resolved.Base u → c ≡ categoryOf book width u → o ≡ offsetOf book f → s ≡ sizeOf book f
-      → PlannedIs book width f (planned.Field (record { offset = o; size = s; named = n; resolved = u; category = c }))
+      → PlannedFieldIs book width f (planned.Field (record { offset = o; size = s; named = n; resolved = u; category = c }))
   unfolding fieldOf
   alias-base u o s c e k eo es =
       field-only _
@@ -102,11 +102,11 @@ module _ (book : List ℕ) (width f n : ℕ) (w : find book (typeNameOf book f) 
         category-is = k;
       })
 
-  pub alias-lacks : (b : ℕ) → r ≡ resolved.Lacks b → PlannedIs book width f (planned.Lacks b)
+  pub alias-lacks : (b : ℕ) → r ≡ resolved.Lacks b → PlannedFieldIs book width f (planned.Lacks b)
   unfolding fieldOf
   alias-lacks b e = lacks-only b (at ∙ ap (fieldOf book f n) e)
 
-  pub alias-endless : r ≡ resolved.TooLong → PlannedIs book width f planned.TooLong
+  pub alias-endless : r ≡ resolved.TooLong → PlannedFieldIs book width f planned.TooLong
   unfolding fieldOf plannedOf
   alias-endless e =
       let z : resolveField book width f ≡ answer.TooLong = at ∙ ap (fieldOf book f n) e in
@@ -123,7 +123,7 @@ alias-typed book f n w = found-type book (typeNameOf book f) n w
 
 -- by what the field's type name finds
 module _ (book : List ℕ) (width f : ℕ) (x : Found) (ex : x ≡ find book (typeNameOf book f)) where
-  pub plan-nothing : x ≡ Nothing → PlannedIs book width f (planned.Lacks f)
+  pub plan-nothing : x ≡ Nothing → PlannedFieldIs book width f (planned.Lacks f)
   plan-nothing h = lacks-only f (field-nothing book width f (sym ex ∙ h))
 
   module _ (n : ℕ) (h : x ≡ At n) where
@@ -132,7 +132,7 @@ module _ (book : List ℕ) (width f : ℕ) (x : Found) (ex : x ≡ find book (ty
 
     -- a type that is no alias is what it resolves to
     pub plan-plain : (o s : ℕ) (c : AdsTypeCategory) (b : Bool) → c ≡ categoryOf book width n → b ≡ goesOn false c → b ≡ false → o ≡ offsetOf book f → s ≡ sizeOf book f
-        → PlannedIs book width f (planned.Field (record { offset = o; size = s; named = n; resolved = n; category = c }))
+        → PlannedFieldIs book width f (planned.Field (record { offset = o; size = s; named = n; resolved = n; category = c }))
     unfolding isFollowed
     plan-plain o s c b k eb z eo es =
         let y : isFollowed false book width n ≡ false = rw (← k) (sym eb ∙ z) in
@@ -145,10 +145,10 @@ module _ (book : List ℕ) (width f : ℕ) (x : Found) (ex : x ≡ find book (ty
         n o s c refl k eo es
 
 -- a type's block number is small, so an entry fits
-pub typed-small : (book : List ℕ) (width f : ℕ) (a : Planned) (x : PlannedField) → ValidBook book → PlannedIs book width f a → a ≡ planned.Field x → x .resolved < 65536
+pub typed-small : (book : List ℕ) (width f : ℕ) (a : Planned) (x : PlannedField) → ValidBook book → PlannedFieldIs book width f a → a ≡ planned.Field x → x .resolved < 65536
 typed-small book width f a x v q e = omega (arith, valid-type book v (x .resolved) (q .field x e .typed) .room, valid-size book v .few)
 
-pub named-small : (book : List ℕ) (width f : ℕ) (a : Planned) (x : PlannedField) → ValidBook book → PlannedIs book width f a → a ≡ planned.Field x → x .named < 65536
+pub named-small : (book : List ℕ) (width f : ℕ) (a : Planned) (x : PlannedField) → ValidBook book → PlannedFieldIs book width f a → a ≡ planned.Field x → x .named < 65536
 named-small book width f a x v q e = omega (arith, valid-type book v (x .named) (q .field x e .named-typed) .room, valid-size book v .few)
 
 -- ---- one entry
@@ -189,7 +189,7 @@ module _ (book : List ℕ) (width f e : ℕ) (v : ValidBook book) (k : PlanEntry
   category-cast = record { fits = omega arith }
 
   pub entry-kept : (o s : ℕ) (c : AdsTypeCategory) → o ≡ offsetOf book f → s ≡ sizeOf book f → c ≡ categoryAt ((e - 1) % 16)
-      → PlannedIs book width f (planned.Field (record { offset = o; size = s; named = (e - 1) / 1048576; resolved = (e - 1) / 16 % 65536; category = c }))
+      → PlannedFieldIs book width f (planned.Field (record { offset = o; size = s; named = (e - 1) / 1048576; resolved = (e - 1) / 16 % 65536; category = c }))
   entry-kept o s c eo es ec =
       let r : (e - 1) / 16 % 65536 ≡ x .resolved = entry-resolved in
       let m : (e - 1) % 16 ≡ categoryNumber (x .category) = omega (arith, packed, number-small (x .category)) in
@@ -223,30 +223,30 @@ entry-past plan i h = sym (List·getD-eq-default plan 0 h)
 pub note-past : (plan : List ℕ) (i e : ℕ) → length plan ≤ i → plan ≡ set plan i e
 note-past plan i e h = sym (set-out plan i e h)
 
-pub note-here : (plan : List ℕ) (i n r p : ℕ) (c : AdsTypeCategory) → p ≡ categoryNumber c → set plan i (1 + (n * 65536 + r) * 16 + p) ≡ set plan i (entryBy n r c)
+pub note-here : (plan : List ℕ) (i n r p : ℕ) (c : AdsTypeCategory) → p ≡ categoryNumber c → set plan i (1 + (n * 65536 + r) * 16 + p) ≡ set plan i (planEntryBy n r c)
 note-here plan i n r p c e = rw e
 
 pub note-fits : (n r p : ℕ) (c : AdsTypeCategory) → n < 65536 → r < 65536 → p ≡ categoryNumber c → Fits w64 (1 + (n * 65536 + r) * 16 + p)
 note-fits n r p c k l e = record { fits = omega (arith, number-small c) }
 
 -- the plan that has no entry
-pub ready-none : (book : List ℕ) (width t : ℕ) → Ready book width t []
+pub ready-none : (book : List ℕ) (width t : ℕ) → PlanServes book width t []
 ready-none book width t = record { entries = record { at = λ i l. entry-none book width (t + 1 + i) }; fine = λ h. absurd (h refl) }
 
 -- ---- the loop of `plan_fields_in`
 
 -- the plan after a field, by what it came to
 module _ (book : List ℕ) (width f i k : ℕ) (plan : List ℕ) where
-  plan-lacks : (b : ℕ) → resolveField book width f ≡ answer.Lacks b → planFrom book width f i (suc k) plan ≡ plan
-  unfolding planFrom noted
+  plan-lacks : (b : ℕ) → resolveField book width f ≡ answer.Lacks b → fieldPlanFrom book width f i (suc k) plan ≡ plan
+  unfolding fieldPlanFrom noted
   plan-lacks b e = rw e
 
-  plan-endless : resolveField book width f ≡ answer.TooLong → planFrom book width f i (suc k) plan ≡ plan
-  unfolding planFrom noted
+  plan-endless : resolveField book width f ≡ answer.TooLong → fieldPlanFrom book width f i (suc k) plan ≡ plan
+  unfolding fieldPlanFrom noted
   plan-endless e = rw e
 
-  plan-more : (x : PlannedField) → FieldIs book width f x → planFrom book width f i (suc k) plan ≡ planFrom book width (f + 1) (i + 1) k (set plan i (entryOf x))
-  unfolding planFrom noted
+  plan-more : (x : PlannedField) → FieldIs book width f x → fieldPlanFrom book width f i (suc k) plan ≡ fieldPlanFrom book width (f + 1) (i + 1) k (set plan i (planEntryOf x))
+  unfolding fieldPlanFrom noted
   plan-more x q = rw (q .found, q .named-is, q .resolved-is, ← q .category-is)
 
 -- before the i-th of n fields: the first refusal of all is that of the fields left, the fields before have their entries, and what is
@@ -254,69 +254,69 @@ module _ (book : List ℕ) (width f i k : ℕ) (plan : List ℕ) where
 pub record Planning (book : List ℕ) (width t n : ℕ) (before : List ℕ) (i : ℕ) (now : List ℕ) : Type 0 where
   pub left : fieldsCheck book width t ≡ fieldsFrom book width (t + 1 + i) (n - i)
   pub upto : (j : ℕ) → j < i → PlanEntry book width (t + 1 + j) (getD now j 0)
-  pub rest : planOf book width t before ≡ planFrom book width (t + 1 + i) i (n - i) now
+  pub rest : fieldPlanOf book width t before ≡ fieldPlanFrom book width (t + 1 + i) i (n - i) now
 
 -- one more entry, if there is room
 module _ (book : List ℕ) (width t i : ℕ) (plan : List ℕ) (h : (j : ℕ) → j < i → PlanEntry book width (t + 1 + j) (getD plan j 0)) (x : PlannedField) (q : FieldIs book width (t + 1 + i) x) where
-  more : (j : ℕ) → j < i + 1 → PlanEntry book width (t + 1 + j) (getD (set plan i (entryOf x)) j 0)
+  more : (j : ℕ) → j < i + 1 → PlanEntry book width (t + 1 + j) (getD (set plan i (planEntryOf x)) j 0)
   more j l = by (leb (length plan) i) refl (eqb j i) refl
     where
-      by : (out : Bool) → leb (length plan) i ≡ out → (same : Bool) → eqb j i ≡ same → PlanEntry book width (t + 1 + j) (getD (set plan i (entryOf x)) j 0)
+      by : (out : Bool) → leb (length plan) i ≡ out → (same : Bool) → eqb j i ≡ same → PlanEntry book width (t + 1 + j) (getD (set plan i (planEntryOf x)) j 0)
       by true e true s =
           let z : j ≡ i = eqb-true j i s in
           let b : length plan ≤ j = rw z (leb-true (length plan) i e) in
-          rw (set-out plan i (entryOf x) (leb-true (length plan) i e), List·getD-eq-default plan 0 b) (entry-none book width (t + 1 + j))
+          rw (set-out plan i (planEntryOf x) (leb-true (length plan) i e), List·getD-eq-default plan 0 b) (entry-none book width (t + 1 + j))
       by false e true s =
           let z : j ≡ i = eqb-true j i s in
-          rw (z, getD-set-same plan i (entryOf x) 0 (leb-false (length plan) i e)) (record { known = λ n. record { entry = x; is = q; packed = refl } })
+          rw (z, getD-set-same plan i (planEntryOf x) 0 (leb-false (length plan) i e)) (record { known = λ n. record { entry = x; is = q; packed = refl } })
       by out e false s =
           let n : j ≡ i → ⊥ = eqb-false j i s in
-          rw (getD-set-other plan i j (entryOf x) 0 n) (h j (omega arith))
+          rw (getD-set-other plan i j (planEntryOf x) 0 n) (h j (omega arith))
 
 module _ (book : List ℕ) (width t n : ℕ) where
   pub planning-start : (plan : List ℕ) → n ≡ fieldsOf book t → Planning book width t n plan 0 plan
-  unfolding fieldsCheck planOf
+  unfolding fieldsCheck fieldPlanOf
   planning-start plan e =
       let a : t + 1 + 0 ≡ t + 1 = omega arith in
       let b : n - 0 ≡ fieldsOf book t = omega arith in
       record { left = rw (a, b); upto = λ j l. absurd (omega arith); rest = rw (a, b) }
 
   module _ (before : List ℕ) (i : ℕ) (now : List ℕ) (p : Planning book width t n before i now) where
-    pub planning-end : n ≡ fieldsOf book t → n ≤ i → PlanIs book width t before check.Fine now
-    unfolding planFrom
+    pub planning-end : n ≡ fieldsOf book t → n ≤ i → FieldPlanIs book width t before check.Fine now
+    unfolding fieldPlanFrom
     planning-end z h =
         let k : n - i ≡ 0 = omega arith in
         record {
           is = check-says _ _ (sym (p .left ∙ ap (fieldsFrom book width (t + 1 + i)) k ∙ fields-none book width (t + 1 + i)));
-          plan = sym (p .rest ∙ ap (λ (m : ℕ). planFrom book width (t + 1 + i) i m now) k);
+          plan = sym (p .rest ∙ ap (λ (m : ℕ). fieldPlanFrom book width (t + 1 + i) i m now) k);
           entries = λ e. record { at = λ j l. p .upto j (omega arith) };
         }
 
-    module _ (l : i < n) (a : Planned) (q : PlannedIs book width (t + 1 + i) a) where
+    module _ (l : i < n) (a : Planned) (q : PlannedFieldIs book width (t + 1 + i) a) where
       one-more : n - i ≡ suc (n - (i + 1))
       one-more = omega arith
 
       turn : fieldsCheck book width t ≡ fieldsFrom book width (t + 1 + i) (suc (n - (i + 1)))
       turn = p .left ∙ ap (fieldsFrom book width (t + 1 + i)) one-more
 
-      fill : planOf book width t before ≡ planFrom book width (t + 1 + i) i (suc (n - (i + 1))) now
-      fill = p .rest ∙ ap (λ (m : ℕ). planFrom book width (t + 1 + i) i m now) one-more
+      fill : fieldPlanOf book width t before ≡ fieldPlanFrom book width (t + 1 + i) i (suc (n - (i + 1))) now
+      fill = p .rest ∙ ap (λ (m : ℕ). fieldPlanFrom book width (t + 1 + i) i m now) one-more
 
-      pub planning-lacks : (b : ℕ) → a ≡ planned.Lacks b → PlanIs book width t before (check.Lacks b) now
+      pub planning-lacks : (b : ℕ) → a ≡ planned.Lacks b → FieldPlanIs book width t before (check.Lacks b) now
       planning-lacks b e = record {
         is = check-says _ _ (sym (turn ∙ fields-lacks book width (t + 1 + i) (n - (i + 1)) b (q .lacks b e)));
         plan = sym (fill ∙ plan-lacks book width (t + 1 + i) i (n - (i + 1)) now b (q .lacks b e));
         entries = λ f. absurd (let z : _≡_ {A = ℕ} 0 1 = cc in omega arith);
       }
 
-      pub planning-endless : a ≡ planned.TooLong → PlanIs book width t before check.TooLong now
+      pub planning-endless : a ≡ planned.TooLong → FieldPlanIs book width t before check.TooLong now
       planning-endless e = record {
         is = check-says _ _ (sym (turn ∙ fields-endless book width (t + 1 + i) (n - (i + 1)) (q .endless e)));
         plan = sym (fill ∙ plan-endless book width (t + 1 + i) i (n - (i + 1)) now (q .endless e));
         entries = λ f. absurd (let z : _≡_ {A = ℕ} 0 1 = cc in omega arith);
       }
 
-      pub planning-again : (x : PlannedField) (later : List ℕ) → a ≡ planned.Field x → later ≡ set now i (entryOf x) → Planning book width t n before (i + 1) later
+      pub planning-again : (x : PlannedField) (later : List ℕ) → a ≡ planned.Field x → later ≡ set now i (planEntryOf x) → Planning book width t n before (i + 1) later
       planning-again x later e s =
           let f : FieldIs book width (t + 1 + i) x = q .field x e in
           let z : t + 1 + (i + 1) ≡ t + 1 + i + 1 = omega arith in

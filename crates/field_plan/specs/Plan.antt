@@ -19,12 +19,12 @@ use Rattle.field_plan.specs.declared.Planned.{Planned}
 use Rattle.field_plan.specs.declared.Planned.the-variants as planned
 
 -- an entry: 1, the blocks of a type as named and as resolved, each in 16 bits, and the number of its category in 4
-abbrev pub entryBy : ℕ → ℕ → AdsTypeCategory → ℕ
-entryBy named block c = 1 + (named * 65536 + block) * 16 + categoryNumber c
+abbrev pub planEntryBy : ℕ → ℕ → AdsTypeCategory → ℕ
+planEntryBy named block c = 1 + (named * 65536 + block) * 16 + categoryNumber c
 
 -- a field's entry
-abbrev pub entryOf : PlannedField → ℕ
-entryOf x = entryBy (x .named) (x .resolved) (x .category)
+abbrev pub planEntryOf : PlannedField → ℕ
+planEntryOf x = planEntryBy (x .named) (x .resolved) (x .category)
 
 -- document 01's number and values of a planned field: 0 and its offset, size, resolved block and that type's category, 7 and the block whose
 -- type name is not found, or 8
@@ -53,7 +53,7 @@ pub record FieldIs (book : List ℕ) (width f : ℕ) (x : PlannedField) : Type 0
   pub category-is : x .category ≡ categoryOf book width (x .resolved)
 
 -- an answer is that of resolving field block f; what each of its cases tells
-pub record PlannedIs (book : List ℕ) (width f : ℕ) (r : Planned) : Type 0 where
+pub record PlannedFieldIs (book : List ℕ) (width f : ℕ) (r : Planned) : Type 0 where
   pub is : plannedNumbers r ≡ plannedNumbers (plannedOf book width (resolveField book width f))
   pub field : (x : PlannedField) → r ≡ planned.Field x → FieldIs book width f x
   pub lacks : (b : ℕ) → r ≡ planned.Lacks b → resolveField book width f ≡ answer.Lacks b
@@ -63,7 +63,7 @@ pub record PlannedIs (book : List ℕ) (width f : ℕ) (r : Planned) : Type 0 wh
 pub record Known (book : List ℕ) (width f e : ℕ) : Type 0 where
   pub entry : PlannedField
   pub is : FieldIs book width f entry
-  pub packed : e ≡ entryOf entry
+  pub packed : e ≡ planEntryOf entry
 
 -- 0 says nothing of field block f; any other entry is its own
 pub record PlanEntry (book : List ℕ) (width f e : ℕ) : Type 0 where
@@ -74,27 +74,27 @@ pub record Entries (book : List ℕ) (width t : ℕ) (plan : List ℕ) : Type 0 
   pub at : (i : ℕ) → i < fieldsOf book t → PlanEntry book width (t + 1 + i) (getD plan i 0)
 
 -- the plan of type block t is empty, or no field of t is refused
-pub record Ready (book : List ℕ) (width t : ℕ) (plan : List ℕ) : Type 0 where
+pub record PlanServes (book : List ℕ) (width t : ℕ) (plan : List ℕ) : Type 0 where
   pub entries : Entries book width t plan
   pub fine : (length plan ≡ 0 → ⊥) → fieldsCheck book width t ≡ check.Fine
 
 -- a plan after field i was resolved: with its entry the plan is filled further, after a refusal it stays
 unfoldable pub noted : List ℕ → ℕ → (List ℕ → List ℕ) → ℕ → List ℕ → FieldAnswer → List ℕ
-noted book width further i plan (answer.Field x) = further (set plan i (entryBy (x .named) (x .resolved) (categoryOf book width (x .resolved))))
+noted book width further i plan (answer.Field x) = further (set plan i (planEntryBy (x .named) (x .resolved) (categoryOf book width (x .resolved))))
 noted book width further i plan (answer.Lacks b) = plan
 noted book width further i plan answer.TooLong = plan
 
 -- a plan with the entries of the k field blocks from block f on, the first at place i, up to the first field that is refused; what has no place is left out
-unfoldable pub planFrom : List ℕ → ℕ → ℕ → ℕ → ℕ → List ℕ → List ℕ
-planFrom book width f i zero plan = plan
-planFrom book width f i (suc k) plan = noted book width (planFrom book width (f + 1) (i + 1) k) i plan (resolveField book width f)
+unfoldable pub fieldPlanFrom : List ℕ → ℕ → ℕ → ℕ → ℕ → List ℕ → List ℕ
+fieldPlanFrom book width f i zero plan = plan
+fieldPlanFrom book width f i (suc k) plan = noted book width (fieldPlanFrom book width (f + 1) (i + 1) k) i plan (resolveField book width f)
 
 -- a plan with the entries of the fields of type block t
-unfoldable pub planOf : List ℕ → ℕ → ℕ → List ℕ → List ℕ
-planOf book width t plan = planFrom book width (t + 1) 0 (fieldsOf book t) plan
+unfoldable pub fieldPlanOf : List ℕ → ℕ → ℕ → List ℕ → List ℕ
+fieldPlanOf book width t plan = fieldPlanFrom book width (t + 1) 0 (fieldsOf book t) plan
 
 -- the answer is the first refusal of the fields, and the plan has the entries of those before it; without one it serves for all, whatever it held
-pub record PlanIs (book : List ℕ) (width t : ℕ) (before : List ℕ) (r : FieldsCheck) (after : List ℕ) : Type 0 where
+pub record FieldPlanIs (book : List ℕ) (width t : ℕ) (before : List ℕ) (r : FieldsCheck) (after : List ℕ) : Type 0 where
   pub is : checkNumbers r ≡ checkNumbers (fieldsCheck book width t)
-  pub plan : after ≡ planOf book width t before
+  pub plan : after ≡ fieldPlanOf book width t before
   pub entries : r ≡ check.Fine → Entries book width t after

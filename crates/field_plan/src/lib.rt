@@ -7,7 +7,7 @@ ghost use lib.ListN.{getD, set};
 ghost use Rattle.typebook.specs.Book.{isType, typeNameOf};
 ghost use Rattle.type_provider.specs.Find.{find};
 ghost use Rattle.book_check.specs.Check.{ValidBook};
-ghost use Rattle.field_plan.specs.Plan.{entryOf, PlanEntry, PlannedIs, PlanIs};
+ghost use Rattle.field_plan.specs.Plan.{planEntryOf, PlanEntry, PlannedFieldIs, FieldPlanIs};
 use category_number::category_at;
 use category_number::number;
 use field_types::FieldsCheck;
@@ -37,7 +37,7 @@ pub enum Planned {
 // Field block f, whose type name finds the alias at block `named`.
 fn plan_alias(book: &[u8], index: &[u32], width: u8, f: u32, named: u32) -> Planned
     requires { ⌜ ValidBook (now book) × (find (now book) (typeNameOf (now book) f) ≡ Found.At named) ⌝ }
-    ensures { λ r. ⌜ PlannedIs (now (book .entry)) width f r ⌝ }
+    ensures { λ r. ⌜ PlannedFieldIs (now (book .entry)) width f r ⌝ }
 {
     let answer = resolvers::resolve_alias_in(book, index, width, named);
     match answer {
@@ -56,7 +56,7 @@ fn plan_alias(book: &[u8], index: &[u32], width: u8, f: u32, named: u32) -> Plan
 // Resolves the type of field block f, and says its category. Most types are no alias: their category is determined once.
 fn plan_field(book: &[u8], index: &[u32], width: u8, f: u32) -> Planned
     requires { ⌜ ValidBook (now book) ⌝ }
-    ensures { λ r. ⌜ PlannedIs (now (book .entry)) width f r ⌝ }
+    ensures { λ r. ⌜ PlannedFieldIs (now (book .entry)) width f r ⌝ }
 {
     let found = resolvers::named_in(book, index, f);
     let Found::At(named) = found else {
@@ -78,7 +78,7 @@ fn plan_field(book: &[u8], index: &[u32], width: u8, f: u32) -> Planned
 // Field block f, by its entry of a plan; without an entry (0) it is resolved here.
 pub fn planned_field(book: &[u8], index: &[u32], width: u8, f: u32, entry: u64) -> Planned
     requires { ⌜ ValidBook (now book) × PlanEntry (now book) width f entry ⌝ }
-    ensures { λ r. ⌜ PlannedIs (now (book .entry)) width f r ⌝ }
+    ensures { λ r. ⌜ PlannedFieldIs (now (book .entry)) width f r ⌝ }
 {
     if entry == 0 {
         return plan_field(book, index, width, f);
@@ -105,7 +105,7 @@ pub fn entry_at(plan: &[u64], i: u32) -> u64
 // Stores the i-th field's entry, if the plan is long enough.
 fn note(plan: &mut [u64], i: u32, field: PlannedField)
     requires { ⌜ (field .named < 65536) × (field .resolved < 65536) ⌝ }
-    ensures { λ _. ⌜ now (plan .exit) ≡ set (now (plan .entry)) i (entryOf field) ⌝ }
+    ensures { λ _. ⌜ now (plan .exit) ≡ set (now (plan .entry)) i (planEntryOf field) ⌝ }
 {
     let category = field.category;
     if (i as usize) < plan.len() {
@@ -123,7 +123,7 @@ pub fn plan_fields_in(
     plan: &mut [u64],
 ) -> FieldsCheck
     requires { ⌜ ValidBook (now book) × (isType (now book) t ≡ true) ⌝ }
-    ensures { λ r. ⌜ PlanIs (now (book .entry)) width t (now (plan .entry)) r (now (plan .exit)) ⌝ }
+    ensures { λ r. ⌜ FieldPlanIs (now (book .entry)) width t (now (plan .entry)) r (now (plan .exit)) ⌝ }
 {
     let n = block::fields(book, t);
     let mut i: u32 = 0;

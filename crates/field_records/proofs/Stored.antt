@@ -22,7 +22,7 @@ use Rattle.field_types.specs.declared.FieldAnswer.the-variants as answer
 use Rattle.field_types.specs.declared.FieldsAnswer.{FieldsAnswer}
 use Rattle.field_types.specs.declared.FieldsAnswer.the-variants as fields
 use Rattle.field_types.specs.Calls.{fieldsAnswer, rootFields}
-use Rattle.field_records.specs.Stored.{none, recordOf, recordsAt, Taken, Ready, countOf, filledAt, storedAt}
+use Rattle.field_records.specs.Stored.{noRecord, resolvedRecord, resolvedRecordsAt, Resolvable, AllResolvable, storedCount, filledAt, storedAt}
 use Rattle.field_types.proofs.Fields.{field-number}
 use Rattle.field_types.proofs.Records.{done-fit}
 
@@ -30,33 +30,33 @@ use Rattle.field_types.proofs.Records.{done-fit}
 
 module _ (a : FieldAnswer) where
   pub record-field : (x : ResolvedField) → a ≡ answer.Field x
-      → _≡_ {A = Rec} (record { offset = x .offset; size = x .size; «type_block» = x .resolved; «field_block» = x .field }) (recordOf a)
+      → _≡_ {A = Rec} (record { offset = x .offset; size = x .size; «type_block» = x .resolved; «field_block» = x .field }) (resolvedRecord a)
   record-field x h = rw h
 
-  pub record-lacks : (c : ℕ) → a ≡ answer.Lacks c → none ≡ recordOf a
+  pub record-lacks : (c : ℕ) → a ≡ answer.Lacks c → noRecord ≡ resolvedRecord a
   record-lacks c h = rw h
 
-  pub record-endless : a ≡ answer.TooLong → none ≡ recordOf a
+  pub record-endless : a ≡ answer.TooLong → noRecord ≡ resolvedRecord a
   record-endless h = rw h
 
 -- ---- the records of a root
 
 module _ (buffer : List ℕ) (len width root : ℕ) where
-  length-records : (i k : ℕ) → length (recordsAt buffer len width root i k) ≡ k
-  unfolding recordsAt
+  length-records : (i k : ℕ) → length (resolvedRecordsAt buffer len width root i k) ≡ k
+  unfolding resolvedRecordsAt
   length-records i zero = refl
   length-records i (suc k) = ap suc (length-records (suc i) k)
 
   -- what the loop leaves is what the contract says
-  pub sets-filled : (n : ℕ) (ys : List Rec) → n ≤ length ys → sets ys 0 (recordsAt buffer len width root 0 n) ≡ filledAt buffer len width root n ys
+  pub sets-filled : (n : ℕ) (ys : List Rec) → n ≤ length ys → sets ys 0 (resolvedRecordsAt buffer len width root 0 n) ≡ filledAt buffer len width root n ys
   unfolding filledAt
   sets-filled n ys h =
-      let e : length (recordsAt buffer len width root 0 n) ≡ n = length-records 0 n in
-      sets-eq (recordsAt buffer len width root 0 n) ys 0 (omega (arith, e)) ∙ ap (λ (k : ℕ). recordsAt buffer len width root 0 n ++ drop k ys) (zero-add (length (recordsAt buffer len width root 0 n)) ∙ e)
+      let e : length (resolvedRecordsAt buffer len width root 0 n) ≡ n = length-records 0 n in
+      sets-eq (resolvedRecordsAt buffer len width root 0 n) ys 0 (omega (arith, e)) ∙ ap (λ (k : ℕ). resolvedRecordsAt buffer len width root 0 n ++ drop k ys) (zero-add (length (resolvedRecordsAt buffer len width root 0 n)) ∙ e)
 
   -- a refusal stores no record
-  pub filled-stored : (a : FieldsAnswer) (ys : List Rec) → filledAt buffer len width root (countOf a) ys ≡ storedAt buffer len width root a ys
-  unfolding filledAt storedAt recordsAt
+  pub filled-stored : (a : FieldsAnswer) (ys : List Rec) → filledAt buffer len width root (storedCount a) ys ≡ storedAt buffer len width root a ys
+  unfolding filledAt storedAt resolvedRecordsAt
   filled-stored (fields.Done n) ys = refl
   filled-stored (fields.NotFound b) ys = refl
   filled-stored (fields.Refused n) ys = refl
@@ -73,7 +73,7 @@ module _ (buffer : List ℕ) (len width root : ℕ) where
 
   -- what a plan counts has room, and can be looked up
   counted : (room : ℕ) (k : RootCheck) → checkRoot buffer len root ≡ k → (a : FieldsAnswer) → atRoot fields.Refused (λ t. fieldsAnswer (take len buffer) width t room) k ≡ a
-      → (countOf a ≤ room) × Ready buffer len width root (countOf a)
+      → (storedCount a ≤ room) × AllResolvable buffer len width root (storedCount a)
   unfolding atRoot
   counted room k e (fields.NotFound b) q = (omega arith, λ i small. absurd (not-suc-le-zero small))
   counted room k e (fields.Refused n) q = (omega arith, λ i small. absurd (not-suc-le-zero small))
@@ -88,6 +88,6 @@ module _ (buffer : List ℕ) (len width root : ℕ) where
         },
       )
 
-  pub plan-ready : (room : ℕ) → (countOf (rootFields buffer len width root room) ≤ room) × Ready buffer len width root (countOf (rootFields buffer len width root room))
+  pub plan-ready : (room : ℕ) → (storedCount (rootFields buffer len width root room) ≤ room) × AllResolvable buffer len width root (storedCount (rootFields buffer len width root room))
   unfolding rootFields
   plan-ready room = counted room (checkRoot buffer len root) refl (atRoot fields.Refused (λ t. fieldsAnswer (take len buffer) width t room) (checkRoot buffer len root)) refl

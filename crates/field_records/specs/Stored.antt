@@ -13,46 +13,46 @@ use Rattle.field_types.specs.Fields.{resolveField}
 use Rattle.field_types.specs.Calls.{fieldsNumbers, rootFields}
 
 -- what `getD` gives past the end, and the record of a field that is refused, which is never stored
-abbrev pub none : ResolvedField
-none = record { offset = 0; size = 0; «type_block» = 0; «field_block» = 0 }
+abbrev pub noRecord : ResolvedField
+noRecord = record { offset = 0; size = 0; «type_block» = 0; «field_block» = 0 }
 
 -- a field's record: offset, size, resolved type's block, field's block
-abbrev pub recordOf : FieldAnswer → ResolvedField
-recordOf (answer.Field x) = record { offset = x .offset; size = x .size; «type_block» = x .resolved; «field_block» = x .field }
-recordOf (answer.Lacks c) = none
-recordOf answer.TooLong = none
+abbrev pub resolvedRecord : FieldAnswer → ResolvedField
+resolvedRecord (answer.Field x) = record { offset = x .offset; size = x .size; «type_block» = x .resolved; «field_block» = x .field }
+resolvedRecord (answer.Lacks c) = noRecord
+resolvedRecord answer.TooLong = noRecord
 
 -- the record of field i of the root
 abbrev pub recordAt : List ℕ → ℕ → ℕ → ℕ → ℕ → ResolvedField
-recordAt buffer len width root i = recordOf (resolveField (take len buffer) width (root + 1 + i))
+recordAt buffer len width root i = resolvedRecord (resolveField (take len buffer) width (root + 1 + i))
 
 -- the k records from field i on
-unfoldable pub recordsAt : List ℕ → ℕ → ℕ → ℕ → ℕ → ℕ → List ResolvedField
-recordsAt buffer len width root i zero = []
-recordsAt buffer len width root i (suc k) = recordAt buffer len width root i ∷ recordsAt buffer len width root (suc i) k
+unfoldable pub resolvedRecordsAt : List ℕ → ℕ → ℕ → ℕ → ℕ → ℕ → List ResolvedField
+resolvedRecordsAt buffer len width root i zero = []
+resolvedRecordsAt buffer len width root i (suc k) = recordAt buffer len width root i ∷ resolvedRecordsAt buffer len width root (suc i) k
 
 -- field i of the root can be looked up
-pub record Taken (buffer : List ℕ) (len width root i : ℕ) : Type 0 where
+pub record Resolvable (buffer : List ℕ) (len width root i : ℕ) : Type 0 where
   pub inside : len ≤ length buffer
   pub valid : ValidBook (take len buffer)
   pub number : root + 1 + i < 2 ^ 32
 
--- each of the first n can be. Of none nothing is asked, so a refusal, which counts none, needs no case of its own
-abbrev pub Ready : List ℕ → ℕ → ℕ → ℕ → ℕ → Type 0
-Ready buffer len width root n = (i : ℕ) → i < n → Taken buffer len width root i
+-- each of the first n can be. Of noRecord nothing is asked, so a refusal, which counts noRecord, needs no case of its own
+abbrev pub AllResolvable : List ℕ → ℕ → ℕ → ℕ → ℕ → Type 0
+AllResolvable buffer len width root n = (i : ℕ) → i < n → Resolvable buffer len width root i
 
-abbrev pub countOf : FieldsAnswer → ℕ
-countOf (fields.Done n) = n
-countOf (fields.NotFound b) = 0
-countOf (fields.Refused n) = 0
+abbrev pub storedCount : FieldsAnswer → ℕ
+storedCount (fields.Done n) = n
+storedCount (fields.NotFound b) = 0
+storedCount (fields.Refused n) = 0
 
 -- the first n records are those of the root's fields, the rest as before
 unfoldable pub filledAt : List ℕ → ℕ → ℕ → ℕ → ℕ → List ResolvedField → List ResolvedField
-filledAt buffer len width root n before = recordsAt buffer len width root 0 n ++ drop n before
+filledAt buffer len width root n before = resolvedRecordsAt buffer len width root 0 n ++ drop n before
 
 -- a success stores the records of the root's fields and leaves the rest; a refusal leaves all
 unfoldable pub storedAt : List ℕ → ℕ → ℕ → ℕ → FieldsAnswer → List ResolvedField → List ResolvedField
-storedAt buffer len width root (fields.Done n) before = recordsAt buffer len width root 0 n ++ drop n before
+storedAt buffer len width root (fields.Done n) before = resolvedRecordsAt buffer len width root 0 n ++ drop n before
 storedAt buffer len width root (fields.NotFound b) before = before
 storedAt buffer len width root (fields.Refused n) before = before
 

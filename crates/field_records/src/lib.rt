@@ -4,7 +4,7 @@
 ghost use mathlib.Core.Path.{_≡_};
 ghost use Prim.Native.Nat.{_≤_};
 ghost use lib.ListN.{length};
-ghost use Rattle.field_records.specs.Stored.{Taken, Ready, countOf, recordOf, recordAt, filledAt, Filled};
+ghost use Rattle.field_records.specs.Stored.{Resolvable, AllResolvable, storedCount, resolvedRecord, recordAt, filledAt, Filled};
 use field_types::FieldAnswer;
 use field_types::FieldsAnswer;
 use field_types::check_fields;
@@ -21,7 +21,7 @@ pub struct ResolvedField {
 
 // How many records an answer stores: a refusal none.
 fn count_of(answer: FieldsAnswer) -> usize
-    ensures { λ r. ⌜ r ≡ countOf answer ⌝ }
+    ensures { λ r. ⌜ r ≡ storedCount answer ⌝ }
 {
     match answer {
         FieldsAnswer::Done(n) => n,
@@ -40,7 +40,7 @@ fn index_of(buffer: &[u8], len: usize) -> [u32; 16384] {
 }
 
 fn record_of(answer: FieldAnswer) -> ResolvedField
-    ensures { λ r. ⌜ r ≡ recordOf answer ⌝ }
+    ensures { λ r. ⌜ r ≡ resolvedRecord answer ⌝ }
 {
     match answer {
         FieldAnswer::Field(x) => ResolvedField {
@@ -73,7 +73,7 @@ fn record_at(
     root: u64,
     i: usize,
 ) -> ResolvedField
-    requires { ⌜ Taken (now buffer) len width root i ⌝ }
+    requires { ⌜ Resolvable (now buffer) len width root i ⌝ }
     ensures { λ r. ⌜ r ≡ recordAt (now (buffer .entry)) len width root i ⌝ }
 {
     let f = root as u32 + 1 + i as u32;
@@ -91,7 +91,7 @@ fn fill_records(
     n: usize,
     records: &mut [ResolvedField],
 )
-    requires { ⌜ Ready (now buffer) len width root n × (n ≤ length (now records)) ⌝ }
+    requires { ⌜ AllResolvable (now buffer) len width root n × (n ≤ length (now records)) ⌝ }
     ensures { λ _. ⌜ now (records .exit) ≡ filledAt (now (buffer .entry)) len width root n (now (records .entry)) ⌝ }
 {
     let mut i: usize = 0;

@@ -21,13 +21,13 @@ use Rattle.field_types.specs.declared.FieldsCheck.the-variants as check
 use Rattle.field_types.specs.declared.FieldsAnswer.{FieldsAnswer}
 use Rattle.field_types.specs.declared.FieldsAnswer.the-variants as fields
 use Rattle.field_types.specs.Fields.{checkNumbers, resolveField, fieldsFrom, fieldsCheck, FieldResolved}
-use Rattle.field_types.specs.Calls.{fits, fieldsEnd, fieldsAnswer, recordOf, recordsFrom, fieldRecords, storedIn, Filled, rootFields, rootRecords}
+use Rattle.field_types.specs.Calls.{recordsThatFit, fieldsEnd, fieldsAnswer, fieldRecord, recordsFrom, fieldRecords, storedIn, Filled, rootFields, rootRecords}
 use Rattle.field_types.proofs.Numbers.{field-is, fields-says}
 use Rattle.field_types.proofs.Fields.{fields-more, fields-lacks, fields-endless}
 
 -- ---- how many records fit
 
-module _ (book : List ℕ) (width t room n : ℕ) (en : n ≡ fieldsOf book t) (fit : ℕ) (ef : fit ≡ fits n room) where
+module _ (book : List ℕ) (width t room n : ℕ) (en : n ≡ fieldsOf book t) (fit : ℕ) (ef : fit ≡ recordsThatFit n room) where
   module _ (k : FieldsCheck) (ek : k ≡ fieldsFrom book width (t + 1) fit) where
     answer-is : fieldsEnd n room k ≡ fieldsAnswer book width t room
     unfolding fieldsAnswer
@@ -56,16 +56,16 @@ pub record Fit (book : List ℕ) (width t room m : ℕ) : Type 0 where
   pub count : m ≡ fieldsOf book t
 
 module _ (book : List ℕ) (width t room m : ℕ) where
-  done-by : (b : Bool) → leb (fieldsOf book t) room ≡ b → fieldsFrom book width (t + 1) (fits (fieldsOf book t) room) ≡ check.Fine
+  done-by : (b : Bool) → leb (fieldsOf book t) room ≡ b → fieldsFrom book width (t + 1) (recordsThatFit (fieldsOf book t) room) ≡ check.Fine
       → cond b (fields.Done (fieldsOf book t)) (fields.Refused 15) ≡ fields.Done m → Fit book width t room m
   unfolding fieldsCheck
   done-by true q h e =
       let l : fieldsOf book t ≤ room = leb-true _ _ q in
-      let o : fits (fieldsOf book t) room ≡ fieldsOf book t = omega arith in
+      let o : recordsThatFit (fieldsOf book t) room ≡ fieldsOf book t = omega arith in
       record { room-is = omega arith; fine = rw o at h; count = cc }
   done-by false q h e = absurd (let z : _≡_ {A = ℕ} 0 1 = cc in omega arith)
 
-  done-of : (k : FieldsCheck) → fieldsFrom book width (t + 1) (fits (fieldsOf book t) room) ≡ k
+  done-of : (k : FieldsCheck) → fieldsFrom book width (t + 1) (recordsThatFit (fieldsOf book t) room) ≡ k
       → fieldsEnd (fieldsOf book t) room k ≡ fields.Done m → Fit book width t room m
   unfolding fieldsEnd
   done-of check.Fine h e = done-by (leb (fieldsOf book t) room) refl h e
@@ -74,12 +74,12 @@ module _ (book : List ℕ) (width t room m : ℕ) where
 
   pub done-fit : fieldsAnswer book width t room ≡ fields.Done m → Fit book width t room m
   unfolding fieldsAnswer
-  done-fit e = done-of (fieldsFrom book width (t + 1) (fits (fieldsOf book t) room)) refl e
+  done-fit e = done-of (fieldsFrom book width (t + 1) (recordsThatFit (fieldsOf book t) room)) refl e
 
 -- ---- one record
 
 pub store-four : (l : List ℕ) (at : ℕ) (x : ResolvedField)
-    → set (set (set (set l at (x .offset)) (at + 1) (x .size)) (at + 2) (x .resolved)) (at + 3) (x .field) ≡ sets l at (recordOf (answer.Field x))
+    → set (set (set (set l at (x .offset)) (at + 1) (x .size)) (at + 2) (x .resolved)) (at + 3) (x .field) ≡ sets l at (fieldRecord (answer.Field x))
 store-four l at x =
     let a : at + 1 ≡ suc at = omega arith in
     let b : at + 2 ≡ suc (suc at) = omega arith in
@@ -135,7 +135,7 @@ module _ (book : List ℕ) (width t n : ℕ) (en : n ≡ fieldsOf book t) (recor
             let y = fields-endless book width (t + 1 + i) (n - (i + 1)) (sym (field-is _ _ (q .is)) ∙ h) in
             absurd (let z : _≡_ {A = ℕ} 0 1 = cc in omega arith)
 
-        pub store-again : (x : ResolvedField) → a ≡ answer.Field x → (later : List ℕ) → later ≡ sets now (i * 4) (recordOf (answer.Field x))
+        pub store-again : (x : ResolvedField) → a ≡ answer.Field x → (later : List ℕ) → later ≡ sets now (i * 4) (fieldRecord (answer.Field x))
             → Storing book width t n records (i + 1) later
         unfolding recordsFrom
         store-again x h later e =
@@ -145,11 +145,11 @@ module _ (book : List ℕ) (width t n : ℕ) (en : n ≡ fieldsOf book t) (recor
             let w : fieldsFrom book width (t + 1 + i) (suc (n - (i + 1))) ≡ check.Fine = rw left at (s .fine) in
             let y : sets now (i * 4) (recordsFrom book width (t + 1 + i) (suc (n - (i + 1)))) ≡ sets records 0 (fieldRecords book width t) = rw left at (s .finish) in
             let r : List ℕ = recordsFrom book width (t + 1 + i + 1) (n - (i + 1)) in
-            let u : sets now (i * 4) (recordOf (answer.Field x) ++ r) ≡ sets records 0 (fieldRecords book width t) = rw f at y in
+            let u : sets now (i * 4) (fieldRecord (answer.Field x) ++ r) ≡ sets records 0 (fieldRecords book width t) = rw f at y in
             record {
               fine = rw p (sym (fields-more book width (t + 1 + i) (n - (i + 1)) x f) ∙ w);
-              finish = rw (p, o, e) (sym (sets-append (recordOf (answer.Field x)) r now (i * 4)) ∙ u);
-              kept = ap length e ∙ length-sets now (i * 4) (recordOf (answer.Field x)) ∙ s .kept;
+              finish = rw (p, o, e) (sym (sets-append (fieldRecord (answer.Field x)) r now (i * 4)) ∙ u);
+              kept = ap length e ∙ length-sets now (i * 4) (fieldRecord (answer.Field x)) ∙ s .kept;
             }
 
 -- ---- the whole
@@ -160,7 +160,7 @@ unfolding recordsFrom
 records-length book width f zero = omega arith
 records-length book width f (suc k) = by (resolveField book width f) (records-length book width (f + 1) k)
   where
-    by : (a : FieldAnswer) → length (recordsFrom book width (f + 1) k) ≤ k * 4 → length (recordOf a ++ recordsFrom book width (f + 1) k) ≤ suc k * 4
+    by : (a : FieldAnswer) → length (recordsFrom book width (f + 1) k) ≤ k * 4 → length (fieldRecord a ++ recordsFrom book width (f + 1) k) ≤ suc k * 4
     by (answer.Field x) h = omega arith
     by (answer.Lacks c) h = omega arith
     by answer.TooLong h = omega arith

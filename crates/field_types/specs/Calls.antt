@@ -23,8 +23,8 @@ fieldsNumbers (fields.NotFound b) = 7 ∷ b ∷ []
 fieldsNumbers (fields.Refused n) = n ∷ []
 
 -- how many of n records fit, where there is room for that many
-abbrev pub fits : ℕ → ℕ → ℕ
-fits n room = min n room
+abbrev pub recordsThatFit : ℕ → ℕ → ℕ
+recordsThatFit n room = min n room
 
 -- after the fields whose records fit: 15 if another record is due
 unfoldable pub fieldsEnd : ℕ → ℕ → FieldsCheck → FieldsAnswer
@@ -36,22 +36,22 @@ fieldsEnd n room check.TooLong = fields.Refused (refusalOf (checkNumbers check.T
 -- first whose record does not fit it is 15
 unfoldable pub fieldsAnswer : List ℕ → ℕ → ℕ → ℕ → FieldsAnswer
 fieldsAnswer book width t room =
-    fieldsEnd (fieldsOf book t) room (fieldsFrom book width (t + 1) (fits (fieldsOf book t) room))
+    fieldsEnd (fieldsOf book t) room (fieldsFrom book width (t + 1) (recordsThatFit (fieldsOf book t) room))
 
 -- a record is four numbers: how many records have room in that many numbers
 abbrev pub recordRoom : ℕ → ℕ
 recordRoom numbers = numbers / 4
 
 -- a field's record: offset, size, resolved type's block, field's block
-abbrev pub recordOf : FieldAnswer → List ℕ
-recordOf (answer.Field x) = x .offset ∷ x .size ∷ x .resolved ∷ x .field ∷ []
-recordOf (answer.Lacks c) = []
-recordOf answer.TooLong = []
+abbrev pub fieldRecord : FieldAnswer → List ℕ
+fieldRecord (answer.Field x) = x .offset ∷ x .size ∷ x .resolved ∷ x .field ∷ []
+fieldRecord (answer.Lacks c) = []
+fieldRecord answer.TooLong = []
 
 -- the records of the k field blocks from block f on
 unfoldable pub recordsFrom : List ℕ → ℕ → ℕ → ℕ → List ℕ
 recordsFrom book width f zero = []
-recordsFrom book width f (suc k) = recordOf (resolveField book width f) ++ recordsFrom book width (f + 1) k
+recordsFrom book width f (suc k) = fieldRecord (resolveField book width f) ++ recordsFrom book width (f + 1) k
 
 -- the records of the fields of type block t
 unfoldable pub fieldRecords : List ℕ → ℕ → ℕ → List ℕ

@@ -8,7 +8,7 @@ ghost use lib.Seq.{sets};
 ghost use Rattle.typebook.specs.Book.{isType, fieldsOf};
 ghost use Rattle.book_check.specs.Check.{ValidBook};
 ghost use Rattle.field_types.specs.Fields.{checkNumbers, fieldsFrom, fieldsCheck, FieldResolved};
-ghost use Rattle.field_types.specs.Calls.{fits, fieldsNumbers, recordRoom, recordOf, fieldRecords, fieldsAnswer, Filled, rootFields, rootRecords};
+ghost use Rattle.field_types.specs.Calls.{recordsThatFit, fieldsNumbers, recordRoom, fieldRecord, fieldRecords, fieldsAnswer, Filled, rootFields, rootRecords};
 use book_check::RootCheck;
 use resolvers::Resolved;
 use type_provider::Found;
@@ -102,7 +102,7 @@ pub fn check_fields_in(book: &[u8], index: &[u32], width: u8, t: u32) -> FieldsC
 
 // How many of n fields have records that fit.
 fn fitting(n: u32, room: usize) -> u32
-    ensures { λ r. ⌜ r ≡ fits n room ⌝ }
+    ensures { λ r. ⌜ r ≡ recordsThatFit n room ⌝ }
 {
     if n as usize <= room {
         return n;
@@ -132,7 +132,7 @@ fn fields_answer(book: &[u8], index: &[u32], width: u8, t: u32, room: usize) -> 
 
 fn store_field(records: &mut [u32], at: usize, field: ResolvedField)
     requires { ⌜ at + 4 ≤ length (now records) ⌝ }
-    ensures { λ _. ⌜ now (records .exit) ≡ sets (now (records .entry)) at (recordOf (FieldAnswer.Field field)) ⌝ }
+    ensures { λ _. ⌜ now (records .exit) ≡ sets (now (records .entry)) at (fieldRecord (FieldAnswer.Field field)) ⌝ }
 {
     records[at] = field.offset;
     records[at + 1] = field.size;

@@ -13,7 +13,7 @@ use Rattle.utf_8.specs.Buffer.{splice, fitsIn}
 use Rattle.utf_8.specs.declared.Put.{Put}
 use Rattle.utf_8.specs.declared.Put.the-variants.{Next, Full}
 use Rattle.utf_8.proofs.Splices.{splice-none, splice-start, length-splice, splice-both, fitsIn-then, unfitsIn-then, next-full, went, stored-1}
-use Rattle.figures.specs.Puts.{after, over, Puts, Ended, Printed}
+use Rattle.figures.specs.Puts.{placeAfter, over, Puts, ClearedEnd, Printed}
 
 -- ---- as many as there is room for
 
@@ -23,7 +23,7 @@ unfolding fitsIn
 fits-all [] at room f = take-nil (room - at)
 fits-all (x ∷ xs) at room f = take-all (room - at) (x ∷ xs) (omega (arith, leb-true (at + length (x ∷ xs)) room f))
 
--- where the first part fits, what the second has room for comes after it
+-- where the first part fits, what the second has room for comes placeAfter it
 fits-more : (xs ys : List ℕ) (at room : ℕ) → fitsIn xs at room ≡ true → take (room - at) (xs ++ ys) ≡ xs ++ take (room - (at + length xs)) ys
 unfolding fitsIn
 fits-more [] ys at room f = let e : at + 0 ≡ at = omega arith in rw e
@@ -39,8 +39,8 @@ unfits-more (x ∷ xs) ys at room f = take-append-le (room - at) (x ∷ xs) ys (
 
 -- ---- nothing, and one byte
 
-none-by : (p : Put) (room : ℕ) → p ≡ after p [] room
-unfolding after fitsIn
+none-by : (p : Put) (room : ℕ) → p ≡ placeAfter p [] room
+unfolding placeAfter fitsIn
 none-by (Next at) room = let e : at + 0 ≡ at = omega arith in rw e
 none-by Full room = refl
 
@@ -53,18 +53,18 @@ pub puts-none : {out : List ℕ} {p : Put} → Puts [] out p p out
 puts-none {out} {p} = record { answer = none-by p (length out); buffer = none-over p out }
 
 pub puts-full : {xs out : List ℕ} {p : Put} → p ≡ Full → Puts xs out p Full out
-unfolding after over
+unfolding placeAfter over
 puts-full {xs} {out} {p} e = record { answer = rw e; buffer = rw e }
 
 module _ (b : ℕ) (out : List ℕ) (p : Put) (at : ℕ) (e : p ≡ Next at) where
   pub byte-over : length out ≤ at → Puts (b ∷ []) out p Full out
-  unfolding after over fitsIn
+  unfolding placeAfter over fitsIn
   byte-over h =
       let z : length out - at ≡ 0 = omega arith in
       record { answer = rw (e, lt-leb (at + 1) (length out) (omega arith)); buffer = rw (e, z) (sym (splice-none out at)) }
 
   pub byte-put : at < length out → Puts (b ∷ []) out p (Next (at + 1)) (set out at b)
-  unfolding after over
+  unfolding placeAfter over
   byte-put h =
       let w = went (stored-1 out at b (omega arith)) refl in
       record { answer = rw (e, w .fits); buffer = rw (e, fits-all (b ∷ []) at (length out) (w .fits)) (w .buffer) }
@@ -74,7 +74,7 @@ module _ (b : ℕ) (out : List ℕ) (p : Put) (at : ℕ) (e : p ≡ Next at) whe
 module _ (xs ys out out₁ out₂ : List ℕ) (r : Put) where
   then-by : (at : ℕ) (q : Put) (f : Bool) → fitsIn xs at (length out) ≡ f → q ≡ cond f (Next (at + length xs)) Full → out₁ ≡ splice out at (take (length out - at) xs)
       → Puts ys out₁ q r out₂ → Puts (xs ++ ys) out (Next at) r out₂
-  unfolding after over
+  unfolding placeAfter over
   then-by at q true f e w b =
       let v : out₁ ≡ splice out at xs = w ∙ ap (splice out at) (fits-all xs at (length out) f) in
       let l : length out₁ ≡ length out = ap length v ∙ length-splice out xs at f in
@@ -97,7 +97,7 @@ module _ (xs ys out out₁ out₂ : List ℕ) (r : Put) where
       }
 
   chain-by : (p q : Put) → Puts xs out p q out₁ → Puts ys out₁ q r out₂ → Puts (xs ++ ys) out p r out₂
-  unfolding after over
+  unfolding placeAfter over
   chain-by (Next at) q a b = then-by at q (fitsIn xs at (length out)) refl (a .answer) (a .buffer) b
   chain-by Full q a b = record { answer = b .answer ∙ rw (a .answer); buffer = b .buffer ∙ ap (λ (p : Put). over p ys out₁) (a .answer) ∙ a .buffer }
 
@@ -136,12 +136,12 @@ module _ (bytes out₀ : List ℕ) (p₀ : Put) (i : ℕ) (out : List ℕ) (p : 
   pub bytes-end : length bytes ≤ i → i ≤ length bytes → Puts bytes out₀ p₀ p out
   bytes-end h l = let e : i ≡ length bytes = omega arith in rest-end inv (rw (e, drop-length))
 
--- ---- after the last byte
+-- ---- placeAfter the last byte
 
-pub ended-next : {p : Put} {out : List ℕ} (n : ℕ) → p ≡ Next n → Ended p out (Next n) out
+pub ended-next : {p : Put} {out : List ℕ} (n : ℕ) → p ≡ Next n → ClearedEnd p out (Next n) out
 ended-next n e = record { answer = sym e; on = λ k q. refl; off = λ q. next-full (sym e ∙ q) }
 
-pub ended-full : {p : Put} {out out′ : List ℕ} → p ≡ Full → out′ ≡ replicate (length out) 0 → Ended p out Full out′
+pub ended-full : {p : Put} {out out′ : List ℕ} → p ≡ Full → out′ ≡ replicate (length out) 0 → ClearedEnd p out Full out′
 ended-full e h = record { answer = sym e; on = λ k q. next-full (sym q ∙ e); off = λ q. h }
 
 fits-start : (xs : List ℕ) (room : ℕ) → fitsIn xs 0 room ≡ leb (length xs) room
@@ -149,7 +149,7 @@ unfolding fitsIn
 fits-start [] room = sym (le-leb 0 room (omega arith))
 fits-start (x ∷ xs) room = let e : 0 + length (x ∷ xs) ≡ length (x ∷ xs) = omega arith in rw e
 
-module _ (xs out out₁ out₂ : List ℕ) (q r : Put) (b : Ended q out₁ r out₂) where
+module _ (xs out out₁ out₂ : List ℕ) (q r : Put) (b : ClearedEnd q out₁ r out₂) where
   whole-by : (f : Bool) → fitsIn xs 0 (length out) ≡ f → q ≡ cond f (Next (0 + length xs)) Full → out₁ ≡ splice out 0 (take (length out - 0) xs)
       → length out₁ ≡ length out → Printed xs out r out₂
   whole-by true f e w l =
@@ -161,6 +161,6 @@ module _ (xs out out₁ out₂ : List ℕ) (q r : Put) (b : Ended q out₁ r out
       record { answer = b .answer ∙ e ∙ rw g; buffer = b .off e ∙ rw (g, l) }
 
 -- the whole, from the buffer's start on
-pub printed : (xs : List ℕ) {out out₁ out₂ : List ℕ} {q r : Put} → Puts xs out (Next 0) q out₁ → length out₁ ≡ length out → Ended q out₁ r out₂ → Printed xs out r out₂
-unfolding after over
+pub printed : (xs : List ℕ) {out out₁ out₂ : List ℕ} {q r : Put} → Puts xs out (Next 0) q out₁ → length out₁ ≡ length out → ClearedEnd q out₁ r out₂ → Printed xs out r out₂
+unfolding placeAfter over
 printed xs {out} {out₁} {out₂} {q} {r} a l b = whole-by xs out out₁ out₂ q r b (fitsIn xs 0 (length out)) refl (a .answer) (a .buffer) l

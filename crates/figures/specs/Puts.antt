@@ -1,4 +1,4 @@
--- Bytes that are put into a buffer one after the other, and what the whole leaves. Assumes nothing.
+-- Bytes that are put into a buffer one placeAfter the other, and what the whole leaves. Assumes nothing.
 use mathlib.Core.Path.{_≡_}
 use mathlib.Core.Bool.{cond}
 use mathlib.Core.List.{List, _++_}
@@ -9,10 +9,10 @@ use Rattle.utf_8.specs.Buffer.{splice, fitsIn}
 use Rattle.utf_8.specs.declared.Put.{Put}
 use Rattle.utf_8.specs.declared.Put.the-variants.{Next, Full}
 
--- the place after `xs`, from a place on in a buffer of `room` bytes; or that they do not fit, now or before
-unfoldable pub after : Put → List ℕ → ℕ → Put
-after (Next at) xs room = cond (fitsIn xs at room) (Next (at + length xs)) Full
-after Full xs room = Full
+-- the place placeAfter `xs`, from a place on in a buffer of `room` bytes; or that they do not fit, now or before
+unfoldable pub placeAfter : Put → List ℕ → ℕ → Put
+placeAfter (Next at) xs room = cond (fitsIn xs at room) (Next (at + length xs)) Full
+placeAfter Full xs room = Full
 
 -- what the buffer holds then: `xs` laid over it, as many of them as there is room for; where an earlier byte did not fit, nothing more
 unfoldable pub over : Put → List ℕ → List ℕ → List ℕ
@@ -21,11 +21,11 @@ over Full xs out = out
 
 -- what a function that puts `xs` promises
 pub record Puts (xs out : List ℕ) (p r : Put) (out′ : List ℕ) : Type 0 where
-  pub answer : r ≡ after p xs (length out)
+  pub answer : r ≡ placeAfter p xs (length out)
   pub buffer : out′ ≡ over p xs out
 
--- what is left to do after the last byte: where not all fit, the buffer becomes zeros
-pub record Ended (p : Put) (out : List ℕ) (r : Put) (out′ : List ℕ) : Type 0 where
+-- what is left to do placeAfter the last byte: where not all fit, the buffer becomes zeros
+pub record ClearedEnd (p : Put) (out : List ℕ) (r : Put) (out′ : List ℕ) : Type 0 where
   pub answer : r ≡ p
   pub on : (n : ℕ) → p ≡ Next n → out′ ≡ out
   pub off : p ≡ Full → out′ ≡ replicate (length out) 0

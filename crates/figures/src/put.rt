@@ -1,7 +1,7 @@
 // Bytes put one after the other. Each function takes the place that the one before it answered, so that what does not fit
 // is handed on and several follow each other without a test.
 ghost use mathlib.Core.List.{[], _∷_};
-ghost use Rattle.figures.specs.Puts.{Puts, Ended};
+ghost use Rattle.figures.specs.Puts.{Puts, ClearedEnd};
 use utf_8::Put;
 use zeros::clear_bytes;
 
@@ -36,7 +36,7 @@ pub fn put_bytes(p: Put, bytes: &[u8], out: &mut [u8]) -> Put
 
 // The answer after the last byte: where not all fit, the buffer is all zeros.
 pub fn finish(p: Put, out: &mut [u8]) -> Put
-    ensures { λ r. ⌜ Ended p (now (out .entry)) r (now (out .exit)) ⌝ }
+    ensures { λ r. ⌜ ClearedEnd p (now (out .entry)) r (now (out .exit)) ⌝ }
 {
     match p {
         Put::Next(n) => Put::Next(n),

@@ -17,7 +17,7 @@ use Rattle.type_provider.specs.declared.Found.the-variants.{At, Nothing}
 use Rattle.named_blocks.specs.Named.{namedFrom, fieldNamed}
 use Rattle.marks.proofs.Laws.{bit-is}
 use Rattle.marks.specs.Marks.{hashOf, bitOf, BitSet, isMarked, Marked}
-use Rattle.first_fields.specs.Firsts.{blockOf, Met, Firsts, Noted}
+use Rattle.first_fields.specs.Firsts.{foundBlock, Met, Firsts, Noted}
 
 -- the block at place i is the first of a name that none before it has
 first-at : (book name : List ℕ) (n k i : ℕ) → i < k → ((j : ℕ) → j < i → sameName (nameOf book (n + j)) name ≡ false) → sameName (nameOf book (n + i)) name ≡ true
@@ -99,23 +99,23 @@ enough-bits book t n len e l = omega arith
 
 -- ---- by a name
 
-pub block-at : (x : Found) (f : ℕ) → x ≡ At f → f ≡ blockOf x
-unfolding blockOf
+pub block-at : (x : Found) (f : ℕ) → x ≡ At f → f ≡ foundBlock x
+unfolding foundBlock
 block-at x f e = rw e
 
-pub block-none : (x : Found) → x ≡ Nothing → 0 ≡ blockOf x
-unfolding blockOf
+pub block-none : (x : Found) → x ≡ Nothing → 0 ≡ foundBlock x
+unfolding foundBlock
 block-none x e = rw e
 
-pub block-named : (book : List ℕ) (t : ℕ) (name : List ℕ) (x : Found) → x ≡ fieldNamed book t name → (r : ℕ) → r ≡ blockOf x → r ≡ blockOf (fieldNamed book t name)
+pub block-named : (book : List ℕ) (t : ℕ) (name : List ℕ) (x : Found) → x ≡ fieldNamed book t name → (r : ℕ) → r ≡ foundBlock x → r ≡ foundBlock (fieldNamed book t name)
 block-named book t name x ex r er = er ∙ rw ex
 
-pub named-first : (book : List ℕ) (t f : ℕ) (firsts : List ℕ) → Firsts book t firsts → t < f → (b : Bool) → b ≡ bitOf firsts (f - t - 1) → b ≡ true → f ≡ blockOf (fieldNamed book t (nameOf book f))
-unfolding blockOf
+pub named-first : (book : List ℕ) (t f : ℕ) (firsts : List ℕ) → Firsts book t firsts → t < f → (b : Bool) → b ≡ bitOf firsts (f - t - 1) → b ≡ true → f ≡ foundBlock (fieldNamed book t (nameOf book f))
+unfolding foundBlock
 named-first book t f firsts x l b eb h =
     let z : t + 1 + (f - t - 1) ≡ f = omega arith in
     let y : fieldNamed book t (nameOf book f) ≡ At f = (rw z at (x .at (f - t - 1) (sym eb ∙ h))) in
     rw y
 
-pub named-searched : (book : List ℕ) (t f : ℕ) (name : List ℕ) → name ≡ nameOf book f → (r : ℕ) → r ≡ blockOf (fieldNamed book t name) → r ≡ blockOf (fieldNamed book t (nameOf book f))
+pub named-searched : (book : List ℕ) (t f : ℕ) (name : List ℕ) → name ≡ nameOf book f → (r : ℕ) → r ≡ foundBlock (fieldNamed book t name) → r ≡ foundBlock (fieldNamed book t (nameOf book f))
 named-searched book t f name en r er = er ∙ rw en

@@ -11,9 +11,9 @@ use Rattle.named_blocks.specs.Named.{fieldNamed}
 use Rattle.marks.specs.Marks.{hashOf, bitOf, isMarked}
 
 -- the block of a field that was found, 0 where none was: block 0 is no field
-unfoldable pub blockOf : Found → ℕ
-blockOf (At f) = f
-blockOf Nothing = 0
+unfoldable pub foundBlock : Found → ℕ
+foundBlock (At f) = f
+foundBlock Nothing = 0
 
 -- a bit that is set is that of a field of type block t, the first of its name
 pub record Firsts (book : List ℕ) (t : ℕ) (firsts : List ℕ) : Type 0 where

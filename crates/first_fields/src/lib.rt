@@ -5,7 +5,7 @@ ghost use Prim.Native.Nat.{_+_, _*_, _≤_, _<_};
 ghost use lib.ListN.{length};
 ghost use Rattle.typebook.specs.Book.{fieldsOf, entriesOf, nameOf};
 ghost use Rattle.named_blocks.specs.Named.{fieldNamed};
-ghost use Rattle.first_fields.specs.Firsts.{blockOf, Met, Firsts, Noted};
+ghost use Rattle.first_fields.specs.Firsts.{foundBlock, Met, Firsts, Noted};
 use marks::bit;
 use marks::hash;
 use marks::is_marked;
@@ -99,7 +99,7 @@ pub fn note_firsts(book: &[u8], t: u32, firsts: &mut [u32])
 
 // The block of a field that was found, 0 where none was. A number goes from call to call in a register, and Found through memory.
 fn block_of(found: Found) -> u32
-    ensures { λ r. ⌜ r ≡ blockOf found ⌝ }
+    ensures { λ r. ⌜ r ≡ foundBlock found ⌝ }
 {
     match found {
         Found::At(f) => f,
@@ -110,7 +110,7 @@ fn block_of(found: Found) -> u32
 // The block of the first field of type block t that has this name; 0 where none has it.
 pub fn field_block(book: &[u8], t: u32, name: &[u8]) -> u32
     requires { ⌜ t + fieldsOf (now book) t + entriesOf (now book) t < 65536 ⌝ }
-    ensures { λ r. ⌜ r ≡ blockOf (fieldNamed (now (book .entry)) t (now (name .entry))) ⌝ }
+    ensures { λ r. ⌜ r ≡ foundBlock (fieldNamed (now (book .entry)) t (now (name .entry))) ⌝ }
 {
     block_of(field_by_name(book, t, name))
 }
@@ -118,7 +118,7 @@ pub fn field_block(book: &[u8], t: u32, name: &[u8]) -> u32
 // The same for the name of block f.
 pub fn field_named_as(book: &[u8], t: u32, firsts: &[u32], f: u32) -> u32
     requires { ⌜ (t + fieldsOf (now book) t + entriesOf (now book) t < 65536) × Firsts (now book) t (now firsts) ⌝ }
-    ensures { λ r. ⌜ r ≡ blockOf (fieldNamed (now (book .entry)) t (nameOf (now (book .entry)) f)) ⌝ }
+    ensures { λ r. ⌜ r ≡ foundBlock (fieldNamed (now (book .entry)) t (nameOf (now (book .entry)) f)) ⌝ }
 {
     if t < f {
         if bit(firsts, f - t - 1) {

@@ -20,7 +20,7 @@ use Rattle.steps.specs.Trace.{Trace}
 use Rattle.steps.specs.Answer.{readNumbers, ReadIs}
 use Rattle.ser.specs.declared.WriteAnswer.{WriteAnswer}
 use Rattle.ser.specs.Write.{Outcome}
-use Rattle.ser.specs.Call.{writeNumbers, Wrote}
+use Rattle.ser.specs.Call.{writeNumbers, WriteIs}
 use Rattle.plan_save.specs.declared.Plan.{Plan}
 use Rattle.plan_save.specs.Call.{planNumbers, planRefusal, PlanIs}
 use Rattle.lent_values.specs.Values.{Gives}
@@ -75,7 +75,7 @@ pub record ReadGiven (trace : Trace) (tape text before : List ℕ) (r : ℕ) (ta
 -- what a write of the outcome answers, as a number and values, and the output that it leaves
 pub record WriteGiven (outcome : Outcome) (image output before : List ℕ) (r : ℕ) (output′ after : List ℕ) : Type 0 where
   pub answer : WriteAnswer
-  pub by : Wrote outcome image output answer output′
+  pub by : WriteIs outcome image output answer output′
   pub gives : Gives (writeNumbers answer) before r after
 
 -- what the plan of a save answers, as a number and values, and our buffer, the scratch and the index that it leaves

@@ -14,7 +14,7 @@ use Rattle.tape.specs.declared.cursor.Step.{Step}
 use Rattle.tape.specs.declared.cursor.Cursor.{Cursor}
 use Rattle.tape.specs.declared.cursor.Step.the-variants as step
 use Rattle.tape.specs.Record.{recordOf, stepAt}
-use Rattle.figures.specs.Puts.{Puts, Ended, Printed}
+use Rattle.figures.specs.Puts.{Puts, ClearedEnd, Printed}
 use Rattle.figures.proofs.Joins.{chain, chain-3, Rest, rest-all, rest-next, rest-end, printed}
 use Rattle.record_line.specs.Line.{countedLine, lineOf}
 use Rattle.lines.specs.Lines.{before, recordsAt, linesOf, headLine, walkLines, refusedLine}
@@ -69,12 +69,12 @@ lines-done book text tape all out₀ p₀ at left out p inv h = let e : left ≡
 -- ---- the calls
 
 pub walk-printed : (book : List ℕ) (n memory : ℕ) (tape : List ℕ) (records : ℕ) (text : List ℕ) {out out₁ out₂ out₃ : List ℕ} {p q r : Put}
-    → Puts (headLine book n memory) out (Next 0) p out₁ → Puts (linesOf book text (recordsAt tape records 0)) out₁ p q out₂ → length out₁ ≡ length out → length out₂ ≡ length out₁ → Ended q out₂ r out₃
+    → Puts (headLine book n memory) out (Next 0) p out₁ → Puts (linesOf book text (recordsAt tape records 0)) out₁ p q out₂ → length out₁ ≡ length out → length out₂ ≡ length out₁ → ClearedEnd q out₂ r out₃
     → Printed (walkLines book n memory tape records text) out r out₃
 unfolding walkLines
 walk-printed book n memory tape records text a b k l c = printed _ (chain a b) (l ∙ k) c
 
-pub refused-printed : (n : ℕ) {out out₁ out₂ : List ℕ} {q r : Put} → Puts (countedLine (0x72 ∷ 0x65 ∷ 0x66 ∷ 0x75 ∷ 0x73 ∷ 0x65 ∷ 0x64 ∷ 0x20 ∷ []) n) out (Next 0) q out₁ → length out₁ ≡ length out → Ended q out₁ r out₂
+pub refused-printed : (n : ℕ) {out out₁ out₂ : List ℕ} {q r : Put} → Puts (countedLine (0x72 ∷ 0x65 ∷ 0x66 ∷ 0x75 ∷ 0x73 ∷ 0x65 ∷ 0x64 ∷ 0x20 ∷ []) n) out (Next 0) q out₁ → length out₁ ≡ length out → ClearedEnd q out₁ r out₂
     → Printed (refusedLine n) out r out₂
 unfolding refusedLine
 refused-printed n a l b = printed _ a l b

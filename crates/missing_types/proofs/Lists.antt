@@ -14,7 +14,7 @@ use Rattle.events.specs.declared.Event.{Event}
 use Rattle.events.specs.declared.Event.the-variants.{Old, Lacking, New, Long, Full}
 use Rattle.walks.specs.Walk.{Walk, met, walkOf}
 use Rattle.walks.specs.Reads.{names, count, listed, whole}
-use Rattle.walks.specs.State.{Left, After, Falls, Due, IsDue, work, Stepped, Started}
+use Rattle.walks.specs.State.{LeftToWalk, After, Falls, Due, IsDue, work, Stepped, Started}
 use Rattle.walks.proofs.States.{step-due, due-as, due-new, due-lacking, due-long, over-is}
 use Rattle.missing_types.specs.declared.Turn.{Turn}
 use Rattle.missing_types.specs.declared.Turn.the-variants as turn
@@ -125,7 +125,7 @@ module _ (list : List ℕ) (left n : ℕ) (ok : Bool) {e : Event} (p : IsDue lef
             let c = q .counts in
             record {
               rest = g .next;
-              left-over = subst (λ (ls : List ℕ). Left book width sc ls (left - 1) d (g .next)) (sym k) (g .left-over);
+              left-over = subst (λ (ls : List ℕ). LeftToWalk book width sc ls (left - 1) d (g .next)) (sym k) (g .left-over);
               reading = record {
                 counts = omega (arith, count-met (g .is));
                 lists =

@@ -14,7 +14,7 @@ use Rattle.book_check.specs.Check.{ValidBook}
 use Rattle.book_check.proofs.Valid.{valid-own}
 use Rattle.resolvers.specs.declared.Resolved.{Resolved}
 use Rattle.resolvers.specs.declared.Resolved.the-variants.{Base, Lacks, TooLong}
-use Rattle.resolvers.specs.Resolve.{isFollowed, onward, follow, resolveAlias}
+use Rattle.resolvers.specs.Resolve.{isFollowed, chainOnward, follow, resolveAlias}
 use Rattle.resolvers.proofs.Chains.{follow-none, follow-base, follow-on, follow-lacks, follow-breaks}
 use Rattle.walks.specs.Walk.{Walk, over, full, met, comesTo, push, meet, walk, walkOf}
 use Rattle.walks.specs.Reads.{names, listed, whole}
@@ -91,7 +91,7 @@ listed-here c b x f w e = rw e (List·Memᴰ·head refl)
 module _ (book : List ℕ) (width : ℕ) (root : List ℕ) where
   -- a reached name of block b that comes to nothing at block c
   comes-lacking : (b c : ℕ) → Reached book width root (typeNameOf book b) → (f : Found) → find book (typeNameOf book b) ≡ f → comesTo book width b f ≡ Lacks c → Unresolved book book width root c
-  unfolding onward
+  unfolding chainOnward
   comes-lacking b c r (At t) q e =
       record {
         lacking = follow-breaks (isFollowed false book width) book 32 t c e .nothing;
@@ -115,7 +115,7 @@ module _ (book : List ℕ) (width : ℕ) (root : List ℕ) where
 -- a listed block is one of a reached name that the book lacks: by its own name, or by the last alias of its chain
 module _ (book : List ℕ) (width root : ℕ) (v : ValidBook book) (y : isType book root ≡ true) where
   pub listed-lacking : (c : ℕ) → List·Memᴰ c (listed (walkOf book width root)) → Unresolved book book width (nameOf book root) c
-  unfolding walkOf meet names onward
+  unfolding walkOf meet names chainOnward
   listed-lacking c m =
       let own : find book (nameOf book root) ≡ At root = valid-own book v root y in
       let name = nameOf book root in
@@ -150,7 +150,7 @@ module _ (book : List ℕ) (width : ℕ) where
   rest-listing b y f w x q = record { block = q .block; member = listed-rest (q .block) b y f w (q .member); names-it = q .names-it }
 
   goes-listing : {left : ℕ} {v : List (List ℕ)} {s : List ℕ} {w : Walk} → Goes book width left v s w → whole w ≡ true → (x : List ℕ) → List·Memᴰ x (names w) → find book x ≡ Nothing → Listing book (listed w) x
-  unfolding names whole onward
+  unfolding names whole chainOnward
   goes-listing none h x m q = absurd (List·Memᴰ·not-nil m)
   goes-listing (old e g) h x m q = goes-listing g h x m q
   goes-listing (fresh {left} {b} {v} {s} {w} e g) h x m q =
@@ -164,7 +164,7 @@ module _ (book : List ℕ) (width : ℕ) where
 
   goes-broken : {left : ℕ} {v : List (List ℕ)} {s : List ℕ} {w : Walk} → Goes book width left v s w → whole w ≡ true → (x : List ℕ) → List·Memᴰ x (names w)
       → (t c : ℕ) → find book x ≡ At t → resolveAlias book width t ≡ Lacks c → List·Memᴰ c (listed w)
-  unfolding names whole onward
+  unfolding names whole chainOnward
   goes-broken none h x m t c q k = absurd (List·Memᴰ·not-nil m)
   goes-broken (old e g) h x m t c q k = goes-broken g h x m t c q k
   goes-broken (fresh {left} {b} {v} {s} {w} e g) h x m t c q k =
@@ -179,7 +179,7 @@ module _ (book : List ℕ) (width : ℕ) where
 module _ (book : List ℕ) (width root : ℕ) (h : whole (walkOf book width root) ≡ true) (x : List ℕ) (r : Reached book width (nameOf book root) x) where
   -- a reached name whose chain breaks at block c: block c is listed
   pub broken-listed : (t c : ℕ) → find book x ≡ At t → resolveAlias book width t ≡ Lacks c → List·Memᴰ c (listed (walkOf book width root))
-  unfolding walkOf meet names onward
+  unfolding walkOf meet names chainOnward
   broken-listed t c q k =
       let y = nameOf book root in
       let f = comesTo book width root (find book y) in

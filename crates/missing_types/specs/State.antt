@@ -9,7 +9,7 @@ use Rattle.events.specs.declared.Event.{Event}
 use Rattle.events.specs.declared.Event.the-variants.{Old, Lacking, New, Long, Full}
 use Rattle.walks.specs.Walk.{Walk}
 use Rattle.walks.specs.Reads.{count, listed, whole}
-use Rattle.walks.specs.State.{Left, After, work, Falls, IsDue}
+use Rattle.walks.specs.State.{LeftToWalk, After, work, Falls, IsDue}
 use Rattle.missing_types.specs.declared.Turn.{Turn}
 use Rattle.missing_types.specs.declared.Turn.the-variants as turn
 
@@ -25,7 +25,7 @@ pub record Reading (all : Walk) (list₀ list : List ℕ) (left n : ℕ) (ok : B
 -- the state between two turns
 pub record Now (book : List ℕ) (width : ℕ) (all : Walk) (list₀ sc list : List ℕ) (left depth n : ℕ) (ok : Bool) : Type 0 where
   pub rest : Walk
-  pub left-over : Left book width sc (take n list) left depth rest
+  pub left-over : LeftToWalk book width sc (take n list) left depth rest
   pub reading : Reading all list₀ list left n ok rest
 
 -- the walk ended at a name too many

@@ -31,7 +31,7 @@ use Rattle.closure.proofs.Steps.{Sound, ours}
 use Rattle.closure.proofs.Asks.{Theirs, ask-whole, root-check, listed-needed, none-defined}
 use Rattle.closure.proofs.Closed.{closed-at}
 use Rattle.plan_adds.specs.Adds.{Adding, on, lacks, room, sweep, addAll}
-use Rattle.plan_save.specs.Rounds.{Outcome, decided, ruled, nextRound, closing, roundOf, sweptFrom, roundsThen, planFrom}
+use Rattle.plan_save.specs.Rounds.{Decision, decided, ruled, nextRound, closing, roundOf, sweptFrom, roundsThen, planFrom}
 use Rattle.plan_save.specs.Call.{planRefusal, planOf}
 use Rattle.plan_decides.specs.Decides.{PlanDecides}
 use Rattle.plan_decides.proofs.Below.{listed-below}
@@ -64,7 +64,7 @@ numbered book width (met b x (Lacks c) w) n e z = apart-lacks c n e
 numbered book width (met b x TooLong w) n e z = let q : 8 ≡ n = same-number 8 n e in omega arith
 
 -- ---- an answer
-record Answered (c : List ℕ) (width root : ℕ) (name : List ℕ) (o : Outcome) : Type 0 where
+record Answered (c : List ℕ) (width root : ℕ) (name : List ℕ) (o : Decision) : Type 0 where
   answer : Bool
   final : Ours
   is : o ≡ decided answer final
@@ -123,15 +123,15 @@ module _ (c : List ℕ) (width root : ℕ) (name : List ℕ) (w : Theirs c width
       (λ x m. listed-below (bookOf s) width (ours c (w .valid) root name s o) root (o .holds) x (rw e m))
       (λ x m. defines (typeNameOf (bookOf s) x) (listed-needed c width root name w s o x (rw e m)))
 
-  goes-on : (go : Ours → Outcome) (a : Adding) (z : Ours) → a ≡ on z → Answered c width root name (go z) → Answered c width root name (nextRound go a)
+  goes-on : (go : Ours → Decision) (a : Adding) (z : Ours) → a ≡ on z → Answered c width root name (go z) → Answered c width root name (nextRound go a)
   unfolding nextRound
   goes-on go a z e r = rw e r
 
   -- what holds where the next round begins: our book was swept from block i on
-  abbrev Then : ℕ → (Ours → Outcome) → Type 0
+  abbrev Then : ℕ → (Ours → Decision) → Type 0
   Then i go = (y z : Ours) → Sound c root name y → Sound c root name z → z ≡ sweep c width i y → Answered c width root name (go z)
 
-  closes : (go : Ours → Outcome) (i : ℕ) (s : Ours) → Sound c root name s → Then i go → (bs : List ℕ) → listed (walkAt width root s) ≡ bs
+  closes : (go : Ours → Decision) (i : ℕ) (s : Ours) → Sound c root name s → Then i go → (bs : List ℕ) → listed (walkAt width root s) ≡ bs
       → Answered c width root name (closing go c width i (walkAt width root s) s bs)
   unfolding closing
   closes go i s o ih [] e = decide s o e (rmwOf (bookOf s) width (walkAt width root s)) refl
@@ -139,12 +139,12 @@ module _ (c : List ℕ) (width root : ℕ) (name : List ℕ) (w : Theirs c width
       let f : Gone c (w .valid) root name width i (addAll c width i (b ∷ bs) s) = goes i s o (b ∷ bs) e in
       goes-on go (addAll c width i (b ∷ bs) s) (f .final) (f .is) (ih (f .before) (f .final) (f .before-sound) (f .sound) (f .swept))
 
-  round : (go : Ours → Outcome) (i : ℕ) (s : Ours) → Sound c root name s → Then i go → Answered c width root name (roundOf go c width i (walkAt width root s) s)
+  round : (go : Ours → Decision) (i : ℕ) (s : Ours) → Sound c root name s → Then i go → Answered c width root name (roundOf go c width i (walkAt width root s) s)
   unfolding roundOf
   round go i s o ih = rw (ask-whole c width root name w s o) (closes go i s o ih (listed (walkAt width root s)) refl)
 
   -- after a sweep from block 0 an ask lists none, since what it lists can be added
-  last-closes : (go : Ours → Outcome) (i : ℕ) (y z : Ours) → Sound c root name y → Sound c root name z → z ≡ sweep c width 0 y → (bs : List ℕ)
+  last-closes : (go : Ours → Decision) (i : ℕ) (y z : Ours) → Sound c root name y → Sound c root name z → z ≡ sweep c width 0 y → (bs : List ℕ)
       → listed (walkAt width root z) ≡ bs → Answered c width root name (closing go c width i (walkAt width root z) z bs)
   unfolding closing
   last-closes go i y z p o q [] e = decide z o e (rmwOf (bookOf z) width (walkAt width root z)) refl
@@ -152,7 +152,7 @@ module _ (c : List ℕ) (width root : ℕ) (name : List ℕ) (w : Theirs c width
       absurd (stuck-apart z (goes i z o (b ∷ bs) e .final) (addAll c width i (b ∷ bs) z)
       (listed-stuck c (w .valid) width root y z (p .valid) (o .valid) q (o .holds) i b bs e) (goes i z o (b ∷ bs) e .is))
 
-  last : (go : Ours → Outcome) (i : ℕ) (y z : Ours) → Sound c root name y → Sound c root name z → z ≡ sweep c width 0 y
+  last : (go : Ours → Decision) (i : ℕ) (y z : Ours) → Sound c root name y → Sound c root name z → z ≡ sweep c width 0 y
       → Answered c width root name (roundOf go c width i (walkAt width root z) z)
   unfolding roundOf
   last go i y z p o q = rw (ask-whole c width root name w z o) (last-closes go i y z p o q (listed (walkAt width root z)) refl)

@@ -16,11 +16,11 @@ use Rattle.book_check.specs.Check.{ValidBook}
 use Rattle.book_check.proofs.Valid.{valid-type, valid-below, valid-own}
 use Rattle.resolvers.specs.declared.Resolved.{Resolved}
 use Rattle.resolvers.specs.declared.Resolved.the-variants.{Base, Lacks, TooLong}
-use Rattle.resolvers.specs.Resolve.{isFollowed, onward, resolveAlias}
+use Rattle.resolvers.specs.Resolve.{isFollowed, chainOnward, resolveAlias}
 use Rattle.resolvers.proofs.Chains.{found-type, follow-ends, follow-breaks}
 use Rattle.visits.specs.declared.Parts.{Parts}
 use Rattle.visits.specs.declared.Parts.the-variants as parts
-use Rattle.visits.specs.Parts.{partsKind, after, partsIn, partsOf}
+use Rattle.visits.specs.Parts.{partsKind, blocksAfter, partsIn, partsOf}
 use Rattle.walks.specs.Walk.{Walk, over, full, met, comesTo, push, meet, walk, walkOf}
 use Rattle.walks.specs.Reads.{listed}
 use Rattle.walks.proofs.Goes.{Goes, goes}
@@ -39,8 +39,8 @@ full-none : (c b : ℕ) (x : List ℕ) → List·Memᴰ c (listed (full b x)) �
 unfolding listed
 full-none c b x m = List·Memᴰ·not-nil m
 
-in-after : (t k b : ℕ) → List·Memᴰ b (after t k) → b < t + 1 + k
-unfolding after
+in-after : (t k b : ℕ) → List·Memᴰ b (blocksAfter t k) → b < t + 1 + k
+unfolding blocksAfter
 in-after t zero b m = absurd (List·Memᴰ·not-nil m)
 in-after t (suc k) b m = ⊎-elim (λ e. omega arith) (λ n. let r = in-after t k b n in omega (arith, r)) (List·Memᴰ·cases-cons m)
 
@@ -76,7 +76,7 @@ module _ (book : List ℕ) (width : ℕ) (v : ValidBook book) where
 
     -- what a name comes to is a type block of the book, or breaks off at an alias of it, or at once
     comes-typed : (b u : ℕ) (f : Found) → find book (typeNameOf book b) ≡ f → comesTo book width b f ≡ Base u → isType book u ≡ true
-    unfolding onward
+    unfolding chainOnward
     comes-typed b u (At t) q e = follow-ends (isFollowed false book width) book 32 t u e .typed (found-type book (typeNameOf book b) t q)
     comes-typed b u Nothing q e = absurd (lacks-apart b u (sym e))
 
@@ -86,7 +86,7 @@ module _ (book : List ℕ) (width : ℕ) (v : ValidBook book) where
         of-alias c (r .typed y) (r .goes-on)
 
     comes-to : (b c : ℕ) → P b → (f : Found) → find book (typeNameOf book b) ≡ f → comesTo book width b f ≡ Lacks c → P c
-    unfolding onward
+    unfolding chainOnward
     comes-to b c h (At t) q e = chain-breaks t c (found-type book (typeNameOf book b) t q) e
     comes-to b c h Nothing q e = subst (λ (x : ℕ). P x) (lacks-same b c e) h
 
@@ -110,12 +110,12 @@ module _ (book : List ℕ) (width : ℕ) (v : ValidBook book) where
 
     module _ (root : ℕ) (y : isType book root ≡ true) where
       root-typed : (u : ℕ) (f : Found) → find book (nameOf book root) ≡ f → comesTo book width root f ≡ Base u → isType book u ≡ true
-      unfolding onward
+      unfolding chainOnward
       root-typed u (At t) q e = follow-ends (isFollowed false book width) book 32 t u e .typed (found-type book (nameOf book root) t q)
       root-typed u Nothing q e = absurd (lacks-apart root u (sym e))
 
       root-to : (c : ℕ) (f : Found) → find book (nameOf book root) ≡ f → comesTo book width root f ≡ Lacks c → P c
-      unfolding onward
+      unfolding chainOnward
       root-to c (At t) q e = chain-breaks t c (found-type book (nameOf book root) t q) e
       root-to c Nothing q e = absurd (found-apart root (sym (valid-own book v root y) ∙ q))
 

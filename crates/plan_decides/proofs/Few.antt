@@ -12,7 +12,7 @@ use Rattle.book_check.proofs.Valid.{valid-book, valid-below}
 use Rattle.walks.specs.Reads.{listed, whole}
 use Rattle.closure.specs.Calls.{Ours, bookOf, walkAt}
 use Rattle.plan_adds.specs.Adds.{Adding, on, lacks, room, thenOn, fetchOf, addListed, passing, sweep, addAll}
-use Rattle.plan_save.specs.Rounds.{Outcome, refused, nextRound, closing, notWhole, roundOf, sweptFrom, roundsThen}
+use Rattle.plan_save.specs.Rounds.{Decision, refused, nextRound, closing, notWhole, roundOf, sweptFrom, roundsThen}
 use Rattle.plan_decides.specs.Few.{PlanFew}
 use Rattle.plan_decides.proofs.Taken.{same-kind}
 use Rattle.plan_decides.proofs.Settles.{Later, later-same, later-then, fetch-settles, sweep-later}
@@ -41,12 +41,12 @@ on-same : (a b : Ours) → on a ≡ on b → a ≡ b
 on-same a b e = cc
 
 -- the outcome of adds that ended does not depend on what would follow
-stuck-same : (g h : Ours → Outcome) (z : Ours) (a : Adding) → Stuck z a → nextRound g a ≡ nextRound h a
+stuck-same : (g h : Ours → Decision) (z : Ours) (a : Adding) → Stuck z a → nextRound g a ≡ nextRound h a
 unfolding nextRound
 stuck-same g h z a (Stuck.nowhere b e) = rw e
 stuck-same g h z a (Stuck.full e) = rw e
 
-next-same : (g h : Ours → Outcome) (a : Adding) → ((z : Ours) → a ≡ on z → g z ≡ h z) → nextRound g a ≡ nextRound h a
+next-same : (g h : Ours → Decision) (a : Adding) → ((z : Ours) → a ≡ on z → g z ≡ h z) → nextRound g a ≡ nextRound h a
 unfolding nextRound
 next-same g h (on z) f = f z refl
 next-same g h (lacks b z) f = refl
@@ -89,8 +89,8 @@ module _ (c : List ℕ) (w : ValidBook c) (width root : ℕ) where
       by (lacks x y) f q = lacks-apart x y z q
       by (room y) f q = room-apart y z q
 
-  module _ (g h : Ours → Outcome) (i : ℕ) (s : Ours) (o : Holds root s) where
-    same-whole : (t : Bool) (a b : Outcome) → a ≡ b → cond t a (refused (notWhole (walkAt width root s)) s) ≡ cond t b (refused (notWhole (walkAt width root s)) s)
+  module _ (g h : Ours → Decision) (i : ℕ) (s : Ours) (o : Holds root s) where
+    same-whole : (t : Bool) (a b : Decision) → a ≡ b → cond t a (refused (notWhole (walkAt width root s)) s) ≡ cond t b (refused (notWhole (walkAt width root s)) s)
     same-whole true a b e = e
     same-whole false a b e = refl
 
@@ -123,12 +123,12 @@ module _ (c : List ℕ) (w : ValidBook c) (width root : ℕ) where
   unfolding sweptFrom
   first book = refl
 
-  step : (go : Ours → Outcome) (k : ℕ) (s : Ours)
+  step : (go : Ours → Decision) (k : ℕ) (s : Ours)
       → roundsThen go c width root (suc k) s ≡ roundOf (roundsThen go c width root k) c width (sweptFrom k (bookOf s)) (walkAt width root s) s
   unfolding roundsThen
   step go k s = refl
 
-  module _ (g h : Ours → Outcome) where
+  module _ (g h : Ours → Decision) where
     one : (s : Ours) → Swept 0 s → roundsThen g c width root 1 s ≡ roundsThen h c width root 1 s
     one s q =
         step g 0 s

@@ -22,16 +22,16 @@ use Rattle.walks.specs.Reads.{listed, whole}
 use Rattle.read_modify_write.specs.declared.Rmw.{Rmw}
 use Rattle.read_modify_write.specs.declared.Rmw.the-variants as rmw
 use Rattle.read_modify_write.specs.Reads.{rmwOf}
-use Rattle.closure.specs.Calls.{Ours, bookOf, Item, ask, add, appended, next, after, Each, none, more, walkAt}
-use Rattle.closure.specs.Demand.{Given, ListedNone, here, later}
+use Rattle.closure.specs.Calls.{Ours, bookOf, Call, ask, add, appended, next, afterCalls, Each, none, more, walkAt}
+use Rattle.closure.specs.Demand.{Lent, ListedNone, here, later}
 use Rattle.plan_adds.specs.declared.Due.{Due}
 use Rattle.plan_adds.specs.declared.Due.the-variants.{Names, Rest}
 use Rattle.plan_adds.specs.Adds.{Adding, on, lacks, room, thenOn, appendOf, fetchBy, fetchOf, addListed, passing, dueOf, sweepBy, sweepFrom, sweep, addAll}
-use Rattle.plan_save.specs.Rounds.{Outcome, decided, lacking, refused, ruled, nextRound, closing, notWhole, roundOf, sweptFrom, roundsThen, planFrom}
+use Rattle.plan_save.specs.Rounds.{Decision, decided, lacking, refused, ruled, nextRound, closing, notWhole, roundOf, sweptFrom, roundsThen, planFrom}
 use Rattle.plan_save.specs.Call.{outcomeOurs}
 use Rattle.plan_decides.specs.Made.{Made, PlanMade, Extends, PlanKeeps}
 
--- our buffer after some adds
+-- our buffer afterCalls some adds
 abbrev endOf : Adding → Ours
 endOf (on s) = s
 endOf (lacks b s) = s
@@ -39,27 +39,27 @@ endOf (room s) = s
 
 -- adds of the controller's, and what they leave
 record Adds (c : List ℕ) (s z : Ours) : Type 0 where
-  items : List Item
-  given : Each c (Given c) s items
-  left : after c items s ≡ z
+  items : List Call
+  given : Each c (Lent c) s items
+  left : afterCalls c items s ≡ z
 
 no-adds : (c : List ℕ) (s : Ours) → Adds c s s
-unfolding after
+unfolding afterCalls
 no-adds c s = record { items = []; given = none; left = refl }
 
-after-both : (c : List ℕ) (is js : List Item) (s : Ours) → after c (is ++ js) s ≡ after c js (after c is s)
-unfolding after
+after-both : (c : List ℕ) (is js : List Call) (s : Ours) → afterCalls c (is ++ js) s ≡ afterCalls c js (afterCalls c is s)
+unfolding afterCalls
 after-both c [] js s = refl
 after-both c (i ∷ is) js s = after-both c is js (next c i s)
 
--- whether a call is given its due does not depend on the calls after it
-given-with : (c : List ℕ) (s : Ours) (i : Item) (is js : List Item) → Given c s i is → Given c s i js
+-- whether a call is given its due does not depend on the calls afterCalls it
+given-with : (c : List ℕ) (s : Ours) (i : Call) (is js : List Call) → Lent c s i is → Lent c s i js
 given-with c s (ask sc ls) is js g = g
 given-with c s (add n) is js g = g
-given-with c s (Item.bytes m) is js g = g
+given-with c s (Call.bytes m) is js g = g
 
-each-both : (c : List ℕ) (is js : List Item) (s : Ours) → Each c (Given c) s is → Each c (Given c) (after c is s) js → Each c (Given c) s (is ++ js)
-unfolding after
+each-both : (c : List ℕ) (is js : List Call) (s : Ours) → Each c (Lent c) s is → Each c (Lent c) (afterCalls c is s) js → Each c (Lent c) s (is ++ js)
+unfolding afterCalls
 each-both c [] js s none h = h
 each-both c (i ∷ is) js s (more p g) h = more (given-with c s i is (is ++ js) p) (each-both c is js (next c i s) g h)
 
@@ -68,11 +68,11 @@ then-adds c s y z a b =
     record {
       items = a .items ++ b .items;
       given = each-both c (a .items) (b .items) s (a .given) (rw (a .left) (b .given));
-      left = after-both c (a .items) (b .items) s ∙ ap (after c (b .items)) (a .left) ∙ b .left;
+      left = after-both c (a .items) (b .items) s ∙ ap (afterCalls c (b .items)) (a .left) ∙ b .left;
     }
 
 one-add : (c : List ℕ) (s : Ours) (n : ℕ) → isType c n ≡ true → Adds c s (next c (add n) s)
-unfolding after
+unfolding afterCalls
 one-add c s n t = record { items = add n ∷ []; given = more t none; left = refl }
 
 module _ (c : List ℕ) where
@@ -140,34 +140,34 @@ apart-refused : (n : ℕ) (s : Ours) (t : Bool) (z : Ours) → refused n s ≡ d
 apart-refused n s t z e = let q : _≡_ {A = ℕ} 0 1 = cc in omega arith
 
 module _ (c : List ℕ) (width root : ℕ) (sc list : List ℕ) (p : 16384 ≤ length sc) (q : 4096 ≤ length list) where
-  -- an ask alone, after which nothing is decided
-  asked : (s : Ours) (o : Outcome) → s ≡ outcomeOurs o → ((t : Bool) (z : Ours) → o ≡ decided t z → listed (walkAt width root s) ≡ []) → Made c width root s o
-  unfolding after
+  -- an ask alone, afterCalls which nothing is decided
+  asked : (s : Ours) (o : Decision) → s ≡ outcomeOurs o → ((t : Bool) (z : Ours) → o ≡ decided t z → listed (walkAt width root s) ≡ []) → Made c width root s o
+  unfolding afterCalls
   asked s o e h = record { items = ask sc list ∷ []; given = more {i = ask sc list} (le-leb 16384 (length sc) p, le-leb 4096 (length list) q) none; left = e; none = λ t z y. here (h t z y) }
 
-  later-both : (is js : List Item) (s : Ours) → ListedNone c width root (after c is s) js → ListedNone c width root s (is ++ js)
-  unfolding after
+  later-both : (is js : List Call) (s : Ours) → ListedNone c width root (afterCalls c is s) js → ListedNone c width root s (is ++ js)
+  unfolding afterCalls
   later-both [] js s h = h
   later-both (i ∷ is) js s h = later (later-both is js (next c i s) h)
 
-  -- an ask, adds, and what a list made after them
-  goes-on : (s z : Ours) (o : Outcome) → Adds c s z → Made c width root z o → Made c width root s o
-  unfolding after
+  -- an ask, adds, and what a list made afterCalls them
+  goes-on : (s z : Ours) (o : Decision) → Adds c s z → Made c width root z o → Made c width root s o
+  unfolding afterCalls
   goes-on s z o a m =
       record {
         items = ask sc list ∷ (a .items ++ m .items);
         given = more {i = ask sc list} (le-leb 16384 (length sc) p, le-leb 4096 (length list) q) (each-both c (a .items) (m .items) s (a .given) (rw (a .left) (m .given)));
-        left = after-both c (a .items) (m .items) s ∙ ap (after c (m .items)) (a .left) ∙ m .left;
+        left = after-both c (a .items) (m .items) s ∙ ap (afterCalls c (m .items)) (a .left) ∙ m .left;
         none = λ t y e. later (later-both (a .items) (m .items) s (rw (a .left) (m .none t y e)));
       }
 
   -- an ask, and adds that ended
-  ended : (s z : Ours) (o : Outcome) → Adds c s z → z ≡ outcomeOurs o → ((t : Bool) (y : Ours) → o ≡ decided t y → ⊥) → Made c width root s o
-  unfolding after
+  ended : (s z : Ours) (o : Decision) → Adds c s z → z ≡ outcomeOurs o → ((t : Bool) (y : Ours) → o ≡ decided t y → ⊥) → Made c width root s o
+  unfolding afterCalls
   ended s z o a e h =
       record { items = ask sc list ∷ a .items; given = more {i = ask sc list} (le-leb 16384 (length sc) p, le-leb 4096 (length list) q) (a .given); left = a .left ∙ e; none = λ t y k. absurd (h t y k) }
 
-  next-made : (go : Ours → Outcome) → ((z : Ours) → Made c width root z (go z)) → (s : Ours) (a : Adding) → Adds c s (endOf a) → Made c width root s (nextRound go a)
+  next-made : (go : Ours → Decision) → ((z : Ours) → Made c width root z (go z)) → (s : Ours) (a : Adding) → Adds c s (endOf a) → Made c width root s (nextRound go a)
   unfolding nextRound outcomeOurs
   next-made go h s (on z) a = goes-on s z (go z) a (h z)
   next-made go h s (lacks b z) a = ended s z (lacking b z) a refl (apart-lacking b z)
@@ -180,13 +180,13 @@ module _ (c : List ℕ) (width root : ℕ) (sc list : List ℕ) (p : 16384 ≤ l
   ruled-made s e (rmw.NotFound b) = asked s (lacking b s) refl (λ t z y. e)
   ruled-made s e (rmw.Refused n) = asked s (refused n s) refl (λ t z y. e)
 
-  closing-made : (i : ℕ) (go : Ours → Outcome) → ((z : Ours) → Made c width root z (go z)) → (s : Ours) (bs : List ℕ) → listed (walkAt width root s) ≡ bs
+  closing-made : (i : ℕ) (go : Ours → Decision) → ((z : Ours) → Made c width root z (go z)) → (s : Ours) (bs : List ℕ) → listed (walkAt width root s) ≡ bs
       → Made c width root s (closing go c width i (walkAt width root s) s bs)
   unfolding closing
   closing-made i go h s [] e = ruled-made s e (rmwOf (bookOf s) width (walkAt width root s))
   closing-made i go h s (b ∷ bs) e = next-made go h s (addAll c width i (b ∷ bs) s) (all-adds c width i (b ∷ bs) s)
 
-  round-made : (i : ℕ) (go : Ours → Outcome) → ((z : Ours) → Made c width root z (go z)) → (s : Ours) → Made c width root s (roundOf go c width i (walkAt width root s) s)
+  round-made : (i : ℕ) (go : Ours → Decision) → ((z : Ours) → Made c width root z (go z)) → (s : Ours) → Made c width root s (roundOf go c width i (walkAt width root s) s)
   unfolding roundOf outcomeOurs
   round-made i go h s = by (whole (walkAt width root s)) (closing-made i go h s (listed (walkAt width root s)) refl)
     where
@@ -196,7 +196,7 @@ module _ (c : List ℕ) (width root : ℕ) (sc list : List ℕ) (p : 16384 ≤ l
       by false m = asked s (refused (notWhole (walkAt width root s)) s) refl (λ t z y. absurd (apart-refused (notWhole (walkAt width root s)) s t z y))
 
   none-made : (s : Ours) → Made c width root s (planFrom c width root 0 s)
-  unfolding roundsThen outcomeOurs after
+  unfolding roundsThen outcomeOurs afterCalls
   none-made s = record { items = []; given = none; left = refl; none = λ t z y. absurd (apart-refused 15 s t z y) }
 
   step-made : (k : ℕ) (s : Ours) → Made c width root s (roundOf (planFrom c width root k) c width (sweptFrom k (bookOf s)) (walkAt width root s) s) → Made c width root s (planFrom c width root (suc k) s)
@@ -224,7 +224,7 @@ extends-then s y z a b =
       grows = b .grows ∙ ap (λ (l : List ℕ). l ++ b .more) (a .grows) ∙ append-assoc (bookOf s) (a .more) (b .more);
     }
 
--- appending leaves the book as it was, or with the addition after it
+-- appending leaves the book as it was, or with the addition afterCalls it
 module _ (s : Ours) (d : List ℕ) (v : checkBook (s .buffer) (s .len) ≡ Valid) where
   appended-extends : Extends s (appended s d)
   appended-extends = by (eqb (appendRefusal (s .buffer) (s .len) d) 0) refl
@@ -238,17 +238,17 @@ module _ (s : Ours) (d : List ℕ) (v : checkBook (s .buffer) (s .len) ≡ Valid
           let h : appendRefusal (s .buffer) (s .len) d ≡ 0 → ⊥ = eqb-false _ _ e in
           rw (buffer-kept (s .buffer) (s .len) d h, call-refused (s .buffer) (s .len) d h) (extends-same s v)
 
-extends-next : (c : List ℕ) (s : Ours) (i : Item) → checkBook (s .buffer) (s .len) ≡ Valid → Extends s (next c i s)
+extends-next : (c : List ℕ) (s : Ours) (i : Call) → checkBook (s .buffer) (s .len) ≡ Valid → Extends s (next c i s)
 extends-next c s (ask sc ls) v = extends-same s v
 extends-next c s (add n) v = appended-extends s (definitionOf c n) v
-extends-next c s (Item.bytes m) v = appended-extends s m v
+extends-next c s (Call.bytes m) v = appended-extends s m v
 
-extends-after : (c : List ℕ) (is : List Item) (s : Ours) → checkBook (s .buffer) (s .len) ≡ Valid → Extends s (after c is s)
-unfolding after
+extends-after : (c : List ℕ) (is : List Call) (s : Ours) → checkBook (s .buffer) (s .len) ≡ Valid → Extends s (afterCalls c is s)
+unfolding afterCalls
 extends-after c [] s v = extends-same s v
 extends-after c (i ∷ is) s v =
     let a : Extends s (next c i s) = extends-next c s i v in
-    extends-then s (next c i s) (after c is (next c i s)) a (extends-after c is (next c i s) (a .valid))
+    extends-then s (next c i s) (afterCalls c is (next c i s)) a (extends-after c is (next c i s) (a .valid))
 
 pub plan-keeps : PlanKeeps
 unfolding PlanKeeps

@@ -17,12 +17,12 @@ use Rattle.resolvers.specs.Resolve.{goesOn, isFollowed}
 use Rattle.resolvers.proofs.Chains.{followed-alias}
 use Rattle.visits.specs.declared.Parts.{Parts}
 use Rattle.visits.specs.declared.Parts.the-variants as parts
-use Rattle.visits.specs.Parts.{partsKind, after, partsIn, partsOf}
+use Rattle.visits.specs.Parts.{partsKind, blocksAfter, partsIn, partsOf}
 use Rattle.plan_adds.specs.declared.Due.{Due}
 use Rattle.plan_adds.specs.declared.Due.the-variants.{Names, Rest}
 use Rattle.plan_adds.specs.Adds.{dueParts, dueType, dueOf}
 
--- how many fields are due after a block
+-- how many fields are due blocksAfter a block
 abbrev pub restOf : Due → ℕ
 restOf (Names d) = d
 restOf (Rest d) = d
@@ -175,8 +175,8 @@ module _ (book : List ℕ) (width : ℕ) (v : ValidBook book) where
           let d : dueAt book width b ≡ suc (fieldsOf book t - suc m) = rw q at (field-due m (omega arith)) ∙ o in
           record { due = fieldsOf book t - suc m; names = ap (dueOf book width b) d ∙ due-names book width b (fieldsOf book t - suc m) }
 
-    in-after : (k b : ℕ) → List·Memᴰ b (after t k) → (t < b) × (b ≤ t + k)
-    unfolding after
+    in-after : (k b : ℕ) → List·Memᴰ b (blocksAfter t k) → (t < b) × (b ≤ t + k)
+    unfolding blocksAfter
     in-after zero b m = absurd (List·Memᴰ·not-nil m)
     in-after (suc k) b m =
         ⊎-elim (λ e. (omega (arith, e), omega (arith, e))) (λ n. let r = in-after k b n in (r .0, omega (arith, r .1))) (List·Memᴰ·cases-cons m)

@@ -7,9 +7,9 @@ use Rattle.typebook.specs.Book.{isType}
 use Rattle.book_check.specs.declared.BookCheck.the-variants.{Valid}
 use Rattle.book_check.specs.Check.{checkBook, ValidBook}
 use Rattle.closure.specs.Calls.{Ours, bookOf}
-use Rattle.plan_save.specs.Rounds.{Outcome, roundsThen, planFrom}
+use Rattle.plan_save.specs.Rounds.{Decision, roundsThen, planFrom}
 
 -- the claim, for two valid books and a root: whatever were answered where the rounds run out, the outcome is the same, so they never do
 unfoldable pub PlanFew : Type 0
-PlanFew = (go : Ours → Outcome) (c : List ℕ) (width root : ℕ) (s : Ours) → ValidBook c → checkBook (s .buffer) (s .len) ≡ Valid
+PlanFew = (go : Ours → Decision) (c : List ℕ) (width root : ℕ) (s : Ours) → ValidBook c → checkBook (s .buffer) (s .len) ≡ Valid
     → isType (bookOf s) root ≡ true → roundsThen go c width root 18 s ≡ planFrom c width root 18 s

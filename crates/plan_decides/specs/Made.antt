@@ -6,17 +6,17 @@ use Prim.Native.Nat.{ℕ, _≤_}
 use lib.ListN.{length}
 use Rattle.book_check.specs.declared.BookCheck.the-variants.{Valid}
 use Rattle.book_check.specs.Check.{checkBook}
-use Rattle.closure.specs.Calls.{Ours, bookOf, Item, after, Each}
-use Rattle.closure.specs.Demand.{Given, ListedNone}
-use Rattle.plan_save.specs.Rounds.{Outcome, decided, planFrom}
+use Rattle.closure.specs.Calls.{Ours, bookOf, Call, afterCalls, Each}
+use Rattle.closure.specs.Demand.{Lent, ListedNone}
+use Rattle.plan_save.specs.Rounds.{Decision, decided, planFrom}
 use Rattle.plan_save.specs.Call.{outcomeOurs}
 
 -- an outcome is what a list of calls left: each is an ask with scratch and list long enough or an add of the controller's, our buffer is what
 -- they made of it, and an ask of the list listed none where read-modify-write was decided
-pub record Made (c : List ℕ) (width root : ℕ) (s : Ours) (o : Outcome) : Type 0 where
-  pub items : List Item
-  pub given : Each c (Given c) s items
-  pub left : after c items s ≡ outcomeOurs o
+pub record Made (c : List ℕ) (width root : ℕ) (s : Ours) (o : Decision) : Type 0 where
+  pub items : List Call
+  pub given : Each c (Lent c) s items
+  pub left : afterCalls c items s ≡ outcomeOurs o
   pub none : (t : Bool) (z : Ours) → o ≡ decided t z → ListedNone c width root s items
 
 -- the claim: whatever the books hold, the rounds are such a list. sc and list are what is lent to the asks
@@ -24,7 +24,7 @@ unfoldable pub PlanMade : Type 0
 PlanMade = (c : List ℕ) (width root k : ℕ) (s : Ours) (sc list : List ℕ) → 16384 ≤ length sc → 4096 ≤ length list
     → Made c width root s (planFrom c width root k s)
 
--- our book is valid, and is the old one with whole definitions after it, or the old one: each call of a list left it so
+-- our book is valid, and is the old one with whole definitions afterCalls it, or the old one: each call of a list left it so
 pub record Extends (s z : Ours) : Type 0 where
   pub valid : checkBook (z .buffer) (z .len) ≡ Valid
   pub more : List ℕ

@@ -21,13 +21,13 @@ use Rattle.walks.specs.Scratch.{scratchFits, zeroed}
 use Rattle.plan_adds.specs.Adds.{ours}
 use Rattle.plan_save.specs.declared.Plan.{Plan}
 use Rattle.plan_save.specs.declared.Plan.the-variants as plan
-use Rattle.plan_save.specs.Rounds.{Outcome, planFrom}
+use Rattle.plan_save.specs.Rounds.{Decision, planFrom}
 use Rattle.plan_save.specs.Call.{planNumbers, outcomeNumbers, outcomeOurs, planRefusal, planOf, PlanIs}
 use Rattle.plan_save.specs.State.{planSaid, PlannedIs, PlannedIn}
 use Rattle.plan_save.proofs.Turns.{book-cut}
 
 -- ---- where all was checked
-pub in-done : (o : Outcome) (sc hints : List ℕ) (r : Plan) (after : List ℕ) → PlannedIs o r after
+pub in-done : (o : Decision) (sc hints : List ℕ) (r : Plan) (after : List ℕ) → PlannedIs o r after
     → (sc₁ : List ℕ) → length sc₁ ≡ length sc → (sc′ : List ℕ) → sc′ ≡ replicate (length sc₁) 0
     → (hints₁ : List ℕ) → length hints₁ ≡ length hints → (hints′ : List ℕ) → hints′ ≡ replicate (length hints₁) 0
     → PlannedIn o sc hints r after sc′ hints′
@@ -52,14 +52,14 @@ refused-all n buffer len controller theirs width root sc hints h =
     record { answer = rw (ne-eqb n 0 h); bytes = rw (ne-eqb n 0 h); scratch = rw (ne-eqb n 0 h); index = rw (ne-eqb n 0 h) }
 
 -- the numbers and the buffer of an answer
-numbers-said : (r : Plan) (after : List ℕ) (o : Outcome) → planSaid r after ≡ o → planNumbers r ≡ outcomeNumbers o
+numbers-said : (r : Plan) (after : List ℕ) (o : Decision) → planSaid r after ≡ o → planNumbers r ≡ outcomeNumbers o
 unfolding planSaid outcomeNumbers
 numbers-said (plan.Yes len) after o e = rw (← e)
 numbers-said (plan.No len) after o e = rw (← e)
 numbers-said (plan.NotFound b len) after o e = rw (← e)
 numbers-said (plan.Refused n len) after o e = rw (← e)
 
-bytes-said : (r : Plan) (after : List ℕ) (o : Outcome) → planSaid r after ≡ o → after ≡ outcomeOurs o .buffer
+bytes-said : (r : Plan) (after : List ℕ) (o : Decision) → planSaid r after ≡ o → after ≡ outcomeOurs o .buffer
 unfolding planSaid outcomeOurs
 bytes-said (plan.Yes len) after o e = rw (← e)
 bytes-said (plan.No len) after o e = rw (← e)

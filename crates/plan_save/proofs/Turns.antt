@@ -28,7 +28,7 @@ use Rattle.plan_save.specs.declared.Asked.{Asked}
 use Rattle.plan_save.specs.declared.Asked.the-variants.{Lists, NotWhole}
 use Rattle.plan_save.specs.declared.Round.{Round}
 use Rattle.plan_save.specs.declared.Round.the-variants.{Again, Is}
-use Rattle.plan_save.specs.Rounds.{Outcome, ruled, nextRound, closing, notWhole, roundOf, sweptFrom, roundsThen, planFrom}
+use Rattle.plan_save.specs.Rounds.{Decision, ruled, nextRound, closing, notWhole, roundOf, sweptFrom, roundsThen, planFrom}
 use Rattle.plan_save.specs.State.{planSaid, roundSaid, Follows, RoundIs, AskSaid, AskedIs, DecidedIs, AfterAdds, AddedRound, PlannedIs}
 
 pub ready-book : (c buffer : List ℕ) (len : ℕ) (known : List ℕ) → Ready c buffer len known → ValidBook (take len buffer)
@@ -92,12 +92,12 @@ module _ (c : List ℕ) (width root : ℕ) (buffer : List ℕ) (len from : ℕ) 
 
     module _ (z : n ≡ 0 → ⊥) (h : isType (take len buffer) root ≡ true) (r : Round) (after known : List ℕ)
         (g : AddedRound c width from (take n list) buffer len r after known) where
-      some : (l : List ℕ) → n ≡ length l → (go : Ours → Outcome) → closing go c width from w (ours buffer len) l ≡ nextRound go (addAll c width from l (ours buffer len))
+      some : (l : List ℕ) → n ≡ length l → (go : Ours → Decision) → closing go c width from w (ours buffer len) l ≡ nextRound go (addAll c width from l (ours buffer len))
       unfolding closing
       some [] y go = absurd (z y)
       some (b ∷ l) y go = refl
 
-      goes-on : (go : Ours → Outcome) → roundSaid go r after ≡ roundOf go c width from w (ours buffer len)
+      goes-on : (go : Ours → Decision) → roundSaid go r after ≡ roundOf go c width from w (ours buffer len)
       unfolding roundOf
       goes-on go =
           g .is go ∙ ap (λ (l : List ℕ). nextRound go (addAll c width from l (ours buffer len))) (q .2) ∙ sym (rw (q .0) (some (listed w) (q .1) go))
@@ -130,7 +130,7 @@ module _ (book : List ℕ) (left : ℕ) where
   pub from-fits : ValidBook book → (k : ℕ) → k ≡ blocks book → k < 4294967296
   from-fits v k e = omega (arith, valid-size book v .few)
 
-pub record RoundsTo (o : Outcome) (c : List ℕ) (width root : ℕ) (buffer : List ℕ) (at : ℕ) (known : List ℕ) (left : ℕ) : Type 0 where
+pub record RoundsTo (o : Decision) (c : List ℕ) (width root : ℕ) (buffer : List ℕ) (at : ℕ) (known : List ℕ) (left : ℕ) : Type 0 where
   pub rest : o ≡ planFrom c width root left (ours buffer at)
   pub ready : Ready c buffer at known
   pub holds : isType (take at buffer) root ≡ true
@@ -139,7 +139,7 @@ pub rounds-start : (c : List ℕ) (width root : ℕ) (buffer : List ℕ) (len : 
     → RoundsTo (planFrom c width root 18 (ours buffer len)) c width root buffer len known 18
 rounds-start c width root buffer len known o h = record { rest = refl; ready = o; holds = h }
 
-module _ (o : Outcome) (c : List ℕ) (width root : ℕ) (buffer : List ℕ) (at : ℕ) (known : List ℕ) (left : ℕ)
+module _ (o : Decision) (c : List ℕ) (width root : ℕ) (buffer : List ℕ) (at : ℕ) (known : List ℕ) (left : ℕ)
     (inv : RoundsTo o c width root buffer at known left) where
   pub rounds-ready : Ready c buffer at known
   rounds-ready = inv .ready

@@ -14,7 +14,7 @@ use Rattle.closure.specs.Calls.{Ours}
 use Rattle.plan_adds.specs.Adds.{ours}
 use Rattle.plan_save.specs.declared.Plan.{Plan}
 use Rattle.plan_save.specs.declared.Plan.the-variants as plan
-use Rattle.plan_save.specs.Rounds.{Outcome, decided, lacking, refused, planFrom}
+use Rattle.plan_save.specs.Rounds.{Decision, decided, lacking, refused, planFrom}
 
 -- the numbers of an answer: document 01's number, 0 where nothing is refused; then 1 or 0 for read-modify-write, or the block of 7; at last
 -- the length of our book
@@ -25,14 +25,14 @@ planNumbers (plan.NotFound b len) = 7 ∷ b ∷ len ∷ []
 planNumbers (plan.Refused n len) = n ∷ len ∷ []
 
 -- the same numbers of an outcome
-unfoldable pub outcomeNumbers : Outcome → List ℕ
+unfoldable pub outcomeNumbers : Decision → List ℕ
 outcomeNumbers (decided true s) = 0 ∷ 1 ∷ (s .len) ∷ []
 outcomeNumbers (decided false s) = 0 ∷ 0 ∷ (s .len) ∷ []
 outcomeNumbers (lacking b s) = 7 ∷ b ∷ (s .len) ∷ []
 outcomeNumbers (refused n s) = n ∷ (s .len) ∷ []
 
 -- our buffer at the end
-unfoldable pub outcomeOurs : Outcome → Ours
+unfoldable pub outcomeOurs : Decision → Ours
 outcomeOurs (decided t s) = s
 outcomeOurs (lacking b s) = s
 outcomeOurs (refused n s) = s
@@ -43,7 +43,7 @@ planRefusal buffer len controller theirs root sc =
     orNext (refusalOf (rootNumbers (checkRoot buffer len root))) (orNext (refusalOf (bookNumbers (checkBook controller theirs))) (cond (scratchFits sc) 0 6))
 
 -- the outcome: the refusal, our buffer as it was, or that of the rounds
-unfoldable pub planOf : ℕ → List ℕ → ℕ → List ℕ → ℕ → ℕ → ℕ → Outcome
+unfoldable pub planOf : ℕ → List ℕ → ℕ → List ℕ → ℕ → ℕ → ℕ → Decision
 planOf refusal buffer len controller theirs width root =
     cond (eqb refusal 0) (planFrom (take theirs controller) width root 18 (ours buffer len)) (refused refusal (ours buffer len))
 

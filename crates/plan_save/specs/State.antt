@@ -18,19 +18,19 @@ use Rattle.plan_save.specs.declared.Asked.{Asked}
 use Rattle.plan_save.specs.declared.Asked.the-variants as asked
 use Rattle.plan_save.specs.declared.Round.{Round}
 use Rattle.plan_save.specs.declared.Round.the-variants as round
-use Rattle.plan_save.specs.Rounds.{Outcome, decided, lacking, refused, ruled, nextRound, notWhole, roundOf}
+use Rattle.plan_save.specs.Rounds.{Decision, decided, lacking, refused, ruled, nextRound, notWhole, roundOf}
 use Rattle.plan_adds.specs.Adds.{ours, addAll}
 use Rattle.plan_adds.specs.State.{Ready, addedLength, addedSaid}
 
 -- an answer with our buffer
-unfoldable pub planSaid : Plan → List ℕ → Outcome
+unfoldable pub planSaid : Plan → List ℕ → Decision
 planSaid (plan.Yes len) buffer = decided true (ours buffer len)
 planSaid (plan.No len) buffer = decided false (ours buffer len)
 planSaid (plan.NotFound b len) buffer = lacking b (ours buffer len)
 planSaid (plan.Refused n len) buffer = refused n (ours buffer len)
 
 -- what is said of one round
-unfoldable pub roundSaid : (Ours → Outcome) → Round → List ℕ → Outcome
+unfoldable pub roundSaid : (Ours → Decision) → Round → List ℕ → Decision
 roundSaid go (round.Again l) buffer = go (ours buffer l)
 roundSaid go (round.Is p) buffer = planSaid p buffer
 
@@ -40,7 +40,7 @@ Follows c root (round.Again l) after known = Ready c after l known × (isType (t
 Follows c root (round.Is p) after known = Unit {0}
 
 pub record RoundIs (c : List ℕ) (width root : ℕ) (buffer : List ℕ) (len from : ℕ) (r : Round) (after known : List ℕ) : Type 0 where
-  pub is : (go : Ours → Outcome) → roundSaid go r after ≡ roundOf go c width from (walkOf (take len buffer) width root) (ours buffer len)
+  pub is : (go : Ours → Decision) → roundSaid go r after ≡ roundOf go c width from (walkOf (take len buffer) width root) (ours buffer len)
   pub follows : Follows c root r after known
 
 -- what is said of an ask
@@ -57,20 +57,20 @@ pub record DecidedIs (a : Rmw) (len : ℕ) (r : Plan) : Type 0 where
 
 -- what is said of a round by its adds
 pub record AfterAdds (a : Added) (r : Round) : Type 0 where
-  pub is : (go : Ours → Outcome) (buffer : List ℕ) → roundSaid go r buffer ≡ nextRound go (addedSaid a buffer)
+  pub is : (go : Ours → Decision) (buffer : List ℕ) → roundSaid go r buffer ≡ nextRound go (addedSaid a buffer)
   pub same : (l : ℕ) → r ≡ round.Again l → addedLength a ≡ l
 
 -- what is said of a round that adds the types of a list of blocks, and then sweeps from a block on
 pub record AddedRound (c : List ℕ) (width from : ℕ) (bs buffer : List ℕ) (len : ℕ) (r : Round) (after known : List ℕ) : Type 0 where
-  pub is : (go : Ours → Outcome) → roundSaid go r after ≡ nextRound go (addAll c width from bs (ours buffer len))
+  pub is : (go : Ours → Decision) → roundSaid go r after ≡ nextRound go (addAll c width from bs (ours buffer len))
   pub follows : (root : ℕ) → isType (take len buffer) root ≡ true → Follows c root r after known
 
 -- what is said of the rounds
-pub record PlannedIs (o : Outcome) (r : Plan) (after : List ℕ) : Type 0 where
+pub record PlannedIs (o : Decision) (r : Plan) (after : List ℕ) : Type 0 where
   pub is : planSaid r after ≡ o
 
 -- and of the call where all was checked
-pub record PlannedIn (o : Outcome) (sc hints : List ℕ) (r : Plan) (after sc′ hints′ : List ℕ) : Type 0 where
+pub record PlannedIn (o : Decision) (sc hints : List ℕ) (r : Plan) (after sc′ hints′ : List ℕ) : Type 0 where
   pub is : planSaid r after ≡ o
   pub scratch : sc′ ≡ zeroed sc
   pub index : hints′ ≡ zeroed hints

@@ -4,7 +4,7 @@ use mathlib.Core.List.{List, []}
 use Prim.Native.Nat.{ℕ, _+_, _<_}
 use Rattle.events.specs.declared.Event.{Event}
 use Rattle.walks.specs.Walk.{Walk}
-use Rattle.walks.specs.State.{Left, After, work, Falls}
+use Rattle.walks.specs.State.{LeftToWalk, After, work, Falls}
 use Rattle.read_modify_write.specs.declared.Turn.{Turn}
 use Rattle.read_modify_write.specs.declared.Turn.the-variants as turn
 use Rattle.read_modify_write.specs.Reads.{rmwOf}
@@ -12,7 +12,7 @@ use Rattle.read_modify_write.specs.Reads.{rmwOf}
 -- the state between two turns: the rest of the walk has the answer of the whole
 pub record Now (book : List ℕ) (width : ℕ) (all : Walk) (sc : List ℕ) (left depth : ℕ) : Type 0 where
   pub rest : Walk
-  pub left-over : Left book width sc [] left depth rest
+  pub left-over : LeftToWalk book width sc [] left depth rest
   pub reads : rmwOf book width all ≡ rmwOf book width rest
 
 -- what the state is after an event was decided

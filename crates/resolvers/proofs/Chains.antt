@@ -19,7 +19,7 @@ use Rattle.book_check.proofs.Valid.{valid-unique}
 use Rattle.resolvers.specs.declared.Resolved.{Resolved}
 use Rattle.resolvers.specs.declared.Resolved.the-variants.{Base, Lacks, TooLong}
 use Rattle.resolvers.proofs.Numbers.{resolved-is, resolved-says}
-use Rattle.resolvers.specs.Resolve.{goesOn, isFollowed, onward, follow, resolveAlias, lookUp, ResolvedIs, LookedUp}
+use Rattle.resolvers.specs.Resolve.{goesOn, isFollowed, chainOnward, follow, resolveAlias, lookUp, ResolvedIs, LookedUp}
 
 -- ---- the categories that are followed
 
@@ -68,11 +68,11 @@ module _ (goes : ℕ → Bool) (book : List ℕ) where
   follow-base k t h = rw h
 
   pub follow-on : (k t u : ℕ) → goes t ≡ true → find book (typeNameOf book t) ≡ At u → follow goes book (suc k) t ≡ follow goes book k u
-  unfolding follow onward
+  unfolding follow chainOnward
   follow-on k t u h e = rw (h, e)
 
   pub follow-lacks : (k t : ℕ) → goes t ≡ true → find book (typeNameOf book t) ≡ Nothing → follow goes book (suc k) t ≡ Lacks t
-  unfolding follow onward
+  unfolding follow chainOnward
   follow-lacks k t h e = rw (h, e)
 
 -- what is found is a type block
@@ -183,11 +183,11 @@ module _ (references : Bool) (book : List ℕ) (width : ℕ) (whole : Resolved) 
 
 module _ (book : List ℕ) (width b : ℕ) where
   pub look-at : (u : ℕ) → find book (typeNameOf book b) ≡ At u → lookUp book width b ≡ resolveAlias book width u
-  unfolding lookUp onward
+  unfolding lookUp chainOnward
   look-at u e = rw e
 
   pub look-nothing : find book (typeNameOf book b) ≡ Nothing → lookUp book width b ≡ Lacks b
-  unfolding lookUp onward
+  unfolding lookUp chainOnward
   look-nothing e = rw e
 
   -- what block b names is a type block; a block whose type name is not found is block b, or an alias on its chain

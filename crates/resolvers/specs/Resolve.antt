@@ -45,14 +45,14 @@ unfoldable pub isFollowed : Bool → List ℕ → ℕ → ℕ → Bool
 isFollowed references book width n = goesOn references (categoryOf book width n)
 
 -- on to the block that the type name of block b was found at, or 7 with block b
-unfoldable pub onward : (ℕ → Resolved) → ℕ → Found → Resolved
-onward go b (At u) = go u
-onward go b Nothing = Lacks b
+unfoldable pub chainOnward : (ℕ → Resolved) → ℕ → Found → Resolved
+chainOnward go b (At u) = go u
+chainOnward go b Nothing = Lacks b
 
 -- the block at which the chain from block t ends, in at most k look-ups, where `goes` says from which blocks it goes on
 unfoldable pub follow : (ℕ → Bool) → List ℕ → ℕ → ℕ → Resolved
 follow goes book zero t = TooLong
-follow goes book (suc k) t = cond (goes t) (onward (follow goes book k) t (find book (typeNameOf book t))) (Base t)
+follow goes book (suc k) t = cond (goes t) (chainOnward (follow goes book k) t (find book (typeNameOf book t))) (Base t)
 
 -- 32 look-ups are made before 8
 abbrev pub resolveType : Bool → List ℕ → ℕ → ℕ → Resolved
@@ -68,7 +68,7 @@ resolveIndirection book width t = resolveType true book width t
 
 -- the type that block b names, as a field or as an array, with aliases resolved
 unfoldable pub lookUp : List ℕ → ℕ → ℕ → Resolved
-lookUp book width b = onward (resolveAlias book width) b (find book (typeNameOf book b))
+lookUp book width b = chainOnward (resolveAlias book width) b (find book (typeNameOf book b))
 
 -- an answer, which is a type block where it is a block
 pub record ResolvedIs (book : List ℕ) (answer r : Resolved) : Type 0 where

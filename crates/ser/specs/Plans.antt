@@ -10,7 +10,7 @@ use Rattle.typebook.specs.Book.{isType, countOf}
 use Rattle.book_check.specs.Check.{ValidBook}
 use Rattle.type_category.specs.Category.{categoryOf}
 use Rattle.field_types.specs.Fields.{resolveField}
-use Rattle.field_plan.specs.Plan.{Ready}
+use Rattle.field_plan.specs.Plan.{PlanServes}
 use Rattle.field_plan.specs.declared.PlannedField.{PlannedField}
 use Rattle.shape.specs.declared.Shape.the-variants as shape
 use Rattle.shape.specs.Value.{shapeOf}
@@ -26,7 +26,7 @@ use Rattle.ser.specs.Write.{Ctx, ctx, Outcome, refused, Child, placed, f
 
 -- the plan of a type that has fields is empty, or none of them is refused
 pub record Given (book : List ℕ) (width t : ℕ) (plan : List ℕ) : Type 0 where
-  pub given : shapeOf (categoryOf book width t) ≡ shape.Map → Ready book width t plan
+  pub given : shapeOf (categoryOf book width t) ≡ shape.Map → PlanServes book width t plan
 
 -- the same of the elements of type e, in the last dimension
 pub record GivenElement (book : List ℕ) (width d t e : ℕ) (plan : List ℕ) : Type 0 where

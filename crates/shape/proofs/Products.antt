@@ -8,7 +8,7 @@ use native.Mathlib.Nat.{mul-assoc, mul-one, mul-zero, mul-suc, div-lt-iff-lt-mul
 use lib.Dec.{eqb, leb}
 use borrow.Author.Tests.{ne-eqb, leb-true, leb-false}
 use Rattle.typebook.specs.Book.{sizeOf, countOf, dimensionsOf}
-use Rattle.shape.specs.Array.{productFrom, strideOf, bytesOf, StrideIs}
+use Rattle.shape.specs.Array.{productFrom, strideOf, arrayBytes, StrideIs}
 
 -- the top: no slice is as long
 abbrev pub top : ℕ
@@ -56,10 +56,10 @@ times-again x (suc b) = split x top (λ h. rw (min-eq-left h)) over
 pub record Multiplied (book : List ℕ) (t e d k p : ℕ) : Type 0 where
   pub so-far : ℕ
   pub is : p ≡ min so-far top
-  pub rest : so-far * productFrom book t d k ≡ bytesOf book t e
+  pub rest : so-far * productFrom book t d k ≡ arrayBytes book t e
 
 pub multiplied-start : (book : List ℕ) (t e n c s p : ℕ) → n ≡ dimensionsOf book t → c ≡ countOf book t 0 → s ≡ sizeOf book e → p ≡ min (c * s) top → Multiplied book t e 1 (n - 1) p
-unfolding bytesOf strideOf
+unfolding arrayBytes strideOf
 multiplied-start book t e n c s p en ec es ep = record { so-far = c * s; is = ep; rest = rw (en, ec, es) (mul-assoc (countOf book t 0) (sizeOf book e) (productFrom book t 1 (dimensionsOf book t - 1))) }
 
 pub multiplied-again : (book : List ℕ) (t e d n c p q : ℕ) → d < n → c ≡ countOf book t d → q ≡ min (p * c) top → Multiplied book t e d (n - d) p → Multiplied book t e (d + 1) (n - (d + 1)) q
@@ -80,11 +80,11 @@ eqb-top x n h =
     split x top (λ l. rw (min-eq-left l))
     (λ l. let z : min x top ≡ top = min-eq-right (omega arith) in rw (z, ne-eqb top n (λ e. omega arith)) (sym (ne-eqb x n (λ e. omega arith))))
 
-pub multiplied-end : (book : List ℕ) (t e d n p len : ℕ) → n ≤ d → len < top → Multiplied book t e d (n - d) p → eqb p len ≡ eqb (bytesOf book t e) len
+pub multiplied-end : (book : List ℕ) (t e d n p len : ℕ) → n ≤ d → len < top → Multiplied book t e d (n - d) p → eqb p len ≡ eqb (arrayBytes book t e) len
 unfolding productFrom
 multiplied-end book t e d n p len h l m =
     let k : n - d ≡ 0 = omega arith in
-    let z : m .so-far ≡ bytesOf book t e = sym (mul-one (m .so-far)) ∙ (rw k at (m .rest)) in
+    let z : m .so-far ≡ arrayBytes book t e = sym (mul-one (m .so-far)) ∙ (rw k at (m .rest)) in
     rw (m .is, eqb-top (m .so-far) len l, z)
 
 -- the bytes of one of n equal parts

@@ -11,14 +11,14 @@ use borrow.Author.Tests.{eqb-true, leb-false}
 use mir.Syntax.{w8, w64}
 use mir.Val.{Fits}
 use Rattle.typebook.specs.Book.{sizeOf, countOf, dimensionsOf}
-use Rattle.shape.specs.Array.{productFrom, strideOf, isLast, bytesOf, Fills, FillsNext, StrideIs}
+use Rattle.shape.specs.Array.{productFrom, strideOf, isLast, arrayBytes, Fills, FillsNext, StrideIs}
 
 swap : (a b p : ℕ) → a * (b * p) ≡ b * (a * p)
 swap a b p = sym (mul-assoc a b p) ∙ ap (λ (x : ℕ). x * p) (mul-comm a b) ∙ mul-assoc b a p
 
 -- the whole array is its first dimension
-pub fills-first : (book : List ℕ) (t e len : ℕ) (b : Bool) → b ≡ eqb (bytesOf book t e) len → b ≡ true → Fills book 0 t e len
-unfolding bytesOf
+pub fills-first : (book : List ℕ) (t e len : ℕ) (b : Bool) → b ≡ eqb (arrayBytes book t e) len → b ≡ true → Fills book 0 t e len
+unfolding arrayBytes
 fills-first book t e len b q h = record { fills = eqb-true _ _ (sym q ∙ h) }
 
 -- one index of a dimension that is not the last is the next dimension

@@ -20,8 +20,8 @@ unfoldable pub isLast : List ℕ → ℕ → ℕ → Bool
 isLast book d t = leb (dimensionsOf book t) (d + 1)
 
 -- the bytes of the whole array: its element's size times all its counts
-unfoldable pub bytesOf : List ℕ → ℕ → ℕ → ℕ
-bytesOf book t e = countOf book t 0 * strideOf book 0 t e
+unfoldable pub arrayBytes : List ℕ → ℕ → ℕ → ℕ
+arrayBytes book t e = countOf book t 0 * strideOf book 0 t e
 
 -- array t's dimensions from the d-th on, with elements of type e, fill `len` bytes
 pub record Fills (book : List ℕ) (d t e len : ℕ) : Type 0 where
@@ -32,10 +32,10 @@ pub record FillsNext (book : List ℕ) (d t e len : ℕ) : Type 0 where
   pub fills : strideOf book d t e ≡ len
 
 -- the length of each of n equal parts of `len` bytes, rounded down; 0 where there is no part
-abbrev pub partOf : ℕ → ℕ → ℕ
-partOf n len = cond (eqb n 0) 0 (len / n)
+abbrev pub equalPart : ℕ → ℕ → ℕ
+equalPart n len = cond (eqb n 0) 0 (len / n)
 
 -- r is the length of each of n equal parts of `len` bytes; where such parts fill them, it is what they are long
 pub record StrideIs (n len r : ℕ) : Type 0 where
-  pub part : r ≡ partOf n len
+  pub part : r ≡ equalPart n len
   pub is : (k : ℕ) → 0 < n → n * k ≡ len → r ≡ k

@@ -3,7 +3,7 @@ ghost use mathlib.Core.Path.{_≡_};
 ghost use Prim.Native.Nat.{_*_, _≤_, min};
 ghost use lib.Dec.{eqb};
 ghost use lib.ListN.{length};
-ghost use Rattle.shape.specs.Array.{isLast, bytesOf, StrideIs};
+ghost use Rattle.shape.specs.Array.{isLast, arrayBytes, StrideIs};
 
 // No length reaches this, so a product that does needs not be known.
 const TOP: u64 = 0x8000_0000_0000_0000;
@@ -25,7 +25,7 @@ fn times(p: u64, b: u32) -> u64
 
 // Whether the element's size times all counts is the number of bytes, exactly.
 pub fn product_is(book: &[u8], t: u32, e: u32, bytes: &[u8]) -> bool
-    ensures { λ r. ⌜ r ≡ eqb (bytesOf (now (book .entry)) t e) (length (now (bytes .entry))) ⌝ }
+    ensures { λ r. ⌜ r ≡ eqb (arrayBytes (now (book .entry)) t e) (length (now (bytes .entry))) ⌝ }
 {
     let dims = typebook::block::dimensions(book, t);
     let mut p = times(

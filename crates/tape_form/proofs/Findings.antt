@@ -8,15 +8,15 @@ use lib.ListN.{length, getD, take, drop, set, length-set}
 use lib.Seq.{getD-set-same, getD-set-other, length-take-le}
 use Rattle.utf_8.specs.Utf8.{wellFormed, ValidTo, Stretch}
 use Rattle.utf_8.proofs.Cuts.{valid-none, stretch-none, valid-more, part-of-stretch, part-of-first}
-use Rattle.tape_form.specs.Known.{Known}
+use Rattle.tape_form.specs.Known.{KnownTexts}
 use Rattle.tape_form.specs.Ranges.{textIn}
 use Rattle.tape_form.proofs.Tests.{text-inside}
 
 -- at first nothing is known
-pub known-none : (text : List ℕ) → Known text (0 ∷ 0 ∷ 0 ∷ [])
+pub known-none : (text : List ℕ) → KnownTexts text (0 ∷ 0 ∷ 0 ∷ [])
 known-none text = record { numbers = refl; first = valid-none text; later = stretch-none text }
 
-module _ (text known : List ℕ) (h : Known text known) where
+module _ (text known : List ℕ) (h : KnownTexts text known) where
   pub first-count : getD known 0 0 ≡ length (take (getD known 0 0) text)
   first-count = sym (length-take-le (getD known 0 0) text (h .first .within))
 
@@ -24,14 +24,14 @@ module _ (text known : List ℕ) (h : Known text known) where
   first-length e l = omega (arith, length-take-le (getD known 0 0) text (h .first .within))
 
   pub grown : (e to r : ℕ) → getD known 0 0 < e → e ≤ to → to ≤ length text → ValidTo (take (to - getD known 0 0) (drop (getD known 0 0) text)) r
-      → Known text (set known 0 (getD known 0 0 + r))
+      → KnownTexts text (set known 0 (getD known 0 0 + r))
   grown e to r l n m v = record {
     numbers = length-set known 0 (getD known 0 0 + r) ∙ h .numbers;
     first = rw (getD-set-same known 0 (getD known 0 0 + r) 0 (omega (arith, h .numbers))) (valid-more text (getD known 0 0) to r (h .first) (omega arith) m v);
     later = rw (getD-set-other known 0 1 (getD known 0 0 + r) 0 (λ z. omega arith), getD-set-other known 0 2 (getD known 0 0 + r) 0 (λ z. omega arith)) (h .later);
   }
 
-  pub kept : (a e : ℕ) → Stretch text a e → Known text (set (set known 1 a) 2 e)
+  pub kept : (a e : ℕ) → Stretch text a e → KnownTexts text (set (set known 1 a) 2 e)
   kept a e s = record {
     numbers = length-set (set known 1 a) 2 e ∙ length-set known 1 a ∙ h .numbers;
     first = rw (getD-set-other (set known 1 a) 2 0 e 0 (λ z. omega arith), getD-set-other known 1 0 a 0 (λ z. omega arith)) (h .first);

@@ -5,7 +5,7 @@ ghost use mathlib.Core.Path.{_≡_};
 ghost use Prim.Native.Nat.{_-_, _≤_};
 ghost use lib.ListN.{length, take, drop};
 ghost use Rattle.utf_8.specs.Utf8.{wellFormed, Stretch};
-ghost use Rattle.tape_form.specs.Known.{Known};
+ghost use Rattle.tape_form.specs.Known.{KnownTexts};
 ghost use Rattle.tape_form.specs.Ranges.{textIn};
 use utf_8_decoder::part_well_formed;
 use utf_8_decoder::valid_up_to;
@@ -28,8 +28,8 @@ fn ahead(len: usize, e: usize) -> usize
 
 // The first finding grows past `e`, or up to an error before it. No byte but those at an error is looked at twice.
 fn grow(text: &[u8], known: &mut [usize; 3], e: usize)
-    requires { ⌜ Known (now text) (now known) × (e ≤ length (now text)) ⌝ }
-    ensures { λ _. ⌜ Known (now (text .entry)) (now (known .exit)) ⌝ }
+    requires { ⌜ KnownTexts (now text) (now known) × (e ≤ length (now text)) ⌝ }
+    ensures { λ _. ⌜ KnownTexts (now (text .entry)) (now (known .exit)) ⌝ }
 {
     let v = known[0];
     if e <= v {
@@ -42,8 +42,8 @@ fn grow(text: &[u8], known: &mut [usize; 3], e: usize)
 
 // The second finding becomes the bytes from a up to e, which are UTF-8, if they are more: the longest text is the dearest.
 fn keep(text: &[u8], known: &mut [usize; 3], a: usize, e: usize)
-    requires { ⌜ Known (now text) (now known) × Stretch (now text) a e ⌝ }
-    ensures { λ _. ⌜ Known (now (text .entry)) (now (known .exit)) ⌝ }
+    requires { ⌜ KnownTexts (now text) (now known) × Stretch (now text) a e ⌝ }
+    ensures { λ _. ⌜ KnownTexts (now (text .entry)) (now (known .exit)) ⌝ }
 {
     let lo = known[1];
     let hi = known[2];
@@ -56,9 +56,9 @@ fn keep(text: &[u8], known: &mut [usize; 3], a: usize, e: usize)
 
 // Whether the bytes from a up to e are UTF-8, where an error of the buffer lies before e: by the second finding, or by a pass of their own.
 fn is_later(text: &[u8], known: &mut [usize; 3], a: usize, e: usize) -> bool
-    requires { ⌜ Known (now text) (now known) × (a ≤ e) × (e ≤ length (now text)) ⌝ }
+    requires { ⌜ KnownTexts (now text) (now known) × (a ≤ e) × (e ≤ length (now text)) ⌝ }
     ensures { λ t. ⌜ t ≡ wellFormed (take (e - a) (drop a (now (text .entry)))) ⌝ }
-    ensures { λ _. ⌜ Known (now (text .entry)) (now (known .exit)) ⌝ }
+    ensures { λ _. ⌜ KnownTexts (now (text .entry)) (now (known .exit)) ⌝ }
 {
     let lo = known[1];
     let hi = known[2];
@@ -76,9 +76,9 @@ fn is_later(text: &[u8], known: &mut [usize; 3], a: usize, e: usize) -> bool
 
 // Whether some bytes lie in the text buffer and are UTF-8.
 pub(crate) fn is_text(text: &[u8], known: &mut [usize; 3], from: u64, len: u64) -> bool
-    requires { ⌜ Known (now text) (now known) ⌝ }
+    requires { ⌜ KnownTexts (now text) (now known) ⌝ }
     ensures { λ t. ⌜ t ≡ textIn (now (text .entry)) from len ⌝ }
-    ensures { λ _. ⌜ Known (now (text .entry)) (now (known .exit)) ⌝ }
+    ensures { λ _. ⌜ KnownTexts (now (text .entry)) (now (known .exit)) ⌝ }
 {
     let end = text.len() as u64;
     if end < from {

@@ -21,7 +21,7 @@ use Rattle.type_cache.specs.Same.{blocksOf, definitionOf}
 use Rattle.type_cache.proofs.Appends.{refused-known, refused-none, refused-room, append-refused, append-done, append-fits, unknown, room-fits}
 use Rattle.type_cache.proofs.Definitions.{same-sym, same-type}
 use Rattle.type_cache.proofs.Adds.{definition-size, definition-name, definition-whole, Grown, grown, Added, added}
-use Rattle.type_adds.specs.Knows.{isMarked, Knows, AppendedIn}
+use Rattle.type_adds.specs.Knows.{hasMark, Knows, AppendedIn}
 use Rattle.type_adds.proofs.Knowing.{marked-set, marked-other}
 
 -- ---- the definition
@@ -48,7 +48,7 @@ unfolding isFound
 known-none f e = rw e
 
 module _ (c : List ℕ) (w : ValidBook c) (n : ℕ) (t : isType c n ≡ true) (buffer : List ℕ) (len : ℕ) (b : checkBook buffer len ≡ Valid)
-    (known : List ℕ) (k : Knows c (take len buffer) known) (g : Bool) (eg : g ≡ isMarked known n) where
+    (known : List ℕ) (k : Knows c (take len buffer) known) (g : Bool) (eg : g ≡ hasMark known n) where
   abbrev d : List ℕ
   d = definitionOf c n
 
@@ -105,10 +105,10 @@ module _ (c : List ℕ) (w : ValidBook c) (n : ℕ) (t : isType c n ≡ true) (b
       longer = added (take len buffer) c n (grows .old) w t lacks (omega (arith, grows .few, definition-size c w n t))
 
       -- what the longer book knows
-      knows-more : (m : ℕ) → isType c m ≡ true → isMarked (set known n 1) m ≡ isKnown (take len buffer ++ d) (nameOf c m)
+      knows-more : (m : ℕ) → isType c m ≡ true → hasMark (set known n 1) m ≡ isKnown (take len buffer ++ d) (nameOf c m)
       knows-more m tm = by (eqb m n) refl
         where
-          by : (q : Bool) → eqb m n ≡ q → isMarked (set known n 1) m ≡ isKnown (take len buffer ++ d) (nameOf c m)
+          by : (q : Bool) → eqb m n ≡ q → hasMark (set known n 1) m ≡ isKnown (take len buffer ++ d) (nameOf c m)
           by true e = let o : m ≡ n = eqb-true m n e in rw o (marked-set known n in-below ∙ sym (known-of _ _ (longer .found)))
           by false e = marked-other known n m (eqb-false m n e) ∙ k .is m tm ∙ old (find (take len buffer) (nameOf c m)) refl
             where

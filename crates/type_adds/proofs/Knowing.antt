@@ -18,24 +18,24 @@ use Rattle.type_index.specs.Index.{FoundBy}
 use Rattle.book_check.specs.Check.{ValidBook}
 use Rattle.book_check.proofs.Valid.{valid-own, valid-unique, valid-size, valid-below}
 use Rattle.type_cache.specs.Append.{isFound, isKnown}
-use Rattle.type_adds.specs.Knows.{isMarked, Knows, MarkedBy}
+use Rattle.type_adds.specs.Knows.{hasMark, Knows, MarkedBy}
 
 -- ---- one mark
 
-pub marked-in : (known : List ℕ) (n : ℕ) → eqb (getD known n 0) 1 ≡ isMarked known n
-unfolding isMarked
+pub marked-in : (known : List ℕ) (n : ℕ) → eqb (getD known n 0) 1 ≡ hasMark known n
+unfolding hasMark
 marked-in known n = refl
 
-pub marked-past : (known : List ℕ) (n : ℕ) → length known ≡ 65536 → 65536 ≤ n → false ≡ isMarked known n
-unfolding isMarked
+pub marked-past : (known : List ℕ) (n : ℕ) → length known ≡ 65536 → 65536 ≤ n → false ≡ hasMark known n
+unfolding hasMark
 marked-past known n e l = let l′ : length known ≤ n = omega arith in rw (List·getD-eq-default known 0 l′)
 
-pub marked-set : (known : List ℕ) (n : ℕ) → n < length known → isMarked (set known n 1) n ≡ true
-unfolding isMarked
+pub marked-set : (known : List ℕ) (n : ℕ) → n < length known → hasMark (set known n 1) n ≡ true
+unfolding hasMark
 marked-set known n l = rw (getD-set-same known n 1 0 l)
 
-pub marked-other : (known : List ℕ) (n m : ℕ) → (m ≡ n → ⊥) → isMarked (set known n 1) m ≡ isMarked known m
-unfolding isMarked
+pub marked-other : (known : List ℕ) (n m : ℕ) → (m ≡ n → ⊥) → hasMark (set known n 1) m ≡ hasMark known m
+unfolding hasMark
 marked-other known n m h = rw (getD-set-other known n m 1 0 h)
 
 or-true : (t : Bool) → t || true ≡ true
@@ -48,9 +48,9 @@ or-false false = refl
 
 -- a mark more, where it is known which block it is for
 marked-more : (known : List ℕ) (n m : ℕ) (t : Bool) → n < length known → (t ≡ true → m ≡ n) → (m ≡ n → t ≡ true)
-    → isMarked (set known n 1) m ≡ isMarked known m || t
-marked-more known n m true l f g = let e : m ≡ n = f refl in rw e (marked-set known n l ∙ sym (or-true (isMarked known n)))
-marked-more known n m false l f g = marked-other known n m (λ e. let z = g e in let y : _≡_ {A = ℕ} 0 1 = cc in omega arith) ∙ sym (or-false (isMarked known m))
+    → hasMark (set known n 1) m ≡ hasMark known m || t
+marked-more known n m true l f g = let e : m ≡ n = f refl in rw e (marked-set known n l ∙ sym (or-true (hasMark known n)))
+marked-more known n m false l f g = marked-other known n m (λ e. let z = g e in let y : _≡_ {A = ℕ} 0 1 = cc in omega arith) ∙ sym (or-false (hasMark known m))
 
 -- ---- the mark of one block's name
 
@@ -59,9 +59,9 @@ module _ (c : List ℕ) (v : ValidBook c) (book : List ℕ) (i : ℕ) (known : L
   none : ((n : ℕ) → isType c n ≡ true → isNamed book (nameOf c n) i ≡ true → ⊥) → MarkedBy c book i known known
   none h = record { long = refl; is = λ n t. by n (isNamed book (nameOf c n) i) refl (h n t) }
     where
-      by : (n : ℕ) (g : Bool) → isNamed book (nameOf c n) i ≡ g → (isNamed book (nameOf c n) i ≡ true → ⊥) → isMarked known n ≡ isMarked known n || isNamed book (nameOf c n) i
+      by : (n : ℕ) (g : Bool) → isNamed book (nameOf c n) i ≡ g → (isNamed book (nameOf c n) i ≡ true → ⊥) → hasMark known n ≡ hasMark known n || isNamed book (nameOf c n) i
       by n true e k = absurd (k e)
-      by n false e k = rw e (sym (or-false (isMarked known n)))
+      by n false e k = rw e (sym (or-false (hasMark known n)))
 
   pub mark-other : (t : Bool) → t ≡ isType book i → not t ≡ true → MarkedBy c book i known known
   mark-other t e h = none (λ n k w. let z : isType book i ≡ true = named-kind book _ i w in let y : isType book i ≡ false = sym e ∙ not-true t h in let x : _≡_ {A = ℕ} 0 1 = cc in omega arith)
@@ -102,10 +102,10 @@ module _ (c : List ℕ) (v : ValidBook c) (book : List ℕ) (i : ℕ) (known : L
 -- the marks of the names of the blocks before i
 pub record KnowsTo (c book known : List ℕ) (i n : ℕ) : Type 0 where
   pub long : length known ≡ 65536
-  pub is : (m : ℕ) → isType c m ≡ true → isKnown book (nameOf c m) ≡ isMarked known m || isFound (findFrom book (nameOf c m) i (n - i))
+  pub is : (m : ℕ) → isType c m ≡ true → isKnown book (nameOf c m) ≡ hasMark known m || isFound (findFrom book (nameOf c m) i (n - i))
 
-not-marked : (m : ℕ) → m < 65536 → isMarked (replicate 65536 0) m ≡ false
-unfolding isMarked
+not-marked : (m : ℕ) → m < 65536 → hasMark (replicate 65536 0) m ≡ false
+unfolding hasMark
 not-marked m l = rw (getD-replicate {A = ℕ} 65536 m 0 0 l)
 
 pub knows-start : (c : List ℕ) → ValidBook c → (book known before : List ℕ) → known ≡ replicate (length before) 0 → length before ≡ 65536 → (n : ℕ) → n ≡ searched book → KnowsTo c book known 0 n
@@ -125,7 +125,7 @@ module _ (c book known : List ℕ) (i n : ℕ) (inv : KnowsTo c book known i n) 
   knows-again l known′ k =
       record {
         long = k .long ∙ inv .long;
-        is = λ m t. inv .is m t ∙ turn m (isNamed book (nameOf c m) i) refl ∙ sym (rw (k .is m t) (assoc (isMarked known m) (isNamed book (nameOf c m) i) _));
+        is = λ m t. inv .is m t ∙ turn m (isNamed book (nameOf c m) i) refl ∙ sym (rw (k .is m t) (assoc (hasMark known m) (isNamed book (nameOf c m) i) _));
       }
     where
       assoc : (a b d : Bool) → (a || b) || d ≡ a || (b || d)
@@ -133,8 +133,8 @@ module _ (c book known : List ℕ) (i n : ℕ) (inv : KnowsTo c book known i n) 
       assoc false b d = refl
 
       turn : (m : ℕ) (g : Bool) → isNamed book (nameOf c m) i ≡ g
-          → isMarked known m || isFound (findFrom book (nameOf c m) i (n - i))
-          ≡ isMarked known m || (isNamed book (nameOf c m) i || isFound (findFrom book (nameOf c m) (i + 1) (n - (i + 1))))
+          → hasMark known m || isFound (findFrom book (nameOf c m) i (n - i))
+          ≡ hasMark known m || (isNamed book (nameOf c m) i || isFound (findFrom book (nameOf c m) (i + 1) (n - (i + 1))))
       turn m true e = let q : n - i ≡ suc (n - (i + 1)) = omega arith in rw (q, e)
       turn m false e = let q : n - i ≡ suc (n - (i + 1)) = omega arith in rw (q, e)
 
@@ -143,5 +143,5 @@ module _ (c book known : List ℕ) (i n : ℕ) (inv : KnowsTo c book known i n) 
   knows-end l =
       record {
         long = inv .long;
-        is = λ m t. let q : n - i ≡ 0 = omega arith in sym (rw q at (inv .is m t) ∙ or-false (isMarked known m));
+        is = λ m t. let q : n - i ≡ 0 = omega arith in sym (rw q at (inv .is m t) ∙ or-false (hasMark known m));
       }

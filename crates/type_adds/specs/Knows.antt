@@ -14,18 +14,18 @@ use Rattle.type_cache.specs.Append.{isKnown, AppendIs}
 use Rattle.type_cache.specs.Same.{definitionOf}
 
 -- block n is marked
-unfoldable pub isMarked : List ℕ → ℕ → Bool
-isMarked known n = eqb (getD known n 0) 1
+unfoldable pub hasMark : List ℕ → ℕ → Bool
+hasMark known n = eqb (getD known n 0) 1
 
 -- one mark for each block that a book may have: type block n of book c is marked exactly if the book knows its name
 pub record Knows (c book known : List ℕ) : Type 0 where
   pub long : length known ≡ 65536
-  pub is : (n : ℕ) → isType c n ≡ true → isMarked known n ≡ isKnown book (nameOf c n)
+  pub is : (n : ℕ) → isType c n ≡ true → hasMark known n ≡ isKnown book (nameOf c n)
 
 -- the type of c that has the name of type block i of the book is marked too
 pub record MarkedBy (c book : List ℕ) (i : ℕ) (known known′ : List ℕ) : Type 0 where
   pub long : length known′ ≡ length known
-  pub is : (n : ℕ) → isType c n ≡ true → isMarked known′ n ≡ isMarked known n || isNamed book (nameOf c n) i
+  pub is : (n : ℕ) → isType c n ≡ true → hasMark known′ n ≡ hasMark known n || isNamed book (nameOf c n) i
 
 -- the length of a book after appending's answer
 abbrev pub lengthThen : ℕ → Appended → ℕ

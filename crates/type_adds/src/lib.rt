@@ -9,7 +9,7 @@ ghost use Rattle.type_provider.specs.Find.{searched as searchedOf};
 ghost use Rattle.book_check.specs.declared.BookCheck.the-variants.{Valid};
 ghost use Rattle.book_check.specs.Check.{ValidBook, checkBook};
 ghost use Rattle.type_cache.specs.Same.{definitionOf};
-ghost use Rattle.type_adds.specs.Knows.{isMarked, MarkedBy, Knows, AppendedIn};
+ghost use Rattle.type_adds.specs.Knows.{hasMark, MarkedBy, Knows, AppendedIn};
 use type_cache::Appended;
 use type_cache::copy;
 use type_cache::has_room;
@@ -26,7 +26,7 @@ pub const MARKS: usize = 65536;
 // Whether type block n of the controller's book is marked.
 fn is_marked(known: &[u8], n: u32) -> bool
     requires { ⌜ length (now known) ≡ 65536 ⌝ }
-    ensures { λ r. ⌜ r ≡ isMarked (now (known .entry)) n ⌝ }
+    ensures { λ r. ⌜ r ≡ hasMark (now (known .entry)) n ⌝ }
 {
     let i = n as usize;
     if i < MARKS {

@@ -9,7 +9,7 @@ use lib.ListN.{length}
 use lib.Seq.{take-length}
 use lib.Dec.{leb}
 use Rattle.doubles.specs.Doubles.{distinct}
-use Rattle.book_check.specs.Check.{sizeRight, sums, placed, checkBlocks, checkBook, ValidBook}
+use Rattle.book_check.specs.Check.{sizeRight, sums, allInPlace, checkBlocks, checkBook, ValidBook}
 use Rattle.book_check.specs.declared.BookCheck.{BookCheck}
 use Rattle.book_check.specs.declared.BookCheck.the-variants.{Valid, Size, Sum, Form, Doubled}
 
@@ -32,7 +32,7 @@ module _ (buffer : List ℕ) (len : ℕ) where
   book-fits h = inside (leb len (length buffer)) _ _ refl h
 
 -- a book that passes each test is valid
-pub valid-of : (book : List ℕ) → 0 < length book → length book % 512 ≡ 0 → length book / 512 ≤ 65536 → sums book ≡ true → placed book ≡ true → distinct book ≡ true
+pub valid-of : (book : List ℕ) → 0 < length book → length book % 512 ≡ 0 → length book / 512 ≤ 65536 → sums book ≡ true → allInPlace book ≡ true → distinct book ≡ true
     → ValidBook book
 unfolding checkBook checkBlocks sizeRight
 valid-of book some whole few s p d =

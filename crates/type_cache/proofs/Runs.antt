@@ -10,7 +10,7 @@ use Rattle.typebook.specs.Book.{blockOf, fieldsOf, entriesOf}
 use Rattle.typebook.proofs.Blocks.{same-u32}
 use Rattle.block_form.specs.Form.{typeForm, fieldForm, entryForm}
 use Rattle.doubles.specs.Doubles.{allFrom}
-use Rattle.book_check.specs.Check.{placeOf, onward, placedFrom}
+use Rattle.book_check.specs.Check.{placeOf, placesOnward, placedFrom}
 use Rattle.book_check.proofs.Valid.{chosen, went}
 use Rattle.type_cache.proofs.Checked.{and-left, and-right}
 
@@ -47,7 +47,7 @@ others a b m n k h j l =
 
 -- where f fields and e entries are due and in their places, these f + e blocks are so in a book of their own
 pub placed-due : (a b : List ℕ) (m n k f e : ℕ) → ((j : ℕ) → j < f + e → blockOf b (n + j) ≡ blockOf a (m + j)) → placedFrom a m k f e ≡ true → placedFrom b n (f + e) f e ≡ true
-unfolding placedFrom placeOf onward
+unfolding placedFrom placeOf placesOnward
 placed-due a b m n zero f e s h =
     let x : f ≡ 0 = eqb-true f 0 (and-left _ _ h) in
     let y : e ≡ 0 = eqb-true e 0 (and-right (eqb f 0) _ h) in
@@ -67,7 +67,7 @@ placed-due a b m n (suc k) (suc f) e s h =
 -- so too a type with its fields and entries
 pub placed-type : (a b : List ℕ) (m n k : ℕ) → ((j : ℕ) → j < suc (fieldsOf a m + entriesOf a m) → blockOf b (n + j) ≡ blockOf a (m + j))
     → typeForm (blockOf a m) ≡ true → placedFrom a (m + 1) k (fieldsOf a m) (entriesOf a m) ≡ true → placedFrom b n (suc (fieldsOf a m + entriesOf a m)) 0 0 ≡ true
-unfolding placedFrom placeOf onward
+unfolding placedFrom placeOf placesOnward
 placed-type a b m n k s t h =
     let z : blockOf b n ≡ blockOf a m = first a b m n _ s in
     rw (z, t, same-u32 b a n m z 12 (omega arith), same-u32 b a n m z 16 (omega arith))

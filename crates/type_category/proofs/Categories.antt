@@ -12,7 +12,7 @@ use Rattle.type_id.specs.declared.AdsTypeId.the-variants as id
 use Rattle.type_id.specs.TypeId.{idOf}
 use Rattle.typebook.specs.Book.{blockOf, byteAt, flagOf, dimensionsOf, typeIdOf, offsetOf, sizeOf, fieldsOf, nameOf, typeNameOf, sameName}
 use Rattle.typebook.proofs.Blocks.{same-byte, same-u32, same-counted}
-use Rattle.type_names.specs.Text.{ascii}
+use Rattle.type_names.specs.Text.{asciiBytes}
 use Rattle.type_names.specs.Names.{isSubRangeName, isPrimitiveName}
 use Rattle.type_category.specs.declared.type_category.AdsTypeCategory.{AdsTypeCategory}
 use Rattle.type_category.specs.declared.type_category.AdsTypeCategory.the-variants.{None, Primitive, Alias, Enum, Array, Struct, FunctionBlock, Program, Function, SubRange, String, Bitset, Pointer, Union, Reference, Interface}
@@ -140,7 +140,7 @@ module _ (book : List ℕ) (n : ℕ) where
   unfolding simpleCategory
   told-simple width a b =
       picks (Told book n) (isAlias book n)
-      (λ e. picks (Told book n) (sameName (nameOf book n) (ascii "BOOL")) (λ q. tt) (λ q. told-alias a b e))
+      (λ e. picks (Told book n) (sameName (nameOf book n) (asciiBytes "BOOL")) (λ q. tt) (λ q. told-alias a b e))
       (λ e. told-id (idOf (typeIdOf book n)) _ (picks (Told book n) (isPrimitiveName (nameOf book n)) (λ q. tt) (λ q. told-complex width)))
 
   pub told : (width : ℕ) → Told book n (categoryOf book width n)

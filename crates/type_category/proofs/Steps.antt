@@ -10,7 +10,7 @@ use borrow.Author.Tests.{eq-eqb, ne-eqb, lt-ltb, le-ltb}
 use Rattle.type_id.specs.declared.AdsTypeId.{AdsTypeId}
 use Rattle.type_id.specs.TypeId.{idOf}
 use Rattle.typebook.specs.Book.{u32At, flagOf, dimensionsOf, typeIdOf, offsetOf, sizeOf, fieldsOf, nameOf, typeNameOf, sameName}
-use Rattle.type_names.specs.Text.{ascii, startsWith}
+use Rattle.type_names.specs.Text.{asciiBytes, startsWith}
 use Rattle.type_names.specs.Names.{isPointerName, isSubRangeName, isPrimitiveName}
 use Rattle.type_names.proofs.Texts.{and-false}
 use Rattle.type_category.specs.declared.type_category.AdsTypeCategory.{AdsTypeCategory}
@@ -170,11 +170,11 @@ module _ (book : List ℕ) (n : ℕ) where
     module _ (name : List ℕ) (named : name ≡ nameOf book n) where
       -- simple
       module _ (t : Bool) (e : t ≡ isAlias book n) where
-        pub simple-bool : t ≡ true → (s : Bool) → s ≡ sameName name (ascii "BOOL") → s ≡ true → Primitive ≡ simpleCategory book width n
+        pub simple-bool : t ≡ true → (s : Bool) → s ≡ sameName name (asciiBytes "BOOL") → s ≡ true → Primitive ≡ simpleCategory book width n
         unfolding simpleCategory
         simple-bool h s q k = sym (rw (← e, h, ← named, ← q, k))
 
-        pub simple-alias : t ≡ true → (s : Bool) → s ≡ sameName name (ascii "BOOL") → s ≡ false → Alias ≡ simpleCategory book width n
+        pub simple-alias : t ≡ true → (s : Bool) → s ≡ sameName name (asciiBytes "BOOL") → s ≡ false → Alias ≡ simpleCategory book width n
         unfolding simpleCategory
         simple-alias h s q k = sym (rw (← e, h, ← named, ← q, k))
 
@@ -208,7 +208,7 @@ module _ (book : List ℕ) (n : ℕ) where
             unfolding categoryOf isPointer isReference
             reference-flag l = sym (rw (← e, h, ← named, ← q, k, ← p, l))
 
-            module _ (l : u ≡ false) (v : Bool) (o : v ≡ startsWith name (ascii "REFERENCE TO")) where
+            module _ (l : u ≡ false) (v : Bool) (o : v ≡ startsWith name (asciiBytes "REFERENCE TO")) where
               pub reference-name : v ≡ true → Reference ≡ categoryOf book width n
               unfolding categoryOf isPointer isReference
               reference-name m = sym (rw (← e, h, ← named, ← q, k, ← p, l, ← o, m))

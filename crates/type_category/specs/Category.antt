@@ -9,7 +9,7 @@ use Rattle.type_id.specs.declared.AdsTypeId.{AdsTypeId}
 use Rattle.type_id.specs.declared.AdsTypeId.the-variants as id
 use Rattle.type_id.specs.TypeId.{idOf}
 use Rattle.typebook.specs.Book.{flagOf, dimensionsOf, typeIdOf, offsetOf, sizeOf, fieldsOf, nameOf, typeNameOf, sameName}
-use Rattle.type_names.specs.Text.{ascii, startsWith}
+use Rattle.type_names.specs.Text.{asciiBytes, startsWith}
 use Rattle.type_names.specs.Names.{isPointerName, isSubRangeName, isPrimitiveName}
 use Rattle.type_category.specs.declared.type_category.AdsTypeCategory.{AdsTypeCategory}
 use Rattle.type_category.specs.declared.type_category.AdsTypeCategory.the-variants.{None, Primitive, Alias, Enum, Array, Struct, FunctionBlock, SubRange, String, Bitset, Pointer, Union, Reference, Interface}
@@ -38,7 +38,7 @@ isPointer book n = flagOf book n 0 || isPointerName (nameOf book n)
 
 -- a reference, by its flag or by its name
 unfoldable pub isReference : List ℕ → ℕ → Bool
-isReference book n = flagOf book n 1 || startsWith (nameOf book n) (ascii "REFERENCE TO")
+isReference book n = flagOf book n 1 || startsWith (nameOf book n) (asciiBytes "REFERENCE TO")
 
 -- an array has a dimension
 abbrev pub isArray : List ℕ → ℕ → Bool
@@ -119,7 +119,7 @@ complexCategory book width n =
 -- aliases (BOOL excepted), then what the type id decides, then primitives by name, then the complex types
 unfoldable pub simpleCategory : List ℕ → ℕ → ℕ → AdsTypeCategory
 simpleCategory book width n =
-    cond (isAlias book n) (cond (sameName (nameOf book n) (ascii "BOOL")) Primitive Alias)
+    cond (isAlias book n) (cond (sameName (nameOf book n) (asciiBytes "BOOL")) Primitive Alias)
     (orElse (idStep (idOf (typeIdOf book n)))
     (cond (isPrimitiveName (nameOf book n)) Primitive (complexCategory book width n)))
 

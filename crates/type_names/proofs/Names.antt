@@ -4,7 +4,7 @@ use mathlib.Core.Bool.{Bool, true, false, _||_}
 use mathlib.Core.List.{List, [], _∷_}
 use Prim.Native.Nat.{ℕ}
 use Rattle.typebook.specs.Book.{sameName}
-use Rattle.type_names.specs.Text.{ascii, isOneOf, startsWith, contains}
+use Rattle.type_names.specs.Text.{asciiBytes, isOneOf, startsWith, contains}
 use Rattle.type_names.specs.Names.{isPointerName, isSubRangeName, timeNames, pointerSizedNames, isPrimitiveName}
 use Rattle.type_names.proofs.Texts.{and-true, and-false}
 
@@ -27,32 +27,32 @@ one-last name t r e = e ∙ or-false (sameName name t)
     or-false false = refl
 
 -- is_pointer_name
-module _ (name : List ℕ) (r : Bool) (e : r ≡ sameName name (ascii "PVOID")) where
+module _ (name : List ℕ) (r : Bool) (e : r ≡ sameName name (asciiBytes "PVOID")) where
   pub pointer-first : r ≡ true → true ≡ isPointerName name
   unfolding isPointerName isOneOf
   pointer-first h = sym (rw (← e, h))
 
-  module _ (h : r ≡ false) (s : Bool) (q : s ≡ sameName name (ascii "PCCH")) where
+  module _ (h : r ≡ false) (s : Bool) (q : s ≡ sameName name (asciiBytes "PCCH")) where
     pub pointer-second : s ≡ true → true ≡ isPointerName name
     unfolding isPointerName isOneOf
     pointer-second k = sym (rw (← e, h, ← q, k))
 
-    pub pointer-start : s ≡ false → (t : Bool) → t ≡ startsWith name (ascii "POINTER TO") → t ≡ isPointerName name
+    pub pointer-start : s ≡ false → (t : Bool) → t ≡ startsWith name (asciiBytes "POINTER TO") → t ≡ isPointerName name
     unfolding isPointerName isOneOf
     pointer-start k t p = p ∙ sym (rw (← e, h, ← q, k))
 
 -- is_sub_range_name
-module _ (name : List ℕ) (r : Bool) (e : r ≡ contains name (ascii "(")) where
+module _ (name : List ℕ) (r : Bool) (e : r ≡ contains name (asciiBytes "(")) where
   pub range-not-open : r ≡ false → false ≡ isSubRangeName name
   unfolding isSubRangeName
   range-not-open h = sym (rw (← e, h, and-false))
 
-  module _ (h : r ≡ true) (s : Bool) (q : s ≡ contains name (ascii ")")) where
+  module _ (h : r ≡ true) (s : Bool) (q : s ≡ contains name (asciiBytes ")")) where
     pub range-not-closed : s ≡ false → false ≡ isSubRangeName name
     unfolding isSubRangeName
     range-not-closed k = sym (rw (← e, h, ← q, k, and-false))
 
-    pub range-dots : s ≡ true → (t : Bool) → t ≡ contains name (ascii "..") → t ≡ isSubRangeName name
+    pub range-dots : s ≡ true → (t : Bool) → t ≡ contains name (asciiBytes "..") → t ≡ isSubRangeName name
     unfolding isSubRangeName
     range-dots k t p = p ∙ sym (rw (← e, h, ← q, k) (and-true _ ∙ and-true _))
 

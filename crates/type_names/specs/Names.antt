@@ -2,23 +2,23 @@
 use mathlib.Core.Bool.{Bool, _&&_, _||_}
 use mathlib.Core.List.{List, [], _∷_}
 use Prim.Native.Nat.{ℕ}
-use Rattle.type_names.specs.Text.{ascii, isOneOf, startsWith, contains}
+use Rattle.type_names.specs.Text.{asciiBytes, isOneOf, startsWith, contains}
 
 -- a pointer's name is PVOID or PCCH, or begins with POINTER TO
 unfoldable pub isPointerName : List ℕ → Bool
-isPointerName name = isOneOf name (ascii "PVOID" ∷ ascii "PCCH" ∷ []) || startsWith name (ascii "POINTER TO")
+isPointerName name = isOneOf name (asciiBytes "PVOID" ∷ asciiBytes "PCCH" ∷ []) || startsWith name (asciiBytes "POINTER TO")
 
 -- a subrange's name has two dots and both parentheses, wherever they stand
 unfoldable pub isSubRangeName : List ℕ → Bool
-isSubRangeName name = contains name (ascii "..") && contains name (ascii "(") && contains name (ascii ")")
+isSubRangeName name = contains name (asciiBytes "..") && contains name (asciiBytes "(") && contains name (asciiBytes ")")
 
 -- the date and time types of IEC 61131-3
 abbrev pub timeNames : List (List ℕ)
-timeNames = ascii "TOD" ∷ ascii "DT" ∷ ascii "TIME" ∷ ascii "DATE" ∷ ascii "LTIME" ∷ ascii "TIME_OF_DAY" ∷ ascii "DATE_AND_TIME" ∷ []
+timeNames = asciiBytes "TOD" ∷ asciiBytes "DT" ∷ asciiBytes "TIME" ∷ asciiBytes "DATE" ∷ asciiBytes "LTIME" ∷ asciiBytes "TIME_OF_DAY" ∷ asciiBytes "DATE_AND_TIME" ∷ []
 
 -- the integers that are as wide as a pointer
 abbrev pub pointerSizedNames : List (List ℕ)
-pointerSizedNames = ascii "UXINT" ∷ ascii "XINT" ∷ ascii "XWORD" ∷ ascii "__UXINT" ∷ ascii "__XINT" ∷ ascii "__XWORD" ∷ []
+pointerSizedNames = asciiBytes "UXINT" ∷ asciiBytes "XINT" ∷ asciiBytes "XWORD" ∷ asciiBytes "__UXINT" ∷ asciiBytes "__XINT" ∷ asciiBytes "__XWORD" ∷ []
 
 -- a primitive by its name
 unfoldable pub isPrimitiveName : List ℕ → Bool

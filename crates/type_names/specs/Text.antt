@@ -9,9 +9,9 @@ use lib.ListN.{length, take}
 use Rattle.typebook.specs.Book.{sameName}
 
 -- the bytes of an ASCII text: the code of each of its characters
-abbrev pub ascii : String → List ℕ
-ascii string.[] = []
-ascii (string._∷_ c s) = code c ∷ ascii s
+abbrev pub asciiBytes : String → List ℕ
+asciiBytes string.[] = []
+asciiBytes (string._∷_ c s) = code c ∷ asciiBytes s
 
 -- the name is one of these
 unfoldable pub isOneOf : List ℕ → List (List ℕ) → Bool

@@ -3,7 +3,7 @@ use mathlib.Core.Path.{_≡_, refl}
 use mathlib.Core.List.{[], _∷_, flatMap}
 use lib.ListN.{take}
 use Rattle.number.specs.Le.{leValue, leBytes}
-use Rattle.utf_8.specs.Utf8.{scalar, error, leading, following, after, decodeFrom as decodeFrom8, encoded, utf8Of}
+use Rattle.utf_8.specs.Utf8.{scalar, error, leading, following, afterReply, decodeFrom as decodeFrom8, encoded, utf8Of}
 use Rattle.utf_8.specs.declared.TextEnd.the-variants.{Terminated, Unterminated}
 use Rattle.utf_16.specs.Decode.{unitAlone, unitAfter, decodeFrom, decodeItems, decodeScalars, decodeText}
 use Rattle.utf_16.specs.Encode.{utf16Of, encodeText}
@@ -55,5 +55,5 @@ odd-zero = refl
 
 -- U+1F600 is the pair D83Dh DE00h, and U+FFFD stands for an ill-formed byte
 pair-encoded : encodeText (0xF0 ∷ 0x9F ∷ 0x98 ∷ 0x80 ∷ 0xFF ∷ []) ≡ 0x3D ∷ 0xD8 ∷ 0x00 ∷ 0xDE ∷ 0xFD ∷ 0xFF ∷ []
-unfolding flatMap decodeFrom8 leading following after utf16Of leBytes
+unfolding flatMap decodeFrom8 leading following afterReply utf16Of leBytes
 pair-encoded = refl

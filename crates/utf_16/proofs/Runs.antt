@@ -14,13 +14,13 @@ use Rattle.utf_8.specs.declared.Room.{Room}
 use Rattle.utf_8.specs.declared.Room.the-variants.{Fits, Over}
 use Rattle.utf_8.specs.Buffer.{splice, Wrote, roomFor}
 use Rattle.utf_8.proofs.Splices.{splice-none, splice-long, splice-splice, wrote-splice, wrote-full, wrote-none, wrote-as, went, stayed}
-use Rattle.utf_16.specs.Step.{ScalarAt, Left}
+use Rattle.utf_16.specs.Step.{ScalarAt, LeftToWrite}
 
-pub left-all : (whole out : List ℕ) (at : ℕ) → at + length whole ≤ length out → Left whole out at whole out at
+pub left-all : (whole out : List ℕ) (at : ℕ) → at + length whole ≤ length out → LeftToWrite whole out at whole out at
 left-all whole out at h = record { place = refl; buffer = refl; long = refl; fits = h }
 
 -- what is left of what was left
-pub left-left : {whole out₀ mid out₁ rest out₂ : List ℕ} {at to next : ℕ} → Left whole out₀ at mid out₁ to → Left mid out₁ to rest out₂ next → Left whole out₀ at rest out₂ next
+pub left-left : {whole out₀ mid out₁ rest out₂ : List ℕ} {at to next : ℕ} → LeftToWrite whole out₀ at mid out₁ to → LeftToWrite mid out₁ to rest out₂ next → LeftToWrite whole out₀ at rest out₂ next
 left-left p q = record {
   place = q .place ∙ p .place;
   buffer = q .buffer ∙ p .buffer;
@@ -29,11 +29,11 @@ left-left p q = record {
 }
 
 -- a part of it is written
-module _ {whole out₀ out out′ : List ℕ} (us vs : List ℕ) {start to : ℕ} {r : Put} (inv : Left whole out₀ start (us ++ vs) out to) (w : Wrote us out to r out′) where
+module _ {whole out₀ out out′ : List ℕ} (us vs : List ℕ) {start to : ℕ} {r : Put} (inv : LeftToWrite whole out₀ start (us ++ vs) out to) (w : Wrote us out to r out′) where
   parts : length (us ++ vs) ≡ length us + length vs
   parts = length-append us vs
 
-  pub left-part : (end : ℕ) → r ≡ Next end → Left whole out₀ start vs out′ end
+  pub left-part : (end : ℕ) → r ≡ Next end → LeftToWrite whole out₀ start vs out′ end
   left-part end q =
       let g = went w q in
       let k : to + length us ≤ length out = omega (arith, parts, inv .fits) in
@@ -50,7 +50,7 @@ module _ {whole out₀ out out′ : List ℕ} (us vs : List ℕ) {start to : ℕ
   left-never q = absurd (omega (arith, parts, inv .fits, stayed w q .over))
 
 -- all of it is written
-pub left-end : {whole out₀ out : List ℕ} {start to : ℕ} → Left whole out₀ start [] out to → Wrote whole out₀ start (Next to) out
+pub left-end : {whole out₀ out : List ℕ} {start to : ℕ} → LeftToWrite whole out₀ start [] out to → Wrote whole out₀ start (Next to) out
 left-end {whole} {out₀} {out} {start} {to} inv =
     let e : to ≡ start + length whole = omega (arith, inv .place) in
     let b : out ≡ splice out₀ start whole = sym (splice-none out to) ∙ inv .buffer in
@@ -137,9 +137,9 @@ module _ (scalarsOf : List ℕ → List ℕ) (bytesOf : ℕ → List ℕ) (nil :
 
     -- ---- written
 
-    module _ (whole out₀ out out′ : List ℕ) (start to : ℕ) (r : Put) (inv : Left whole out₀ start (flatMap bytesOf (scalarsOf (drop at bytes))) out to)
+    module _ (whole out₀ out out′ : List ℕ) (start to : ℕ) (r : Put) (inv : LeftToWrite whole out₀ start (flatMap bytesOf (scalarsOf (drop at bytes))) out to)
         (w : Wrote (bytesOf code) out to r out′) where
-      pub write-again : (end : ℕ) → r ≡ Next end → Left whole out₀ start (flatMap bytesOf (scalarsOf (drop next bytes))) out′ end
+      pub write-again : (end : ℕ) → r ≡ Next end → LeftToWrite whole out₀ start (flatMap bytesOf (scalarsOf (drop next bytes))) out′ end
       write-again end q = left-part (bytesOf code) _ (rw text-here at inv) w end q
 
       pub write-never : r ≡ Full → Wrote whole out₀ start (Next to) out′
@@ -149,7 +149,7 @@ module _ (scalarsOf : List ℕ → List ℕ) (bytesOf : ℕ → List ℕ) (nil :
       → Fits used ≡ roomFor (length (flatMap bytesOf (scalarsOf bytes))) room
   size-end at used room inv h a = room-fits _ used room (omega (arith, ap length (text-end at h))) a
 
-  pub write-end : (whole out₀ out : List ℕ) (at start to : ℕ) → Left whole out₀ start (flatMap bytesOf (scalarsOf (drop at bytes))) out to → length bytes ≤ at → Wrote whole out₀ start (Next to) out
+  pub write-end : (whole out₀ out : List ℕ) (at start to : ℕ) → LeftToWrite whole out₀ start (flatMap bytesOf (scalarsOf (drop at bytes))) out to → length bytes ≤ at → Wrote whole out₀ start (Next to) out
   write-end whole out₀ out at start to inv h = left-end (rw (text-end at h) at inv)
 
   -- no bytes are no text

@@ -7,18 +7,18 @@ use Rattle.utf_8.specs.Utf8.{Item, scalar, error, replaced, utf8Of}
 use Rattle.utf_16.specs.Unit16.{unitOf, isLeading, isTrailing, fromSurrogates}
 
 -- what the decoder does with a code unit: the items that it hands out, and its leading surrogate afterwards (`none` is the standard's null)
-pub record Given : Type 0 where
+pub record Handed : Type 0 where
   pub items : List Item
   pub leading : Option ℕ
 
 -- steps 6 to 8, with no leading surrogate: a leading surrogate is kept, a trailing surrogate is an error, any other code unit is a scalar value
-unfoldable pub unitAlone : ℕ → Given
+unfoldable pub unitAlone : ℕ → Handed
 unitAlone u =
     cond (isLeading u) (record { items = []; leading = some u })
     (cond (isTrailing u) (record { items = error ∷ []; leading = none }) (record { items = scalar u ∷ []; leading = none }))
 
 -- step 5, with a leading surrogate: a trailing surrogate makes a pair with it; any other code unit is an error, and its bytes are restored to the queue and taken again, with no leading surrogate
-unfoldable pub unitAfter : Option ℕ → ℕ → Given
+unfoldable pub unitAfter : Option ℕ → ℕ → Handed
 unitAfter none u = unitAlone u
 unitAfter (some lead) u =
     cond (isTrailing u) (record { items = scalar (fromSurrogates lead u) ∷ []; leading = none })

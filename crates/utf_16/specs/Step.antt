@@ -12,7 +12,7 @@ pub record ScalarAt (scalarsOf : List ℕ → List ℕ) (bytes : List ℕ) (at c
   pub within : next ≤ length bytes
 
 -- what is left to write, `rest` from `to` on into `out`, is all that was to be written, `whole` from `at` on into `out₀`
-pub record Left (whole out₀ : List ℕ) (at : ℕ) (rest out : List ℕ) (to : ℕ) : Type 0 where
+pub record LeftToWrite (whole out₀ : List ℕ) (at : ℕ) (rest out : List ℕ) (to : ℕ) : Type 0 where
   pub place : to + length rest ≡ at + length whole
   pub buffer : splice out to rest ≡ splice out₀ at whole
   pub long : length out ≡ length out₀

@@ -12,7 +12,7 @@ use Rattle.utf_8.specs.declared.Put.the-variants.{Next}
 use Rattle.utf_8.specs.Buffer.{Wrote}
 use Rattle.utf_8.proofs.Splices.{stored-1}
 use Rattle.utf_16.specs.Unit16.{unitOf}
-use Rattle.utf_16.specs.Step.{Left}
+use Rattle.utf_16.specs.Step.{LeftToWrite}
 use Rattle.utf_16.proofs.Runs.{left-all, left-part, left-end}
 use Rattle.utf_16_ascii.specs.Ascii16.{AsciiUnits, lows}
 
@@ -64,14 +64,14 @@ unfolding lows
 lows-length bytes zero at = refl
 lows-length bytes (suc n) at = ap suc (lows-length bytes n (at + 2))
 
-module _ (bytes out out₁ : List ℕ) (at to i : ℕ) (q : Left (lows bytes at 32) out to (lows bytes (at + 2 * i) (32 - i)) out₁ (to + i)) where
-  pub copy-again : i < 32 → Left (lows bytes at 32) out to (lows bytes (at + 2 * (i + 1)) (32 - (i + 1))) (set out₁ (to + i) (getD bytes (at + 2 * i) 0)) (to + (i + 1))
+module _ (bytes out out₁ : List ℕ) (at to i : ℕ) (q : LeftToWrite (lows bytes at 32) out to (lows bytes (at + 2 * i) (32 - i)) out₁ (to + i)) where
+  pub copy-again : i < 32 → LeftToWrite (lows bytes at 32) out to (lows bytes (at + 2 * (i + 1)) (32 - (i + 1))) (set out₁ (to + i) (getD bytes (at + 2 * i) 0)) (to + (i + 1))
   unfolding lows
   copy-again h =
       let n : 32 - i ≡ suc (32 - (i + 1)) = omega arith in
       let e : at + 2 * i + 2 ≡ at + 2 * (i + 1) = omega arith in
       let f : to + i + 1 ≡ to + (i + 1) = omega arith in
-      let p : Left (lows bytes at 32) out to ((getD bytes (at + 2 * i) 0 ∷ []) ++ lows bytes (at + 2 * i + 2) (32 - (i + 1))) out₁ (to + i) = rw n at q in
+      let p : LeftToWrite (lows bytes at 32) out to ((getD bytes (at + 2 * i) 0 ∷ []) ++ lows bytes (at + 2 * i + 2) (32 - (i + 1))) out₁ (to + i) = rw n at q in
       rw (← e, ← f) (left-part (getD bytes (at + 2 * i) 0 ∷ []) _ p (stored-1 out₁ (to + i) (getD bytes (at + 2 * i) 0) (omega (arith, p .fits))) (to + i + 1) refl)
 
   pub copy-room : i < 32 → to + i < length out₁
@@ -81,7 +81,7 @@ module _ (bytes out out₁ : List ℕ) (at to i : ℕ) (q : Left (lows bytes at 
   unfolding lows
   copy-end l h = let n : 32 - i ≡ 0 = omega arith in left-end (rw n at q)
 
-pub copy-start : (bytes out : List ℕ) (at to : ℕ) → to + 32 ≤ length out → Left (lows bytes at 32) out to (lows bytes (at + 2 * 0) (32 - 0)) out (to + 0)
+pub copy-start : (bytes out : List ℕ) (at to : ℕ) → to + 32 ≤ length out → LeftToWrite (lows bytes at 32) out to (lows bytes (at + 2 * 0) (32 - 0)) out (to + 0)
 copy-start bytes out at to h =
     let e : at + 2 * 0 ≡ at = omega arith in
     let f : to + 0 ≡ to = omega arith in

@@ -15,7 +15,7 @@ use Rattle.utf_8.proofs.Splices.{wrote-as, wrote-full, stored-1, stored-2}
 use Rattle.number.proofs.ByteOrder.{leValue-two}
 use Rattle.utf_16.specs.Unit16.{unitOf}
 use Rattle.utf_16.specs.Decode.{decodeScalars, decodeText}
-use Rattle.utf_16.specs.Step.{ScalarAt, Left}
+use Rattle.utf_16.specs.Step.{ScalarAt, LeftToWrite}
 use Rattle.utf_16_scalar.proofs.Decodes.{nothing-left, scalar-low}
 use Rattle.utf_16_ascii.specs.Ascii16.{AsciiUnits, lows}
 use Rattle.utf_16_ascii.proofs.Blocks.{lows-length}
@@ -63,8 +63,8 @@ module _ (bytes : List ℕ) (at : ℕ) (t : Bool) (a : t ≡ true → AsciiUnits
   pub block-measured : TextAt bytes at 32 (at + 64)
   block-measured = record { is = block-length bytes at (a q); later = omega arith; within = block-whole }
 
-  block-left : (whole out₀ out out′ : List ℕ) (start to r : ℕ) → Left whole out₀ start (decodeText (drop at bytes)) out to → Wrote (lows bytes at 32) out to (Next r) out′
-      → Left whole out₀ start (decodeText (drop (at + 64) bytes)) out′ r
+  block-left : (whole out₀ out out′ : List ℕ) (start to r : ℕ) → LeftToWrite whole out₀ start (decodeText (drop at bytes)) out to → Wrote (lows bytes at 32) out to (Next r) out′
+      → LeftToWrite whole out₀ start (decodeText (drop (at + 64) bytes)) out′ r
   block-left whole out₀ out out′ start to r inv w = left-part (lows bytes at 32) _ (rw (block-text bytes at (a q)) at inv) w r refl
 
   module _ (out : List ℕ) (to : ℕ) (f : to + length (decodeText (drop at bytes)) ≤ length out) where
@@ -80,7 +80,7 @@ module _ (bytes : List ℕ) (at : ℕ) (t : Bool) (a : t ≡ true → AsciiUnits
 
 -- ---- the scalar values of a block, one by one
 
-module _ (bytes out out₁ : List ℕ) (from to at next : ℕ) (q : Left (decodeText (drop from bytes)) out to (decodeText (drop at bytes)) out₁ next) where
+module _ (bytes out out₁ : List ℕ) (from to at next : ℕ) (q : LeftToWrite (decodeText (drop from bytes)) out to (decodeText (drop at bytes)) out₁ next) where
   pub units-written : (end : ℕ) → from < end → end ≤ at → at ≤ length bytes → PartWrote bytes from out to at out₁ next
   units-written end h l k = record { left = q; later = omega arith; within = k }
 
@@ -90,11 +90,11 @@ module _ (bytes out out₁ : List ℕ) (from to at next : ℕ) (q : Left (decode
 
 -- ---- what was written
 
-module _ (bytes whole out₀ out : List ℕ) (start from to : ℕ) (q : Left whole out₀ start (decodeText (drop from bytes)) out to) where
+module _ (bytes whole out₀ out : List ℕ) (start from to : ℕ) (q : LeftToWrite whole out₀ start (decodeText (drop from bytes)) out to) where
   pub part-room : to + length (decodeText (drop from bytes)) ≤ length out
   part-room = q .fits
 
-  pub part-next : (from′ to′ : ℕ) (out′ : List ℕ) → PartWrote bytes from out to from′ out′ to′ → Left whole out₀ start (decodeText (drop from′ bytes)) out′ to′
+  pub part-next : (from′ to′ : ℕ) (out′ : List ℕ) → PartWrote bytes from out to from′ out′ to′ → LeftToWrite whole out₀ start (decodeText (drop from′ bytes)) out′ to′
   part-next from′ to′ out′ p = left-left q (p .left)
 
 -- ---- the same, measured

@@ -4,7 +4,7 @@ use mathlib.Core.List.{List}
 use Prim.Native.Nat.{ℕ, _+_, _≤_, _<_}
 use lib.ListN.{length, drop}
 use Rattle.utf_16.specs.Decode.{decodeText}
-use Rattle.utf_16.specs.Step.{Left}
+use Rattle.utf_16.specs.Step.{LeftToWrite}
 
 -- what begins at a place takes `size` bytes in UTF-8, and `next` is the place after it
 pub record TextAt (bytes : List ℕ) (at size next : ℕ) : Type 0 where
@@ -14,6 +14,6 @@ pub record TextAt (bytes : List ℕ) (at size next : ℕ) : Type 0 where
 
 -- a part of the text from `from` on was written from `to` on: what is left of it goes from `from′` and `to′` on
 pub record PartWrote (bytes : List ℕ) (from : ℕ) (out : List ℕ) (to from′ : ℕ) (out′ : List ℕ) (to′ : ℕ) : Type 0 where
-  pub left : Left (decodeText (drop from bytes)) out to (decodeText (drop from′ bytes)) out′ to′
+  pub left : LeftToWrite (decodeText (drop from bytes)) out to (decodeText (drop from′ bytes)) out′ to′
   pub later : from < from′
   pub within : from′ ≤ length bytes

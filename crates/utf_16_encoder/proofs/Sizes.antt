@@ -7,7 +7,7 @@ use native.Mathlib.Omega.{arith}
 use lib.ListN.{length, length-append}
 use lib.Dec.{eqb, leb, ltb}
 use borrow.Author.Tests.{le-leb, ltb-true, ltb-false}
-use Rattle.utf_8.specs.Utf8.{Item, scalar, error, replaced, State, state, initial, Reply, give, continue, leading, following, after, decodeFrom}
+use Rattle.utf_8.specs.Utf8.{Item, scalar, error, replaced, State, state, initial, Reply, give, continue, leading, following, afterReply, decodeFrom}
 use Rattle.utf_16.specs.Encode.{utf16Of, encodeText}
 use Rattle.utf_16_encoder.proofs.Encodes.{one-length, two-length}
 
@@ -51,16 +51,16 @@ module _ (bs : List ℕ) (ih : (s : State) → size (decodeFrom s bs) ≤ 2 * (h
   ascii : (b : ℕ) → b < 0x80 → size (scalar b ∷ decodeFrom initial bs) ≤ 2 * (1 + length bs)
   ascii b h = omega (arith, size-item (scalar b) (decodeFrom initial bs), one-length b (omega arith), ih initial)
 
-  size-if : (b k n : ℕ) (p q : Reply) → (b < k → size (after p (λ s. decodeFrom s bs)) ≤ n) → size (after q (λ s. decodeFrom s bs)) ≤ n → size (after (cond (ltb b k) p q) (λ s. decodeFrom s bs)) ≤ n
+  size-if : (b k n : ℕ) (p q : Reply) → (b < k → size (afterReply p (λ s. decodeFrom s bs)) ≤ n) → size (afterReply q (λ s. decodeFrom s bs)) ≤ n → size (afterReply (cond (ltb b k) p q) (λ s. decodeFrom s bs)) ≤ n
   size-if b k n p q x y = by (ltb b k) refl
     where
-      by : (t : Bool) → ltb b k ≡ t → size (after (cond t p q) (λ s. decodeFrom s bs)) ≤ n
+      by : (t : Bool) → ltb b k ≡ t → size (afterReply (cond t p q) (λ s. decodeFrom s bs)) ≤ n
       by true e = x (ltb-true b k e)
       by false e = y
 
   -- a byte that the decoder takes with none held
-  size-leading : (b : ℕ) → size (after (leading b) (λ s. decodeFrom s bs)) ≤ 2 * (1 + length bs)
-  unfolding leading after
+  size-leading : (b : ℕ) → size (afterReply (leading b) (λ s. decodeFrom s bs)) ≤ 2 * (1 + length bs)
+  unfolding leading afterReply
   size-leading b =
       size-if b 0x80 _ _ _ (ascii b)
       (size-if b 0xc2 _ _ _ (λ h. fault)
@@ -68,15 +68,15 @@ module _ (bs : List ℕ) (ih : (s : State) → size (decodeFrom s bs) ≤ 2 * (h
       (size-if b 0xf0 _ _ _ (λ h. more _)
       (size-if b 0xf5 _ _ _ (λ h. more _) fault))))
 
-  -- a byte after those that it holds
-  size-following : (code seen needed b : ℕ) → size (after (following code seen needed b) (λ s. decodeFrom s bs)) ≤ 2 * (2 + length bs)
-  unfolding following after
+  -- a byte afterReply those that it holds
+  size-following : (code seen needed b : ℕ) → size (afterReply (following code seen needed b) (λ s. decodeFrom s bs)) ≤ 2 * (2 + length bs)
+  unfolding following afterReply
   size-following code seen needed b = by (eqb (seen + 1) needed)
     where
       next : State
       next = state (code * 64 + b % 64) (seen + 1) needed 0x80 0xbf
 
-      by : (t : Bool) → size (after (cond t (give (scalar (code * 64 + b % 64))) (continue next)) (λ s. decodeFrom s bs)) ≤ 2 * (2 + length bs)
+      by : (t : Bool) → size (afterReply (cond t (give (scalar (code * 64 + b % 64))) (continue next)) (λ s. decodeFrom s bs)) ≤ 2 * (2 + length bs)
       by true = omega (arith, size-item (scalar (code * 64 + b % 64)) (decodeFrom initial bs), code-four (code * 64 + b % 64), ih initial)
       by false = omega (arith, ih next, held-one next)
 
@@ -90,12 +90,12 @@ size-from [] (state code seen needed lower upper) = by (eqb needed 0)
 size-from (b ∷ bs) (state code seen needed lower upper) =
     by (eqb needed 0) (leb lower b && leb b upper) (size-leading bs (size-from bs) b) (size-following bs (size-from bs) code seen needed b)
   where
-    by : (n t : Bool) → size (after (leading b) (λ s. decodeFrom s bs)) ≤ 2 * (1 + length bs) → size (after (following code seen needed b) (λ s. decodeFrom s bs)) ≤ 2 * (2 + length bs)
-        → size (cond n (after (leading b) (λ s. decodeFrom s bs)) (cond t (after (following code seen needed b) (λ s. decodeFrom s bs)) (error ∷ after (leading b) (λ s. decodeFrom s bs))))
+    by : (n t : Bool) → size (afterReply (leading b) (λ s. decodeFrom s bs)) ≤ 2 * (1 + length bs) → size (afterReply (following code seen needed b) (λ s. decodeFrom s bs)) ≤ 2 * (2 + length bs)
+        → size (cond n (afterReply (leading b) (λ s. decodeFrom s bs)) (cond t (afterReply (following code seen needed b) (λ s. decodeFrom s bs)) (error ∷ afterReply (leading b) (λ s. decodeFrom s bs))))
         ≤ 2 * (cond n 0 1 + suc (length bs))
     by true t l f = omega arith
     by false true l f = omega arith
-    by false false l f = omega (arith, size-item error (after (leading b) (λ s. decodeFrom s bs)), one-length 0xfffd (omega arith))
+    by false false l f = omega (arith, size-item error (afterReply (leading b) (λ s. decodeFrom s bs)), one-length 0xfffd (omega arith))
 
 pub fits-short : (text : List ℕ) (room : ℕ) → length text ≤ room / 2 → true ≡ leb (length (encodeText text)) room
 fits-short text room h = sym (le-leb _ room (omega (arith, size-from text initial)))

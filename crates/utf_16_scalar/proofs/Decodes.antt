@@ -16,7 +16,7 @@ use Rattle.utf_8.proofs.Encodes.{utf8-short, len-one, len-two, len-three}
 use Rattle.utf_16.specs.Unit16.{unitOf, isLeading, isTrailing, fromSurrogates}
 use Rattle.utf_16.specs.Decode.{unitAlone, unitAfter, decodeFrom, decodeItems, decodeScalars, decodeText}
 use Rattle.utf_16.specs.Step.{ScalarAt}
-use Rattle.utf_16_scalar.specs.Units.{UnitAt, SurrogateAt, sizeOf, FirstScalar}
+use Rattle.utf_16_scalar.specs.Units.{UnitAt, SurrogateAt, firstSize, FirstScalar}
 use Rattle.utf_16.proofs.Ends.{drop-two}
 use Rattle.number.proofs.ByteOrder.{leValue-two}
 
@@ -182,35 +182,35 @@ nothing-left = refl
 -- ---- how many bytes it takes
 
 module _ (x y : ℕ) where
-  size-two : (xs : List ℕ) → isLeading (unitOf x y) ≡ false → sizeOf (x ∷ y ∷ xs) ≡ 2
-  unfolding sizeOf
+  size-two : (xs : List ℕ) → isLeading (unitOf x y) ≡ false → firstSize (x ∷ y ∷ xs) ≡ 2
+  unfolding firstSize
   size-two [] l = refl
   size-two (z ∷ []) l = rw l
   size-two (z ∷ w ∷ xs) l = rw l
 
-  size-apart : (z w : ℕ) (xs : List ℕ) → isTrailing (unitOf z w) ≡ false → sizeOf (x ∷ y ∷ z ∷ w ∷ xs) ≡ 2
-  unfolding sizeOf
+  size-apart : (z w : ℕ) (xs : List ℕ) → isTrailing (unitOf z w) ≡ false → firstSize (x ∷ y ∷ z ∷ w ∷ xs) ≡ 2
+  unfolding firstSize
   size-apart z w xs t = by (isLeading (unitOf x y)) refl
     where
-      by : (l : Bool) → isLeading (unitOf x y) ≡ l → sizeOf (x ∷ y ∷ z ∷ w ∷ xs) ≡ 2
+      by : (l : Bool) → isLeading (unitOf x y) ≡ l → firstSize (x ∷ y ∷ z ∷ w ∷ xs) ≡ 2
       by true e = rw (e, t)
       by false e = rw e
 
   module _ (l : isLeading (unitOf x y) ≡ true) where
-    size-odd : (z : ℕ) → sizeOf (x ∷ y ∷ z ∷ []) ≡ 3
-    unfolding sizeOf
+    size-odd : (z : ℕ) → firstSize (x ∷ y ∷ z ∷ []) ≡ 3
+    unfolding firstSize
     size-odd z = rw l
 
-    size-pair : (z w : ℕ) (xs : List ℕ) → isTrailing (unitOf z w) ≡ true → sizeOf (x ∷ y ∷ z ∷ w ∷ xs) ≡ 4
-    unfolding sizeOf
+    size-pair : (z w : ℕ) (xs : List ℕ) → isTrailing (unitOf z w) ≡ true → firstSize (x ∷ y ∷ z ∷ w ∷ xs) ≡ 4
+    unfolding firstSize
     size-pair z w xs t = rw (l, t)
 
-size-one : (x : ℕ) → sizeOf (x ∷ []) ≡ 1
-unfolding sizeOf
+size-one : (x : ℕ) → firstSize (x ∷ []) ≡ 1
+unfolding firstSize
 size-one x = refl
 
-size-end : (x y : ℕ) → sizeOf (x ∷ y ∷ []) ≡ 2
-unfolding sizeOf
+size-end : (x y : ℕ) → firstSize (x ∷ y ∷ []) ≡ 2
+unfolding firstSize
 size-end x y = refl
 
 -- ---- the scalar value at a place
@@ -221,12 +221,12 @@ unit-here bytes at x y ex ey = record { is = rw (← ex, ← ey) (sym (leValue-t
 
 module _ (bytes : List ℕ) (at : ℕ) where
   -- one item of k bytes stands at the place
-  here : (next : ℕ) (i : Item) → decodeItems (drop at bytes) ≡ i ∷ decodeItems (drop next bytes) → at < next → next ≤ length bytes → next ≡ at + sizeOf (drop at bytes) → FirstScalar bytes at (replaced i) next
+  here : (next : ℕ) (i : Item) → decodeItems (drop at bytes) ≡ i ∷ decodeItems (drop next bytes) → at < next → next ≤ length bytes → next ≡ at + firstSize (drop at bytes) → FirstScalar bytes at (replaced i) next
   unfolding decodeScalars
   here next i e a b p = record { scalar = record { is = ap (map replaced) e; later = a; within = b }; place = p }
 
   -- one error, and the end
-  last : (xs : List ℕ) → drop at bytes ≡ xs → decodeItems xs ≡ error ∷ [] → at < length bytes → length bytes ≡ at + sizeOf xs → FirstScalar bytes at 0xfffd (length bytes)
+  last : (xs : List ℕ) → drop at bytes ≡ xs → decodeItems xs ≡ error ∷ [] → at < length bytes → length bytes ≡ at + firstSize xs → FirstScalar bytes at 0xfffd (length bytes)
   unfolding decodeFrom
   last xs d e a p = here (length bytes) error (rw (d, drop-length) e) a (omega arith) (p ∙ rw d)
 
@@ -266,7 +266,7 @@ module _ (bytes : List ℕ) (at : ℕ) where
       scalar-cut h = by (drop (at + 2) bytes) refl
         where
           ends : (xs : List ℕ) → drop (at + 2) bytes ≡ xs → decodeItems (getD bytes at 0 ∷ getD bytes (at + 1) 0 ∷ xs) ≡ error ∷ []
-              → sizeOf (getD bytes at 0 ∷ getD bytes (at + 1) 0 ∷ xs) ≡ 2 + length xs → FirstScalar bytes at 0xfffd (length bytes)
+              → firstSize (getD bytes at 0 ∷ getD bytes (at + 1) 0 ∷ xs) ≡ 2 + length xs → FirstScalar bytes at 0xfffd (length bytes)
           ends xs d q z = last _ (rw (← d) split) q (omega (arith, s .whole)) (omega (arith, z, s .whole, simp length-drop at (ap length d)))
 
           by : (xs : List ℕ) → drop (at + 2) bytes ≡ xs → FirstScalar bytes at 0xfffd (length bytes)

@@ -21,14 +21,14 @@ pub record SurrogateAt (bytes : List ℕ) (at u : ℕ) : Type 0 where
 
 -- how many bytes the first scalar value or error takes: a surrogate pair four, a leading surrogate all that is left where no whole code unit
 -- follows, an odd byte one, anything else two
-unfoldable pub sizeOf : List ℕ → ℕ
-sizeOf [] = 0
-sizeOf (x ∷ []) = 1
-sizeOf (x ∷ y ∷ []) = 2
-sizeOf (x ∷ y ∷ z ∷ []) = cond (isLeading (unitOf x y)) 3 2
-sizeOf (x ∷ y ∷ z ∷ w ∷ bytes) = cond (isLeading (unitOf x y) && isTrailing (unitOf z w)) 4 2
+unfoldable pub firstSize : List ℕ → ℕ
+firstSize [] = 0
+firstSize (x ∷ []) = 1
+firstSize (x ∷ y ∷ []) = 2
+firstSize (x ∷ y ∷ z ∷ []) = cond (isLeading (unitOf x y)) 3 2
+firstSize (x ∷ y ∷ z ∷ w ∷ bytes) = cond (isLeading (unitOf x y) && isTrailing (unitOf z w)) 4 2
 
 -- the first scalar value from a place on, and the place after the bytes that it takes
 pub record FirstScalar (bytes : List ℕ) (at code next : ℕ) : Type 0 where
   pub scalar : ScalarAt decodeScalars bytes at code next
-  pub place : next ≡ at + sizeOf (drop at bytes)
+  pub place : next ≡ at + firstSize (drop at bytes)

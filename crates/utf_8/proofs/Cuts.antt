@@ -10,7 +10,7 @@ use lib.Dec.{leb, ltb, eqb, eqb·suc-zero}
 use borrow.Author.Tests.{leb-true, ltb-true, le-leb, lt-leb, lt-ltb, le-ltb, eq-eqb, ne-eqb}
 use Rattle.utf_8.specs.declared.Char.{Char}
 use Rattle.utf_8.specs.declared.Char.the-variants.{Code, Error, End}
-use Rattle.utf_8.specs.Utf8.{Item, scalar, error, State, state, initial, Reply, give, continue, lowerOf, upperOf, leading, following, after, decodeFrom, decode, noError, wellFormed, trail, found, nextFrom, nextAt, ValidTo, Stretch}
+use Rattle.utf_8.specs.Utf8.{Item, scalar, error, State, state, initial, Reply, give, continue, lowerOf, upperOf, leading, following, afterReply, decodeFrom, decode, noError, wellFormed, trail, found, nextFrom, nextAt, ValidTo, Stretch}
 use Rattle.utf_8.proofs.Items.{next-code, next-error, next-none, formed-again, formed-not, formed-none, formed-end}
 
 never : {X : Type 0} → false ≡ true → X
@@ -66,7 +66,7 @@ following-fine code seen needed b = fine-if (eqb (seen + 1) needed) _ _ tt (omeg
 
 -- ---- the cut
 
--- a part that is well-formed or not (`t`), and what comes after it, where both together are well-formed: the part ends with a code point, or within one
+-- a part that is well-formed or not (`t`), and what comes afterReply it, where both together are well-formed: the part ends with a code point, or within one
 data Cut (t : Bool) (ys : List ℕ) : Type 0 where
   clean : t ≡ true → wellFormed ys ≡ true → Cut t ys
   inside : t ≡ false → (y : ℕ) (zs : List ℕ) → ys ≡ y ∷ zs → trail y ≡ true → Cut t ys
@@ -84,7 +84,7 @@ in-need code seen needed lower upper [] f h = never (rw (eqb·suc-zero needed) a
 in-need code seen needed lower upper (y ∷ ys) f h = by (leb lower y && leb y upper) refl (rw (eqb·suc-zero needed) at h)
   where
     by : (t : Bool) → leb lower y && leb y upper ≡ t
-        → noError (cond t (after (following code seen (suc needed) y) (λ s. decodeFrom s ys)) (error ∷ after (leading y) (λ s. decodeFrom s ys))) ≡ true
+        → noError (cond t (afterReply (following code seen (suc needed) y) (λ s. decodeFrom s ys)) (error ∷ afterReply (leading y) (λ s. decodeFrom s ys))) ≡ true
         → Cut false (y ∷ ys)
     by true e q =
         let l = both (leb lower y) (leb y upper) e in
@@ -99,8 +99,8 @@ cut-if true is js ks ls ys p q h = p h
 cut-if false is js ks ls ys p q h = q h
 
 cut-reply : (p : Reply) (xs ys : List ℕ) → FineReply p → ((s : State) → Fine s → noError (decodeFrom s (xs ++ ys)) ≡ true → Cut (noError (decodeFrom s xs)) ys)
-    → noError (after p (λ s. decodeFrom s (xs ++ ys))) ≡ true → Cut (noError (after p (λ s. decodeFrom s xs))) ys
-unfolding after noError
+    → noError (afterReply p (λ s. decodeFrom s (xs ++ ys))) ≡ true → Cut (noError (afterReply p (λ s. decodeFrom s xs))) ys
+unfolding afterReply noError
 cut-reply (give (scalar c)) xs ys f k h = k initial (omega arith, omega arith) h
 cut-reply (give error) xs ys f k h = never h
 cut-reply (continue s) xs ys f k h = k s f h
@@ -122,7 +122,7 @@ cut (x ∷ xs) ys (state code seen needed lower upper) f h =
 
 -- a text that begins with a trail byte is ill-formed
 trail-first : (y : ℕ) (ys : List ℕ) → trail y ≡ true → wellFormed (y ∷ ys) ≡ false
-unfolding decodeFrom noError leading after trail
+unfolding decodeFrom noError leading afterReply trail
 trail-first y ys h =
     let p = both (leb 0x80 y) (ltb y 0xc0) h in
     let a = leb-true 0x80 y (p .0) in
@@ -274,7 +274,7 @@ module _ (c e : ℕ) where
 
 -- ---- the loop that passes over the well-formed beginning of a text
 
--- each beginning that has the first `at` bytes is well-formed where what it has after them is
+-- each beginning that has the first `at` bytes is well-formed where what it has afterReply them is
 pub record Passed (text : List ℕ) (at : ℕ) : Type 0 where
   pub within : at ≤ length text
   pub cuts : (n : ℕ) → at ≤ n → n ≤ length text → wellFormed (take n text) ≡ wellFormed (drop at (take n text))
@@ -325,8 +325,8 @@ join-if true is js ks ls b p q h = p h
 join-if false is js ks ls b p q h = q h
 
 join-reply : (p : Reply) (xs ys : List ℕ) (b : Bool) → ((s : State) → noError (decodeFrom s xs) ≡ true → noError (decodeFrom s (xs ++ ys)) ≡ b)
-    → noError (after p (λ s. decodeFrom s xs)) ≡ true → noError (after p (λ s. decodeFrom s (xs ++ ys))) ≡ b
-unfolding after noError
+    → noError (afterReply p (λ s. decodeFrom s xs)) ≡ true → noError (afterReply p (λ s. decodeFrom s (xs ++ ys))) ≡ b
+unfolding afterReply noError
 join-reply (give (scalar c)) xs ys b k h = k initial h
 join-reply (give error) xs ys b k h = never h
 join-reply (continue s) xs ys b k h = k s h
@@ -346,7 +346,7 @@ join (x ∷ xs) ys (state code seen needed lower upper) h =
     (join-reply (following code seen needed x) xs ys (wellFormed ys) (λ s. join xs ys s))
     (λ q. never q)) h
 
--- a well-formed beginning grows by what is well-formed after it
+-- a well-formed beginning grows by what is well-formed afterReply it
 pub valid-more : (text : List ℕ) (v e r : ℕ) → ValidTo text v → v ≤ e → e ≤ length text → ValidTo (take (e - v) (drop v text)) r → ValidTo text (v + r)
 valid-more text v e r k l m h =
     let n : length (take (e - v) (drop v text)) ≡ e - v = length-take-le (e - v) (drop v text) (omega (arith, length-drop v text)) in

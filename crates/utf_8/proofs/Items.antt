@@ -1,4 +1,4 @@
--- The first item that `nextAt` finds is the first of `decode`, and the others are those from the place after it on. Assumes nothing.
+-- The first item that `nextAt` finds is the first of `decode`, and the others are those from the place afterReply it on. Assumes nothing.
 use mathlib.Core.Path.{_≡_, refl, sym, ap, _∙_}
 use mathlib.Core.Bool.{Bool, true, false, cond, _&&_}
 use mathlib.Core.List.{List, [], _∷_, map}
@@ -9,7 +9,7 @@ use lib.Seq.{drop-drop}
 use lib.Dec.{leb, ltb, eqb, eqb·suc-zero}
 use Rattle.utf_8.specs.declared.Char.{Char}
 use Rattle.utf_8.specs.declared.Char.the-variants.{Code, Error, End}
-use Rattle.utf_8.specs.Utf8.{Item, scalar, error, State, state, initial, Reply, give, continue, leading, following, after, decodeFrom, decode, noError, wellFormed, replaced, scalars, found, nextFrom, nextAt}
+use Rattle.utf_8.specs.Utf8.{Item, scalar, error, State, state, initial, Reply, give, continue, leading, following, afterReply, decodeFrom, decode, noError, wellFormed, replaced, scalars, found, nextFrom, nextAt}
 
 -- the item `i` took the bytes of `bs` up to the place `e`, where `at` is the place of the first, and the items are `is`
 record Took (i : Item) (e at : ℕ) (bs : List ℕ) (is : List Item) : Type 0 where
@@ -48,8 +48,8 @@ tells-later b (tells-error t) = tells-error (took-later b t)
 tells-later b tells-end = tells-end
 
 tells-reply : (p : Reply) (at b : ℕ) (bs : List ℕ) → ((s : State) → Tells (nextFrom s (at + 1) bs) (at + 1) bs (decodeFrom s bs))
-    → Tells (found p at (λ s. nextFrom s (at + 1) bs)) at (b ∷ bs) (after p (λ s. decodeFrom s bs))
-unfolding found after
+    → Tells (found p at (λ s. nextFrom s (at + 1) bs)) at (b ∷ bs) (afterReply p (λ s. decodeFrom s bs))
+unfolding found afterReply
 tells-reply (give (scalar c)) at b bs k = tells-code (took-one (scalar c) at b bs)
 tells-reply (give error) at b bs k = tells-error (took-one error at b bs)
 tells-reply (continue s) at b bs k = tells-later b (k s)
@@ -116,7 +116,7 @@ moves b bs at =
 
 -- ---- what a caller of `next` cites
 
--- the first item of the text from `at` on is `i`, and the place after its bytes is `e`
+-- the first item of the text from `at` on is `i`, and the place afterReply its bytes is `e`
 pub record Begins (i : Item) (text : List ℕ) (at e : ℕ) : Type 0 where
   pub decodes : decode (drop at text) ≡ i ∷ decode (drop e text)
   pub past : at < e

@@ -7,29 +7,29 @@ use native.Mathlib.Omega.{arith}
 use native.Mathlib.Nat.{div-add-mod', div-div-eq-div-mul}
 use lib.Dec.{ltb, eqb}
 use borrow.Author.Tests.{lt-ltb, le-ltb, le-leb, eqb-true, ltb-true, ltb-false}
-use Rattle.utf_8.specs.Utf8.{scalar, lowerOf, upperOf, leading, following, after, decodeFrom, decode, noError, wellFormed, isScalar, two, utf8Of}
+use Rattle.utf_8.specs.Utf8.{scalar, lowerOf, upperOf, leading, following, afterReply, decodeFrom, decode, noError, wellFormed, isScalar, two, utf8Of}
 use Rattle.utf_8.proofs.Encodes.{Ranges, range-one, range-two, range-three, range-four, ranges, utf8-one, utf8-two, utf8-four, encoded-for, replaced-scalar}
 
 -- one code point of one to four bytes, and what follows it
 module _ (rest : List ℕ) where
   decode-one : (a : ℕ) → a < 0x80 → decode (a ∷ rest) ≡ scalar a ∷ decode rest
-  unfolding decodeFrom leading after
+  unfolding decodeFrom leading afterReply
   decode-one a h = rw (lt-ltb a 0x80 h)
 
   module _ (a b : ℕ) where
     decode-two : 0xc2 ≤ a → a < 0xe0 → 0x80 ≤ b → b ≤ 0xbf → decode (a ∷ b ∷ rest) ≡ scalar (a % 32 * 64 + b % 64) ∷ decode rest
-    unfolding decodeFrom leading following after
+    unfolding decodeFrom leading following afterReply
     decode-two l h lb hb =
         rw (le-ltb a 0x80 (omega arith), le-ltb a 0xc2 l, lt-ltb a 0xe0 h, le-leb 0x80 b lb, le-leb b 0xbf hb)
 
     module _ (lb : lowerOf a ≤ b) (hb : b ≤ upperOf a) (c : ℕ) (lc : 0x80 ≤ c) (hc : c ≤ 0xbf) where
       decode-three : 0xe0 ≤ a → a < 0xf0 → decode (a ∷ b ∷ c ∷ rest) ≡ scalar ((a % 16 * 64 + b % 64) * 64 + c % 64) ∷ decode rest
-      unfolding decodeFrom leading following after
+      unfolding decodeFrom leading following afterReply
       decode-three l h =
           rw (le-ltb a 0x80 (omega arith), le-ltb a 0xc2 (omega arith), le-ltb a 0xe0 l, lt-ltb a 0xf0 h, le-leb (lowerOf a) b lb, le-leb b (upperOf a) hb, le-leb 0x80 c lc, le-leb c 0xbf hc)
 
       decode-four : 0xf0 ≤ a → a < 0xf5 → (d : ℕ) → 0x80 ≤ d → d ≤ 0xbf → decode (a ∷ b ∷ c ∷ d ∷ rest) ≡ scalar (((a % 8 * 64 + b % 64) * 64 + c % 64) * 64 + d % 64) ∷ decode rest
-      unfolding decodeFrom leading following after
+      unfolding decodeFrom leading following afterReply
       decode-four l h d ld hd =
           rw (
             le-ltb a 0x80 (omega arith),
@@ -45,7 +45,7 @@ module _ (rest : List ℕ) where
             le-leb d 0xbf hd,
           )
 
--- the boundaries after a lead byte hold `b`
+-- the boundaries afterReply a lead byte hold `b`
 lower-holds : (a b : ℕ) → (a ≡ 0xe0 → 0xa0 ≤ b) → (a ≡ 0xf0 → 0x90 ≤ b) → 0x80 ≤ b → lowerOf a ≤ b
 lower-holds a b e f h = by (eqb a 0xe0) (eqb a 0xf0) refl refl
   where

@@ -23,11 +23,11 @@ pub data State : Type 0 where
 abbrev pub initial : State
 initial = state 0 0 0 0x80 0xbf
 
--- the lower boundary after a lead byte
+-- the lower boundary afterReply a lead byte
 abbrev pub lowerOf : ℕ → ℕ
 lowerOf lead = cond (eqb lead 0xe0) 0xa0 (cond (eqb lead 0xf0) 0x90 0x80)
 
--- the upper boundary after a lead byte
+-- the upper boundary afterReply a lead byte
 abbrev pub upperOf : ℕ → ℕ
 upperOf lead = cond (eqb lead 0xed) 0x9f (cond (eqb lead 0xf4) 0x8f 0xbf)
 
@@ -53,19 +53,19 @@ following code seen needed b =
     (give (scalar (code * 64 + b % 64)))
     (continue (state (code * 64 + b % 64) (seen + 1) needed 0x80 0xbf))
 
--- what comes after a reply, where `rest` comes from a state on
-unfoldable pub after : Reply → (State → List Item) → List Item
-after (give i) rest = i ∷ rest initial
-after (continue s) rest = rest s
+-- what comes afterReply a reply, where `rest` comes from a state on
+unfoldable pub afterReply : Reply → (State → List Item) → List Item
+afterReply (give i) rest = i ∷ rest initial
+afterReply (continue s) rest = rest s
 
 -- the decoder from a state on, to the end of the queue (steps 1 and 2); a byte outside the boundaries is an error, and is then taken in the initial state (step 4: it is restored to the queue)
 unfoldable pub decodeFrom : State → List ℕ → List Item
 decodeFrom (state code seen needed lower upper) [] = cond (eqb needed 0) [] (error ∷ [])
 decodeFrom (state code seen needed lower upper) (b ∷ bs) =
-    cond (eqb needed 0) (after (leading b) (λ s. decodeFrom s bs))
+    cond (eqb needed 0) (afterReply (leading b) (λ s. decodeFrom s bs))
     (cond (leb lower b && leb b upper)
-    (after (following code seen needed b) (λ s. decodeFrom s bs))
-    (error ∷ after (leading b) (λ s. decodeFrom s bs)))
+    (afterReply (following code seen needed b) (λ s. decodeFrom s bs))
+    (error ∷ afterReply (leading b) (λ s. decodeFrom s bs)))
 
 -- the UTF-8 decoder; no byte order mark is looked for
 abbrev pub decode : List ℕ → List Item
@@ -105,9 +105,9 @@ replaced error = 0xfffd
 abbrev pub scalars : List ℕ → List ℕ
 scalars bytes = map replaced (decode bytes)
 
--- ---- the decoder's first item, and the place after the bytes that it took
+-- ---- the decoder's first item, and the place afterReply the bytes that it took
 
--- what comes after a reply to the byte at `at`, where `rest` comes from a state on
+-- what comes afterReply a reply to the byte at `at`, where `rest` comes from a state on
 unfoldable pub found : Reply → ℕ → (State → Char) → Char
 found (give (scalar c)) at rest = Code c (at + 1)
 found (give error) at rest = Error (at + 1)

@@ -11,7 +11,7 @@ use Rattle.utf_8.specs.Utf8.{noError, wellFormed}
 use Rattle.utf_8.proofs.Decodes.{next-one}
 use Rattle.utf_8.proofs.Items.{next-code}
 use Rattle.utf_8.proofs.Cuts.{Passed, passed-code}
-use Rattle.ascii.specs.Ascii.{ascii}
+use Rattle.ascii.specs.Ascii.{isAscii}
 use Rattle.ascii.proofs.Ascii.{ascii-each}
 
 -- ---- ascii_block
@@ -20,7 +20,7 @@ module _ (text : List ℕ) (at : ℕ) where
   pub block-inside : at < length text → 64 ≤ length text - at → at + 64 ≤ length text
   block-inside b h = omega arith
 
-  pub block-told : (t : Bool) → t ≡ ascii (take (at + 64 - at) (drop at text)) → t ≡ true → ascii (take 64 (drop at text)) ≡ true
+  pub block-told : (t : Bool) → t ≡ isAscii (take (at + 64 - at) (drop at text)) → t ≡ true → isAscii (take 64 (drop at text)) ≡ true
   block-told t e q = let z : at + 64 - at ≡ 64 = omega arith in rw z at (sym e ∙ q)
 
 -- where no block is told, nothing is promised
@@ -41,7 +41,7 @@ module _ (text : List ℕ) where
       rw e at (passed-run n (at + 1) (passed-one at p (omega arith) (rw f at (a 0 (omega arith)))) (omega arith)
       (λ i l. let g : at + 1 + i ≡ at + suc i = omega arith in rw g (a (suc i) (omega arith))))
 
-  module _ (at : ℕ) (t : Bool) (a : t ≡ true → (at + 64 ≤ length text) × (ascii (take 64 (drop at text)) ≡ true)) (q : t ≡ true) where
+  module _ (at : ℕ) (t : Bool) (a : t ≡ true → (at + 64 ≤ length text) × (isAscii (take 64 (drop at text)) ≡ true)) (q : t ≡ true) where
     pub block-within : at + 64 ≤ length text
     block-within = a q .0
 

@@ -4,7 +4,7 @@ ghost use mathlib.Core.Bool.{true};
 ghost use Prim.Native.Nat.{_+_, _-_, _<_, _≤_};
 ghost use lib.ListN.{length, getD, take, drop};
 ghost use lib.Dec.{eqb};
-ghost use Rattle.ascii.specs.Ascii.{ascii};
+ghost use Rattle.ascii.specs.Ascii.{isAscii};
 ghost use Rattle.utf_8.specs.Utf8.{lowerOf, upperOf, state, nextFrom, nextAt, wellFormed, ValidTo, trail};
 use ascii::is_ascii;
 use utf_8::Char;
@@ -124,7 +124,7 @@ pub fn next(text: &[u8], at: usize) -> Char
 // two blocks.
 fn ascii_block(text: &[u8], at: usize) -> bool
     requires { ⌜ at < length (now text) ⌝ }
-    ensures { λ r. ⌜ (r ≡ true → (at + 64 ≤ length (now (text .entry))) × (ascii (take 64 (drop at (now (text .entry)))) ≡ true)) ⌝ }
+    ensures { λ r. ⌜ (r ≡ true → (at + 64 ≤ length (now (text .entry))) × (isAscii (take 64 (drop at (now (text .entry)))) ≡ true)) ⌝ }
 {
     if at % 64 != 0 {
         return false;

@@ -17,10 +17,10 @@ use Rattle.type_id.proofs.TypeIds.{named}
 use Rattle.validators.specs.declared.Validity.{Validity}
 use Rattle.validators.specs.declared.Validity.the-variants.{Valid, TypeMismatch, SizeMismatch}
 use Rattle.validators.proofs.Validity.{the-type}
-use Rattle.validators.specs.Validate.{refusalOf, unknownOf, sameId, sizeRefusal}
+use Rattle.validators.specs.Validate.{validityRefusal, unknownOf, sameId, sizeRefusal}
 
 -- a refusal's number tells the answer
-pub refusal-only : (r s : Validity) → refusalOf r ≡ refusalOf s → r ≡ s
+pub refusal-only : (r s : Validity) → validityRefusal r ≡ validityRefusal s → r ≡ s
 refusal-only Valid Valid e = refl
 refusal-only Valid TypeMismatch e = absurd (omega arith)
 refusal-only Valid SizeMismatch e = absurd (omega arith)
@@ -76,17 +76,17 @@ module _ (a b : AdsTypeId) where
   id-same e = rw (eq-eqb (numberOf a) (numberOf b) (ap numberOf e), eq-eqb (unknownOf a) (unknownOf b) (ap unknownOf e))
 
 -- what a test of a size tells its caller, whichever way `let Validity::Valid = validate_exact_size(..) else { .. };` goes
-module _ (r : Validity) (bytes : List ℕ) (expected : ℕ) (e : refusalOf r ≡ sizeRefusal bytes expected) where
-  sized : (t : Bool) → refusalOf Valid ≡ cond t 0 10 → t ≡ true
+module _ (r : Validity) (bytes : List ℕ) (expected : ℕ) (e : validityRefusal r ≡ sizeRefusal bytes expected) where
+  sized : (t : Bool) → validityRefusal Valid ≡ cond t 0 10 → t ≡ true
   sized true q = refl
   sized false q = absurd (omega arith)
 
   -- Valid: there are as many bytes as expected
   pub size-is : r ≡ Valid → length bytes ≡ expected
   unfolding sizeRefusal
-  size-is h = eqb-true (length bytes) expected (sized (eqb (length bytes) expected) (sym (ap refusalOf h) ∙ e))
+  size-is h = eqb-true (length bytes) expected (sized (eqb (length bytes) expected) (sym (ap validityRefusal h) ∙ e))
 
-  other : (r : Validity) → OneOf (1 ∷ 2 ∷ []) (tagOf the-type r) → refusalOf r ≡ 0 → ⊥
+  other : (r : Validity) → OneOf (1 ∷ 2 ∷ []) (tagOf the-type r) → validityRefusal r ≡ 0 → ⊥
   other Valid (inl k) q = absurd (omega arith)
   other Valid (inr k) q = absurd (omega arith)
   other TypeMismatch k q = omega arith

@@ -16,10 +16,10 @@ use Rattle.type_category.specs.Category.{categoryOf}
 use Rattle.type_category.specs.Number.{categoryNumber}
 
 -- document 01's number of an answer; 0 where nothing is refused
-abbrev pub refusalOf : Validity → ℕ
-refusalOf Valid = 0
-refusalOf TypeMismatch = 17
-refusalOf SizeMismatch = 10
+abbrev pub validityRefusal : Validity → ℕ
+validityRefusal Valid = 0
+validityRefusal TypeMismatch = 17
+validityRefusal SizeMismatch = 10
 
 -- 1 for a type id that document 01 does not name, 0 for a named one
 abbrev pub unknownOf : AdsTypeId → ℕ

@@ -1,6 +1,6 @@
 // Tests on a type before its bytes are read or written.
 ghost use mathlib.Core.Path.{_≡_};
-ghost use Rattle.validators.specs.Validate.{refusalOf, unknownOf, sameId, isIn, typeIdRefusal, integerRefusal, categoryRefusal, sizeRefusal};
+ghost use Rattle.validators.specs.Validate.{validityRefusal, unknownOf, sameId, isIn, typeIdRefusal, integerRefusal, categoryRefusal, sizeRefusal};
 use category_number::number;
 use type_category::type_category::AdsTypeCategory;
 use type_id::AdsTypeId;
@@ -19,7 +19,7 @@ pub enum Validity {
 
 // Whether block n has exactly the expected type id.
 pub fn validate_type_id(book: &[u8], n: u32, expected: AdsTypeId) -> Validity
-    ensures { λ r. ⌜ refusalOf r ≡ typeIdRefusal (now (book .entry)) n expected ⌝ }
+    ensures { λ r. ⌜ validityRefusal r ≡ typeIdRefusal (now (book .entry)) n expected ⌝ }
 {
     if same_id(block::type_id(book, n), expected) {
         return Validity::Valid;
@@ -36,7 +36,7 @@ pub fn validate_integer_type_id(
     width: u8,
     size: usize,
 ) -> Validity
-    ensures { λ r. ⌜ refusalOf r ≡ integerRefusal (now (book .entry)) n expected width size ⌝ }
+    ensures { λ r. ⌜ validityRefusal r ≡ integerRefusal (now (book .entry)) n expected width size ⌝ }
 {
     if is_in(AdsTypeCategory::determine(book, width, n), INDIRECT) {
         if width as usize == size {
@@ -49,7 +49,7 @@ pub fn validate_integer_type_id(
 
 // Whether the category of block n is in a set: bit i of `expected` stands for the category of number i.
 pub fn validate_type_category(book: &[u8], n: u32, expected: u16, width: u8) -> Validity
-    ensures { λ r. ⌜ refusalOf r ≡ categoryRefusal (now (book .entry)) n expected width ⌝ }
+    ensures { λ r. ⌜ validityRefusal r ≡ categoryRefusal (now (book .entry)) n expected width ⌝ }
 {
     if is_in(AdsTypeCategory::determine(book, width, n), expected) {
         return Validity::Valid;
@@ -59,7 +59,7 @@ pub fn validate_type_category(book: &[u8], n: u32, expected: u16, width: u8) -> 
 
 // Whether there are exactly as many bytes as a type takes.
 pub fn validate_exact_size(bytes: &[u8], expected: usize) -> Validity
-    ensures { λ r. ⌜ refusalOf r ≡ sizeRefusal (now (bytes .entry)) expected ⌝ }
+    ensures { λ r. ⌜ validityRefusal r ≡ sizeRefusal (now (bytes .entry)) expected ⌝ }
 {
     if bytes.len() == expected {
         return Validity::Valid;

@@ -14,8 +14,8 @@ use Rattle.type_category.specs.declared.type_category.AdsTypeCategory.{AdsTypeC
 use Rattle.book_check.specs.Check.{ValidBook}
 use Rattle.visits.specs.declared.Parts.{Parts}
 use Rattle.visits.specs.declared.Parts.the-variants.{Element, Fields, Nothing}
-use Rattle.visits.specs.Parts.{partsKind, after, partsIn}
-use Rattle.visits.specs.Scratch.{entryOf, stackOf, markedIn, isRun, takenAt, takenFrom, pushedTo, pushedOn, Took, Pushed, BlockMarked, MarkedAndPushed}
+use Rattle.visits.specs.Parts.{partsKind, blocksAfter, partsIn}
+use Rattle.visits.specs.Scratch.{stackEntry, stackOf, markedIn, isRun, takenAt, takenFrom, pushedTo, pushedOn, Took, Pushed, BlockMarked, MarkedAndPushed}
 use Rattle.visits.proofs.Places.{fields-below}
 
 pub stack-set : (sc : List ℕ) (i x d : ℕ) → d ≤ i → stackOf (set sc i x) d ≡ stackOf sc d
@@ -31,7 +31,7 @@ marks-set sc i x u h =
     let n : 4096 + u / 32 ≡ i → ⊥ = λ e. omega arith in
     rw (getD-set-other sc i (4096 + u / 32) x 0 n)
 
-stack-suc : (sc : List ℕ) (depth t k : ℕ) → 0 < depth → getD sc (depth - 1) 0 / 65536 ≡ t → getD sc (depth - 1) 0 % 65536 ≡ k → stackOf sc depth ≡ entryOf t k ++ stackOf sc (depth - 1)
+stack-suc : (sc : List ℕ) (depth t k : ℕ) → 0 < depth → getD sc (depth - 1) 0 / 65536 ≡ t → getD sc (depth - 1) 0 % 65536 ≡ k → stackOf sc depth ≡ stackEntry t k ++ stackOf sc (depth - 1)
 unfolding stackOf
 stack-suc sc depth t k h et ek =
     let q : depth ≡ suc (depth - 1) = omega arith in
@@ -59,7 +59,7 @@ module _ (sc : List ℕ) (depth e : ℕ) (p : 0 < depth) (l : depth ≤ 4096) (z
   more-from h = rw (← ee, h)
 
   pub took-own : e % 65536 ≡ 0 → Took sc depth (record { block = e / 65536; depth = depth - 1 }) sc
-  unfolding entryOf
+  unfolding stackEntry
   took-own h =
       let n : isRun e ≡ false = le-ltb 1 (e % 65536) (omega arith) in
       record {
@@ -71,7 +71,7 @@ module _ (sc : List ℕ) (depth e : ℕ) (p : 0 < depth) (l : depth ≤ 4096) (z
       }
 
   pub took-last : e % 65536 ≡ 1 → Took sc depth (record { block = e / 65536 + 1; depth = depth - 1 }) sc
-  unfolding entryOf after
+  unfolding stackEntry blocksAfter
   took-last h =
       let n : isRun e ≡ false = le-ltb 1 (e % 65536) (omega arith) in
       record {
@@ -83,7 +83,7 @@ module _ (sc : List ℕ) (depth e : ℕ) (p : 0 < depth) (l : depth ≤ 4096) (z
       }
 
   pub took-more : (e % 65536 ≡ 0 → ⊥) → (e % 65536 ≡ 1 → ⊥) → Took sc depth (record { block = e / 65536 + e % 65536; depth = depth }) (set sc (depth - 1) (e - 1))
-  unfolding entryOf after
+  unfolding stackEntry blocksAfter
   took-more h0 h1 =
       let d : ℕ = depth - 1 in
       let j : ℕ = e % 65536 - 2 in
@@ -95,8 +95,8 @@ module _ (sc : List ℕ) (depth e : ℕ) (p : 0 < depth) (l : depth ≤ 4096) (z
       record {
         top =
             stack-suc sc depth (e / 65536) (suc (suc j)) p (rw (← ee)) (rw (← ee) kj)
-            ∙ ap (λ (n : ℕ). (e / 65536 + n) ∷ (entryOf (e / 65536) (suc j) ++ stackOf sc (depth - 1))) (sym kj)
-            ∙ ap (λ (r : List ℕ). (e / 65536 + e % 65536) ∷ (entryOf (e / 65536) (suc j) ++ r)) (sym (stack-set sc (depth - 1) (e - 1) (depth - 1) (omega arith)))
+            ∙ ap (λ (n : ℕ). (e / 65536 + n) ∷ (stackEntry (e / 65536) (suc j) ++ stackOf sc (depth - 1))) (sym kj)
+            ∙ ap (λ (r : List ℕ). (e / 65536 + e % 65536) ∷ (stackEntry (e / 65536) (suc j) ++ r)) (sym (stack-set sc (depth - 1) (e - 1) (depth - 1) (omega arith)))
             ∙ ap (λ (r : List ℕ). (e / 65536 + e % 65536) ∷ r) (sym (stack-suc (set sc (depth - 1) (e - 1)) depth (e / 65536) (suc j) p (rw s et) (rw s ek)));
         marks = λ u. marks-set sc (depth - 1) (e - 1) u (omega arith);
         less = omega arith;
@@ -106,8 +106,8 @@ module _ (sc : List ℕ) (depth e : ℕ) (p : 0 < depth) (l : depth ≤ 4096) (z
 
 -- ---- push
 
-after-few : (t k : ℕ) → length (after t k) ≡ k
-unfolding after
+after-few : (t k : ℕ) → length (blocksAfter t k) ≡ k
+unfolding blocksAfter
 after-few t zero = refl
 after-few t (suc k) = ap suc (after-few t k)
 
@@ -115,7 +115,7 @@ module _ (book : List ℕ) (sc : List ℕ) (depth t : ℕ) (l : depth < 4096) (z
   abbrev parts : List ℕ
   parts = partsIn book t (partsKind c)
 
-  laid : (n : ℕ) → n < 65536 → entryOf t n ≡ parts → length parts ≤ 65535 → depth + 1 ≡ pushedTo book depth t (partsKind c)
+  laid : (n : ℕ) → n < 65536 → stackEntry t n ≡ parts → length parts ≤ 65535 → depth + 1 ≡ pushedTo book depth t (partsKind c)
       → set sc depth (t * 65536 + n) ≡ pushedOn book sc depth t (partsKind c) → Pushed book c sc depth t (depth + 1) (set sc depth (t * 65536 + n))
   unfolding stackOf
   laid n h e f ep es =
@@ -142,7 +142,7 @@ module _ (book : List ℕ) (sc : List ℕ) (depth t : ℕ) (l : depth < 4096) (z
     kind-is x h = sym ek ∙ h
 
     pub push-element : k ≡ Element → Pushed book c sc depth t (depth + 1) (set sc depth (t * 65536))
-    unfolding partsIn entryOf pushedTo pushedOn
+    unfolding partsIn stackEntry pushedTo pushedOn
     push-element h =
         let q : t * 65536 + 0 ≡ t * 65536 = omega arith in
         let p = kind-is Element h in
@@ -153,25 +153,25 @@ module _ (book : List ℕ) (sc : List ℕ) (depth t : ℕ) (l : depth < 4096) (z
     push-nothing h = let p = kind-is Nothing h in kept (rw p) (rw p) (rw p)
 
     module _ (h : k ≡ Fields) (n : ℕ) (en : n ≡ fieldsOf book t) where
-      fields : parts ≡ after t n
+      fields : parts ≡ blocksAfter t n
       unfolding partsIn
       fields = rw (kind-is Fields h, ← en)
 
       pub push-none : n ≡ 0 → Pushed book c sc depth t depth sc
-      unfolding after pushedTo pushedOn
+      unfolding blocksAfter pushedTo pushedOn
       push-none e =
           let p = kind-is Fields h in
           let z : eqb n 0 ≡ true = eq-eqb n 0 e in
-          kept (sym (fields ∙ ap (after t) e)) (rw (p, ← en, z)) (rw (p, ← en, z))
+          kept (sym (fields ∙ ap (blocksAfter t) e)) (rw (p, ← en, z)) (rw (p, ← en, z))
 
       pub push-fields : ValidBook book → isType book t ≡ true → (n ≡ 0 → ⊥) → Pushed book c sc depth t (depth + 1) (set sc depth (t * 65536 + n))
-      unfolding entryOf pushedTo pushedOn
+      unfolding stackEntry pushedTo pushedOn
       push-fields v y e =
           let q : n ≡ suc (n - 1) = omega arith in
           let b : n < 65536 = fields-below book t v y n en in
           let p = kind-is Fields h in
           let z : eqb n 0 ≡ false = ne-eqb n 0 e in
-          laid n b (ap (entryOf t) q ∙ ap (after t) (sym q) ∙ sym fields) (rw (fields, after-few) (omega arith)) (rw (p, ← en, z)) (rw (p, ← en, z))
+          laid n b (ap (stackEntry t) q ∙ ap (blocksAfter t) (sym q) ∙ sym fields) (rw (fields, after-few) (omega arith)) (rw (p, ← en, z)) (rw (p, ← en, z))
 
 -- ---- expand
 

@@ -27,15 +27,15 @@ partsKind category.Pointer = Nothing
 partsKind category.Reference = Nothing
 partsKind category.Interface = Nothing
 
--- the k blocks after block t, the last one first
-unfoldable pub after : ℕ → ℕ → List ℕ
-after t zero = []
-after t (suc k) = (t + suc k) ∷ after t k
+-- the k blocks blocksAfter block t, the last one first
+unfoldable pub blocksAfter : ℕ → ℕ → List ℕ
+blocksAfter t zero = []
+blocksAfter t (suc k) = (t + suc k) ∷ blocksAfter t k
 
 -- the blocks that name what type block t is made of, by the kind of its parts
 unfoldable pub partsIn : List ℕ → ℕ → Parts → List ℕ
 partsIn book t Element = t ∷ []
-partsIn book t Fields = after t (fieldsOf book t)
+partsIn book t Fields = blocksAfter t (fieldsOf book t)
 partsIn book t Nothing = []
 
 -- the blocks whose type names are those that type block t is made of, in the order they are taken: an array's own block, or field blocks

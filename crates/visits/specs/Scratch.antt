@@ -12,19 +12,19 @@ use Rattle.type_category.specs.declared.type_category.AdsTypeCategory.{AdsTypeC
 use Rattle.visits.specs.declared.Parts.{Parts}
 use Rattle.visits.specs.declared.Parts.the-variants.{Element, Fields, Nothing}
 use Rattle.visits.specs.declared.Taken.{Taken}
-use Rattle.visits.specs.Parts.{after, partsKind, partsIn}
+use Rattle.visits.specs.Parts.{blocksAfter, partsKind, partsIn}
 
 -- ---- what the numbers stand for
 
--- an entry t * 65536 + k: the k blocks after t, the last one first; with k = 0, t itself
-unfoldable pub entryOf : ℕ → ℕ → List ℕ
-entryOf t zero = t ∷ []
-entryOf t (suc k) = after t (suc k)
+-- an entry t * 65536 + k: the k blocks blocksAfter t, the last one first; with k = 0, t itself
+unfoldable pub stackEntry : ℕ → ℕ → List ℕ
+stackEntry t zero = t ∷ []
+stackEntry t (suc k) = blocksAfter t (suc k)
 
 -- the blocks on the stack of so many entries, the top one first
 unfoldable pub stackOf : List ℕ → ℕ → List ℕ
 stackOf sc zero = []
-stackOf sc (suc d) = entryOf (getD sc d 0 / 65536) (getD sc d 0 % 65536) ++ stackOf sc d
+stackOf sc (suc d) = stackEntry (getD sc d 0 / 65536) (getD sc d 0 % 65536) ++ stackOf sc d
 
 -- the bit of block t is set
 unfoldable pub markedIn : List ℕ → ℕ → Bool
@@ -43,7 +43,7 @@ unfoldable pub hasRef : List ℕ → List ℕ → List ℕ → Bool
 hasRef book [] x = false
 hasRef book (b ∷ bs) x = namesIt book b x || hasRef book bs x
 
--- ---- the numbers after a call
+-- ---- the numbers blocksAfter a call
 
 -- the scratch with the bit of block t set
 unfoldable pub markedOn : List ℕ → ℕ → List ℕ

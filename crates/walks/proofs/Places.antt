@@ -20,14 +20,14 @@ use Rattle.book_check.proofs.Valid.{valid-type}
 use Rattle.resolvers.proofs.Chains.{found-typed}
 use Rattle.visits.specs.declared.Parts.{Parts}
 use Rattle.visits.specs.declared.Parts.the-variants.{Element, Fields, Nothing}
-use Rattle.visits.specs.Parts.{partsKind, after, partsIn, partsOf}
+use Rattle.visits.specs.Parts.{partsKind, blocksAfter, partsIn, partsOf}
 use Rattle.visits.specs.Scratch.{isPart}
 use Rattle.visits.proofs.Places.{type-below, part-field, part-dimensions}
 
 -- ---- parts
 
-in-after : (t k b : ℕ) → List·Memᴰ b (after t k) → (j : ℕ) × (j < k) × (b ≡ t + 1 + j)
-unfolding after
+in-after : (t k b : ℕ) → List·Memᴰ b (blocksAfter t k) → (j : ℕ) × (j < k) × (b ≡ t + 1 + j)
+unfolding blocksAfter
 in-after t zero b m = absurd (List·Memᴰ·not-nil m)
 in-after t (suc k) b m =
     ⊎-elim (λ e. (k, omega arith, omega arith)) (λ n. let r = in-after t k b n in (r .0, omega (arith, r .1), r .2)) (List·Memᴰ·cases-cons m)

@@ -14,7 +14,7 @@ use Rattle.type_provider.specs.Find.{find}
 use Rattle.typebook.proofs.Names.{same-eq, same-refl}
 use Rattle.resolvers.specs.declared.Resolved.{Resolved}
 use Rattle.resolvers.specs.declared.Resolved.the-variants.{Base, Lacks, TooLong}
-use Rattle.resolvers.specs.Resolve.{onward, resolveAlias}
+use Rattle.resolvers.specs.Resolve.{chainOnward, resolveAlias}
 use Rattle.visits.specs.Parts.{partsOf}
 use Rattle.walks.specs.Walk.{Walk, over, met, comesTo, has, push, meet, walk, walkFrom, walkOf}
 use Rattle.walks.specs.Reads.{names, count, listed, whole}
@@ -41,12 +41,12 @@ push-cases book width s TooLong m p q = q m
 
 -- a name comes to a type: the book defines it, and its aliases end there
 look-base : (book : List ℕ) (width b u : ℕ) (f : Found) → comesTo book width b f ≡ Base u → (t : ℕ) × (f ≡ At t) × (resolveAlias book width t ≡ Base u)
-unfolding onward
+unfolding chainOnward
 look-base book width b u (At t) h = (t, refl, h)
 look-base book width b u Nothing h = absurd (let z : _≡_ {A = ℕ} 0 1 = cc in omega arith)
 
 base-look : (book : List ℕ) (width b u t : ℕ) (f : Found) → f ≡ At t → resolveAlias book width t ≡ Base u → comesTo book width b f ≡ Base u
-unfolding onward
+unfolding chainOnward
 base-look book width b u t f e h = rw e h
 
 -- ---- (i)
@@ -257,5 +257,5 @@ count-whole book width root = from-count book width (nameOf book root) root
 
 -- a walk from a name that the book lacks meets that name alone: its block is listed, or 7 is answered with it
 pub from-lacking : (book : List ℕ) (width : ℕ) (name : List ℕ) (block : ℕ) → find book name ≡ Nothing → walkFrom book width name block ≡ met block name (Lacks block) over
-unfolding meet push onward
+unfolding meet push chainOnward
 from-lacking book width name block h = rw (h, walk-none book width 4095 (name ∷ []))

@@ -8,7 +8,7 @@ use Rattle.visits.specs.Scratch.{stackOf}
 use Rattle.events.specs.declared.Event.{Event}
 use Rattle.events.specs.declared.Event.the-variants.{Old, Lacking, New, Long, Full}
 use Rattle.walks.specs.Walk.{Walk, over, walk}
-use Rattle.walks.specs.State.{Left, Falls, Due, IsDue, work, Stepped, Started}
+use Rattle.walks.specs.State.{LeftToWalk, Falls, Due, IsDue, work, Stepped, Started}
 use Rattle.walks.proofs.Goes.{walk-none}
 
 -- ---- what is due
@@ -41,7 +41,7 @@ module _ (left : ℕ) {e : Event} (p : IsDue left e) where
 
 -- ---- an empty stack
 
-pub over-is : (book : List ℕ) (width : ℕ) (ls : List ℕ) {sc : List ℕ} {left depth : ℕ} {w : Walk} → Left book width sc ls left depth w → depth ≤ 0 → w ≡ over
+pub over-is : (book : List ℕ) (width : ℕ) (ls : List ℕ) {sc : List ℕ} {left depth : ℕ} {w : Walk} → LeftToWalk book width sc ls left depth w → depth ≤ 0 → w ≡ over
 unfolding stackOf
 over-is book width ls {sc} {left} {depth} l h =
     let z : depth ≡ 0 = omega arith in

@@ -18,7 +18,7 @@ use Rattle.book_check.specs.Check.{ValidBook}
 use Rattle.book_check.proofs.Valid.{valid-own}
 use Rattle.resolvers.specs.declared.Resolved.{Resolved}
 use Rattle.resolvers.specs.declared.Resolved.the-variants.{Base, Lacks, TooLong}
-use Rattle.resolvers.specs.Resolve.{onward, resolveAlias}
+use Rattle.resolvers.specs.Resolve.{chainOnward, resolveAlias}
 use Rattle.visits.specs.declared.Taken.{Taken}
 use Rattle.visits.specs.Scratch.{stackOf, markedIn, isPart, namesIt, hasRef, Took}
 use Rattle.visits.specs.Parts.{partsOf}
@@ -26,7 +26,7 @@ use Rattle.events.specs.Events.{settledEvent, Dead, Settled, Settles}
 use Rattle.events.specs.declared.Event.{Event}
 use Rattle.events.specs.declared.Event.the-variants.{Old, Lacking, New, Long, Full}
 use Rattle.walks.specs.Walk.{Walk, met, comesTo, has, push, walk, meet, walkOf}
-use Rattle.walks.specs.State.{seenBy, turnEvent, newOn, turnOn, stepEvent, stepOn, Left, After, work, Falls, Due, Stepped, Started}
+use Rattle.walks.specs.State.{seenBy, turnEvent, newOn, turnOn, stepEvent, stepOn, LeftToWalk, After, work, Falls, Due, Stepped, Started}
 use Rattle.walks.proofs.Goes.{walk-old, walk-fresh, walk-stop}
 use Rattle.walks.proofs.Places.{find-name, part-is}
 
@@ -100,11 +100,11 @@ module _ (book : List ℕ) (width : ℕ) (ls : List ℕ) (v : List (List ℕ)) (
     (parts : (c : ℕ) → List·Memᴰ c (stackOf sc d) → isPart book c ≡ true) (room : d + left ≤ 4096) (n : 0 < left) (ey : find book y ≡ At t) {w : Walk}
     (ew : w ≡ met b y (comesTo book width b (At t)) (walk book width (left - 1) (y ∷ v) (push book width (comesTo book width b (At t)) (stackOf sc d)))) where
   met-as : (a : Resolved) → resolveAlias book width t ≡ a → w ≡ met b y a (walk book width (left - 1) (y ∷ v) (push book width a (stackOf sc d)))
-  unfolding onward
+  unfolding chainOnward
   met-as a h = ew ∙ ap (λ (a : Resolved). met b y a (walk book width (left - 1) (y ∷ v) (push book width a (stackOf sc d)))) h
 
   dead-left : {r : ℕ} {sc′ : List ℕ} → Dead sc d t r sc′ → (ls′ : List ℕ) → ((x : List ℕ) (f : Found) → seenBy book sc′ ls x f ≡ seenBy book sc′ ls′ x f)
-      → Left book width sc′ ls′ (left - 1) r (walk book width (left - 1) (y ∷ v) (stackOf sc d))
+      → LeftToWalk book width sc′ ls′ (left - 1) r (walk book width (left - 1) (y ∷ v) (stackOf sc d))
   dead-left {r} {sc′} x ls′ q =
       record {
         v = y ∷ v;
@@ -163,17 +163,17 @@ settled-falls book width sc left d t m n h Full sc′ s = absurd s
 -- ---- a turn
 
 module _ (book : List ℕ) (width : ℕ) (ls : List ℕ) (left : ℕ) {sc sc′ : List ℕ} {depth : ℕ} {k : Taken} (pos : 0 < depth) (took : Took sc depth k sc′) where
-  seen-after : {w : Walk} (l : Left book width sc ls left depth w) (x : List ℕ) → has (l .v) x ≡ seenBy book sc′ ls x (find book x)
+  seen-after : {w : Walk} (l : LeftToWalk book width sc ls left depth w) (x : List ℕ) → has (l .v) x ≡ seenBy book sc′ ls x (find book x)
   seen-after l x = l .seen pos x ∙ seen-marks book ls sc sc′ (took .marks) x (find book x)
 
-  is-seen : {w : Walk} (l : Left book width sc ls left depth w) (f : Found) → f ≡ find book (typeNameOf book (k .block))
+  is-seen : {w : Walk} (l : LeftToWalk book width sc ls left depth w) (f : Found) → f ≡ find book (typeNameOf book (k .block))
       → has (l .v) (typeNameOf book (k .block)) ≡ seenBy book sc′ ls (typeNameOf book (k .block)) f
   is-seen l f ef = rw ef (seen-after l (typeNameOf book (k .block)))
 
-  is-top : {w : Walk} (l : Left book width sc ls left depth w) → w ≡ walk book width left (l .v) (k .block ∷ stackOf sc′ (k .depth))
+  is-top : {w : Walk} (l : LeftToWalk book width sc ls left depth w) → w ≡ walk book width left (l .v) (k .block ∷ stackOf sc′ (k .depth))
   is-top l = l .is ∙ ap (walk book width left (l .v)) (took .top)
 
-  parts-after : {w : Walk} (l : Left book width sc ls left depth w) (c : ℕ) → List·Memᴰ c (stackOf sc′ (k .depth)) → isPart book c ≡ true
+  parts-after : {w : Walk} (l : LeftToWalk book width sc ls left depth w) (c : ℕ) → List·Memᴰ c (stackOf sc′ (k .depth)) → isPart book c ≡ true
   parts-after l c m = l .parts c (rw (took .top) (List·Memᴰ·tail m))
 
   length-top : length (stackOf sc depth) ≡ suc (length (stackOf sc′ (k .depth)))
@@ -221,7 +221,7 @@ module _ (book : List ℕ) (width : ℕ) (ls : List ℕ) (left : ℕ) {sc sc′ 
           numbers = numbers-are (rw (h, z));
         }
 
-    module _ (h : seenBy book sc′ ls (typeNameOf book (k .block)) f ≡ false) (n : left ≡ 0 → ⊥) {w : Walk} (l : Left book width sc ls left depth w) (g : Found) (eg : f ≡ g) where
+    module _ (h : seenBy book sc′ ls (typeNameOf book (k .block)) f ≡ false) (n : left ≡ 0 → ⊥) {w : Walk} (l : LeftToWalk book width sc ls left depth w) (g : Found) (eg : f ≡ g) where
       is-met : w ≡ met (k .block) (typeNameOf book (k .block)) (comesTo book width (k .block) g) (walk book width (left - 1) (typeNameOf book (k .block) ∷ l .v) (push book width (comesTo book width (k .block) g) (stackOf sc′ (k .depth))))
       is-met =
           let q : left ≡ suc (left - 1) = omega arith in
@@ -245,7 +245,7 @@ module _ (book : List ℕ) (width : ℕ) (ls : List ℕ) (left : ℕ) {sc sc′ 
         step-full z = stepped-stop fresh z
 
         pub step-new : {sc″ : List ℕ} {r : Event} → (left ≡ 0 → ⊥) → Settles book width sc′ (k .depth) t r sc″ → Stepped book width sc ls left depth r sc″
-        unfolding work turnEvent turnOn newOn onward
+        unfolding work turnEvent turnOn newOn chainOnward
         step-new {sc″} {r} n x =
             let ey : find book (typeNameOf book (k .block)) ≡ At t = sym ef ∙ ft in
             let p : 0 < left = omega (arith, n) in
@@ -275,7 +275,7 @@ module _ (book : List ℕ) (width : ℕ) (ls : List ℕ) (left : ℕ) {sc sc′ 
         step-full′ z = stepped-stop fresh′ z
 
         pub step-lacking : (left ≡ 0 → ⊥) → Stepped book width sc ls left depth (Lacking (k .block) (k .depth)) sc′
-        unfolding push onward work turnEvent turnOn newOn settledEvent
+        unfolding push chainOnward work turnEvent turnOn newOn settledEvent
         step-lacking n =
             let ey : find book (typeNameOf book (k .block)) ≡ Nothing = sym ef ∙ ft in
             let z : eqb left 0 ≡ false = ne-eqb left 0 n in

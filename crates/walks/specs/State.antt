@@ -58,7 +58,7 @@ stepOn book width sc ls left depth =
 -- ---- what they stand for
 
 -- w is what is left to walk
-pub record Left (book : List ℕ) (width : ℕ) (sc ls : List ℕ) (left depth : ℕ) (w : Walk) : Type 0 where
+pub record LeftToWalk (book : List ℕ) (width : ℕ) (sc ls : List ℕ) (left depth : ℕ) (w : Walk) : Type 0 where
   pub v : List (List ℕ)
   pub seen : 0 < depth → (x : List ℕ) → has v x ≡ seenBy book sc ls x (find book x)
   pub is : w ≡ walk book width left v (stackOf sc depth)
@@ -73,7 +73,7 @@ pub record AfterNew (book : List ℕ) (width : ℕ) (sc ls : List ℕ) (left t d
   pub name : List ℕ
   pub next : Walk
   pub is : w ≡ met by name (Base t) next
-  pub left-over : Left book width sc ls left depth next
+  pub left-over : LeftToWalk book width sc ls left depth next
 
 -- the walk w meets a name that comes to nothing at block b, whose type name is not in the book; its rest is left to walk, with b listed
 pub record AfterLacking (book : List ℕ) (width : ℕ) (sc ls : List ℕ) (left b depth : ℕ) (w : Walk) : Type 0 where
@@ -81,7 +81,7 @@ pub record AfterLacking (book : List ℕ) (width : ℕ) (sc ls : List ℕ) (left
   pub name : List ℕ
   pub next : Walk
   pub is : w ≡ met by name (Lacks b) next
-  pub left-over : Left book width sc (ls ++ (b ∷ [])) left depth next
+  pub left-over : LeftToWalk book width sc (ls ++ (b ∷ [])) left depth next
 
 -- the walk w meets a name whose alias chain is too long; the rest of w is what is left to walk
 pub record AfterLong (book : List ℕ) (width : ℕ) (sc ls : List ℕ) (left depth : ℕ) (w : Walk) : Type 0 where
@@ -89,7 +89,7 @@ pub record AfterLong (book : List ℕ) (width : ℕ) (sc ls : List ℕ) (left de
   pub name : List ℕ
   pub next : Walk
   pub is : w ≡ met by name TooLong next
-  pub left-over : Left book width sc ls left depth next
+  pub left-over : LeftToWalk book width sc ls left depth next
 
 -- the name is one too many, and nothing is left
 pub record AfterFull (w : Walk) : Type 0 where
@@ -99,7 +99,7 @@ pub record AfterFull (w : Walk) : Type 0 where
 
 -- what an event tells of the walk w, whose next event it is, or which it leaves as it is where the name was visited
 abbrev pub After : List ℕ → ℕ → List ℕ → List ℕ → ℕ → Walk → Event → Type 0
-After book width sc ls left w (Old d) = Left book width sc ls left d w
+After book width sc ls left w (Old d) = LeftToWalk book width sc ls left d w
 After book width sc ls left w (Lacking b d) = AfterLacking book width sc ls (left - 1) b d w
 After book width sc ls left w (New t d c) = AfterNew book width sc ls (left - 1) t d c w
 After book width sc ls left w (Long d) = AfterLong book width sc ls (left - 1) d w
@@ -120,7 +120,7 @@ Falls sc left n Full = left ≡ 0
 -- one turn gives the next event of any walk that the state stands for, and less is left to do; its event and every number
 -- of the scratch are fixed
 pub record Stepped (book : List ℕ) (width : ℕ) (sc ls : List ℕ) (left depth : ℕ) (r : Event) (sc′ : List ℕ) : Type 0 where
-  pub goes : (w : Walk) → Left book width sc ls left depth w → After book width sc′ ls left w r
+  pub goes : (w : Walk) → LeftToWalk book width sc ls left depth w → After book width sc′ ls left w r
   pub falls : Falls sc′ left (work sc left depth) r
   pub event : r ≡ stepEvent book width sc ls left depth
   pub numbers : sc′ ≡ stepOn book width sc ls left depth

@@ -8,12 +8,12 @@ use Rattle.typebook.specs.Book.{nameOf, typeNameOf, sameName}
 use Rattle.type_provider.specs.Find.{find}
 use Rattle.resolvers.specs.declared.Resolved.{Resolved}
 use Rattle.resolvers.specs.declared.Resolved.the-variants.{Base, Lacks, TooLong}
-use Rattle.resolvers.specs.Resolve.{onward, resolveAlias}
+use Rattle.resolvers.specs.Resolve.{chainOnward, resolveAlias}
 use Rattle.visits.specs.Parts.{partsOf}
 
 -- what a name that block b names comes to, by what the look-up of that name found: a type with its aliases resolved, or 7 or 8
 abbrev pub comesTo : List ℕ → ℕ → ℕ → Found → Resolved
-comesTo book width b f = onward (resolveAlias book width) b f
+comesTo book width b f = chainOnward (resolveAlias book width) b f
 
 -- ---- the walk
 

@@ -10,7 +10,7 @@ use lib.Dec.{ltb, eqb}
 use borrow.Author.Tests.{le-ltb, le-leb, lt-leb, eq-eqb, ne-eqb, eqb-true, ltb-true}
 use Rattle.windows_1252.specs.declared.Byte.{Byte}
 use Rattle.windows_1252.specs.declared.Byte.the-variants.{Is, None}
-use Rattle.windows_1252.specs.Index.{listed, codePoint, codePoints, firstFrom, byteOf}
+use Rattle.windows_1252.specs.Index.{listedPoints, codePoint, codePoints, firstFrom, byteOf}
 use Rattle.windows_1252.proofs.Table.{at, same}
 
 -- ---- the code point of a byte
@@ -34,7 +34,7 @@ own-high b h =
 
 -- each byte is the byte of its code point
 byte-of-code : (b : ℕ) → b < 256 → byteOf (codePoint b) ≡ Is b
-unfolding listed codePoint firstFrom byteOf
+unfolding listedPoints codePoint firstFrom byteOf
 byte-of-code b h = same (λ (k : ℕ). byteOf (codePoint k)) Is 256 b None refl h
 
 pub byte-is : (b c : ℕ) → b < 256 → codePoint b ≡ c → Is b ≡ byteOf c

@@ -14,7 +14,7 @@ use Rattle.utf_8.specs.declared.Room.the-variants.{Fits, Over}
 use Rattle.utf_8.specs.Buffer.{Wrote, Laid, roomFor}
 use Rattle.utf_8.specs.Utf8.{utf8Of}
 use Rattle.utf_8.proofs.Splices.{wrote-as, wrote-none}
-use Rattle.ascii.specs.Ascii.{ascii}
+use Rattle.ascii.specs.Ascii.{isAscii}
 use Rattle.windows_1252.specs.Index.{codePoints}
 use Rattle.windows_1252.specs.Text.{decodeByte, decodeText}
 use Rattle.windows_1252.proofs.Indexes.{point-is}
@@ -81,7 +81,7 @@ module _ (xs out bytes out₁ : List ℕ) (at i n : ℕ) (q : Rest xs out at (de
 
 -- ---- put_block
 
-module _ (block : List ℕ) (t : Bool) (e : t ≡ ascii block) (y : t ≡ true) where
+module _ (block : List ℕ) (t : Bool) (e : t ≡ isAscii block) (y : t ≡ true) where
   block-room : (out : List ℕ) (at : ℕ) → at + length (decodeText block) ≤ length out → at + length block ≤ length out
   block-room out at h = omega (arith, ascii-length block t e y)
 

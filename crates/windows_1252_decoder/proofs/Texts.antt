@@ -14,9 +14,9 @@ use borrow.Author.Tests.{le-leb, leb-true}
 use Rattle.utf_8.specs.Utf8.{utf8Of, encoded, decodeFrom, noError, wellFormed}
 use Rattle.utf_8.proofs.Encodes.{Bytes, utf8-one, utf8-short}
 use Rattle.utf_8.proofs.Trips.{formed-utf8}
-use Rattle.ascii.specs.Ascii.{ascii}
+use Rattle.ascii.specs.Ascii.{isAscii}
 use Rattle.ascii.proofs.Ascii.{ascii-first}
-use Rattle.windows_1252.specs.Index.{listed, codePoint}
+use Rattle.windows_1252.specs.Index.{listedPoints, codePoint}
 use Rattle.windows_1252.specs.Text.{decodeByte, decodeText}
 use Rattle.windows_1252.proofs.Indexes.{own-low}
 use Rattle.windows_1252.proofs.Table.{at, same}
@@ -25,7 +25,7 @@ use Rattle.windows_1252_decoder.specs.Lengths.{utf8Lengths}
 -- ---- a byte's code point takes 1 to 3 bytes
 
 pub byte-short : (b : ℕ) → b < 256 → length (decodeByte b) ≤ 3
-unfolding listed codePoint utf8Of encoded
+unfolding listedPoints codePoint utf8Of encoded
 byte-short b h = leb-true (length (decodeByte b)) 3 (same (λ (k : ℕ). leb (length (decodeByte k)) 3) (λ k. true) 256 b true refl h)
 
 module _ (l : List ℕ) (b : ℕ) (e : l ≡ utf8Lengths) (h : b < 256) where
@@ -78,12 +78,12 @@ decode-some (b ∷ bs) n = rw length-append (omega (arith, utf8-short (codePoint
 pub ascii-byte : (b : ℕ) → b < 0x80 → decodeByte b ≡ b ∷ []
 ascii-byte b h = rw (own-low b h, utf8-one b h)
 
-pub ascii-text : (bytes : List ℕ) → ascii bytes ≡ true → decodeText bytes ≡ bytes
+pub ascii-text : (bytes : List ℕ) → isAscii bytes ≡ true → decodeText bytes ≡ bytes
 unfolding decodeText flatMap
 ascii-text [] h = refl
 ascii-text (b ∷ bs) h = let f = ascii-first b bs h in rw (ascii-byte b (f .low), ascii-text bs (f .rest))
 
-pub ascii-length : (block : List ℕ) (t : Bool) → t ≡ ascii block → t ≡ true → length block ≡ length (decodeText block)
+pub ascii-length : (block : List ℕ) (t : Bool) → t ≡ isAscii block → t ≡ true → length block ≡ length (decodeText block)
 ascii-length block t e h = ap length (sym (ascii-text block (sym e ∙ h)))
 
 -- ---- the decoded text

@@ -17,7 +17,7 @@ use Rattle.utf_8.specs.Buffer.{Wrote, Laid, roomFor}
 use Rattle.utf_8.specs.Utf8.{Item, scalar, error, replaced, nextAt}
 use Rattle.utf_8.proofs.Decodes.{next-end, next-one}
 use Rattle.utf_8.proofs.Items.{Begins, next-code, next-error, next-none}
-use Rattle.ascii.specs.Ascii.{ascii}
+use Rattle.ascii.specs.Ascii.{isAscii}
 use Rattle.ascii.proofs.Ascii.{ascii-first}
 use Rattle.windows_1252.specs.declared.Byte.{Byte}
 use Rattle.windows_1252.specs.declared.Byte.the-variants.{Is, None}
@@ -95,7 +95,7 @@ module _ (c : ℕ) (l : c < 0x80) where
 
 -- ---- a text that begins with ASCII
 
-ascii-encode : (xs ys : List ℕ) → ascii xs ≡ true → encodeText (xs ++ ys) ≡ xs ++ encodeText ys
+ascii-encode : (xs ys : List ℕ) → isAscii xs ≡ true → encodeText (xs ++ ys) ≡ xs ++ encodeText ys
 ascii-encode [] ys h = refl
 ascii-encode (x ∷ xs) ys h =
     let f = ascii-first x xs h in

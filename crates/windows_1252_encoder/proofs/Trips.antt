@@ -6,14 +6,14 @@ use Prim.Native.Nat.{ℕ, suc, _<_}
 use Rattle.utf_8.specs.Utf8.{isScalar, decodeFrom}
 use Rattle.utf_8.proofs.Encodes.{Bytes}
 use Rattle.utf_8.proofs.Trips.{decode-utf8}
-use Rattle.windows_1252.specs.Index.{listed, codePoint, byteOf}
+use Rattle.windows_1252.specs.Index.{listedPoints, codePoint, byteOf}
 use Rattle.windows_1252.specs.Text.{decodeByte, decodeText, encodeText}
 use Rattle.windows_1252.proofs.Table.{same}
 use Rattle.windows_1252.proofs.Indexes.{byte-is}
 use Rattle.windows_1252_encoder.proofs.Encoders.{code-byte}
 
 point-scalar : (b : ℕ) → b < 256 → isScalar (codePoint b) ≡ true
-unfolding listed codePoint
+unfolding listedPoints codePoint
 point-scalar b h = same (λ (k : ℕ). isScalar (codePoint k)) (λ k. true) 256 b true refl h
 
 encode-byte : (b : ℕ) (rest : List ℕ) → b < 256 → encodeText (decodeByte b ++ rest) ≡ b ∷ encodeText rest

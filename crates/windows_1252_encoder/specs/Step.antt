@@ -4,7 +4,7 @@ use mathlib.Core.Bool.{true}
 use mathlib.Core.List.{List, _++_}
 use Prim.Native.Nat.{ℕ, _<_, _≤_}
 use lib.ListN.{length, take, drop}
-use Rattle.ascii.specs.Ascii.{ascii}
+use Rattle.ascii.specs.Ascii.{isAscii}
 use Rattle.windows_1252.specs.Text.{encodeCode, encodeText}
 
 -- the scalar value c of a text at the place `at`, with the place e after it, as the encoder takes it
@@ -16,4 +16,4 @@ pub record Taken (text : List ℕ) (at c e : ℕ) : Type 0 where
 -- the first n bytes of a text are ASCII
 pub record AsciiTo (text : List ℕ) (n : ℕ) : Type 0 where
   pub within : n ≤ length text
-  pub is : ascii (take n text) ≡ true
+  pub is : isAscii (take n text) ≡ true

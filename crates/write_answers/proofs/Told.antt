@@ -29,7 +29,7 @@ use Rattle.field_types.specs.Fields.{fieldsCheck, resolveField}
 use Rattle.shape.specs.declared.Shape.{Shape}
 use Rattle.shape.specs.declared.Shape.the-variants as shape
 use Rattle.shape.specs.Value.{shapeOf}
-use Rattle.shape.specs.Array.{strideOf, bytesOf}
+use Rattle.shape.specs.Array.{strideOf, arrayBytes}
 use Rattle.named_blocks.specs.Named.{entryNamed, fieldNamed}
 use Rattle.tape.specs.Record.{stepAt}
 use Rattle.tape.specs.Text.{recordText}
@@ -43,8 +43,8 @@ use Rattle.ser_leaf.proofs.Tells.{Tells, leaf-tells}
 use Rattle.ser_leaf.specs.Leaf as leaf
 use Rattle.ser.specs.declared.array_writer.Entered.{Entered}
 use Rattle.ser.specs.declared.array_writer.Entered.the-variants as entered
-use Rattle.array_elements.specs.Element.{Item, whole, further, shapeAt, elementItem, elementCheck}
-use Rattle.ser.specs.Write.{Ctx, ctx, Outcome, went, refused, _then_, Child, placed, takenBy, taken, endBy, leafEnd, leafOf, checked, fieldValue, foundValue, keyBy, keyOf, keysFrom, mapBy, mapOf, elementsFrom, elementsBy, dimensionOf, elementType, enteredBy, enteredAt, arrayBy, arrayOf, valueBy, itemWalk, walk}
+use Rattle.array_elements.specs.Element.{Content, whole, further, shapeAt, elementItem, elementCheck}
+use Rattle.ser.specs.Write.{Ctx, ctx, Outcome, went, refused, _then_, Child, placed, takenBy, taken, endRecordBy, leafEnd, leafOf, checked, fieldValue, foundValue, keyBy, keyOf, keysFrom, mapBy, mapOf, elementsFrom, elementsBy, dimensionOf, elementType, enteredBy, enteredAt, arrayBy, arrayOf, valueBy, itemWalk, walk}
 use Rattle.tape_form.specs.Form.{formed}
 use Rattle.ser.specs.Call.{typeWrite, rootBy, rootWrite, bookWrite, writeCall, answerOf, writeNumbers}
 use Rattle.ser.specs.declared.WriteAnswer.the-variants.{NotFound}
@@ -144,8 +144,8 @@ fine-taken : (tape : List ℕ) (at : Cursor) (bytes : List ℕ) (f : Record → 
 unfolding taken
 fine-taken tape at bytes f h = fine-by bytes f (stepAt tape (at .at)) h
 
-fine-end : (tape : List ℕ) (at : Cursor) (kind : ℕ) (bytes : List ℕ) → Fine (taken tape at bytes (endBy kind bytes))
-unfolding endBy
+fine-end : (tape : List ℕ) (at : Cursor) (kind : ℕ) (bytes : List ℕ) → Fine (taken tape at bytes (endRecordBy kind bytes))
+unfolding endRecordBy
 fine-end tape at kind bytes =
     fine-taken tape at bytes _ (λ r next. fine-cond (eqb (r .kind) kind) _ _ (fine-went next bytes) (fine-refused 16 0 bytes is-16))
 
@@ -177,7 +177,7 @@ module _ (book : List ℕ) (width : ℕ) (tape text : List ℕ) where
 
   -- ---- with what is written at one level less
 
-  module _ (child : Child) (ih : (i : Item ℕ) (at : Cursor) (bytes : List ℕ) → Fine (child i at bytes)) where
+  module _ (child : Child) (ih : (i : Content ℕ) (at : Cursor) (bytes : List ℕ) → Fine (child i at bytes)) where
     field-fine : (at : Cursor) (bytes : List ℕ) (f : FieldAnswer) → Fine (fieldValue child at bytes f)
     unfolding fieldValue
     field-fine at bytes (answer.Field f) =
@@ -212,7 +212,7 @@ module _ (book : List ℕ) (width : ℕ) (tape text : List ℕ) where
     unfolding mapOf
     map-fine t n at bytes = map-by t n at bytes (shapeAt (c .book) (c .width) t)
 
-    elements-from : (i : Item ℕ) (stride n x from k : ℕ) (at : Cursor) (bytes : List ℕ) → Fine (elementsFrom child c i stride n x from k at bytes)
+    elements-from : (i : Content ℕ) (stride n x from k : ℕ) (at : Cursor) (bytes : List ℕ) → Fine (elementsFrom child c i stride n x from k at bytes)
     unfolding elementsFrom
     elements-from i stride n x from zero at bytes = fine-cond (ltb x n) _ _ (fine-refused 17 0 bytes is-17) (fine-end tape at 2 bytes)
     elements-from i stride n x from (suc k) at bytes =
@@ -238,7 +238,7 @@ module _ (book : List ℕ) (width : ℕ) (tape text : List ℕ) where
 
     element-fine : (t : ℕ) (at : Cursor) (bytes : List ℕ) (r : Resolved) → Fine (arrayBy child c t at bytes (elementType book t (length bytes) r))
     unfolding elementType arrayBy
-    element-fine t at bytes (resolved.Base e) = entered-cond t at bytes (eqb (bytesOf book t e) (length bytes)) _ (dimension-fine 0 t e at bytes)
+    element-fine t at bytes (resolved.Base e) = entered-cond t at bytes (eqb (arrayBytes book t e) (length bytes)) _ (dimension-fine 0 t e at bytes)
     element-fine t at bytes (resolved.Lacks b) = fine-refused 7 b bytes is-7
     element-fine t at bytes resolved.TooLong = fine-refused 8 0 bytes is-8
 
@@ -256,7 +256,7 @@ module _ (book : List ℕ) (width : ℕ) (tape text : List ℕ) where
     unfolding leafOf
     leaf-fine t r next bytes = mild-fine next bytes _ (mild-leaf book width t bytes (targetOf (categoryOf book width t)) r text)
 
-    item-fine : (i : Item ℕ) (at : Cursor) (bytes : List ℕ) → Fine (itemWalk child c i at bytes)
+    item-fine : (i : Content ℕ) (at : Cursor) (bytes : List ℕ) → Fine (itemWalk child c i at bytes)
     unfolding itemWalk valueBy
     item-fine (whole t) at bytes =
         fine-taken tape at bytes _ (λ r next.
@@ -264,7 +264,7 @@ module _ (book : List ℕ) (width : ℕ) (tape text : List ℕ) where
         (fine-cond (eqb (r .kind) 3) _ _ (map-fine t (r .a) next bytes) (leaf-fine t r next bytes)))
     item-fine (further d t e) at bytes = dimension-fine d t e at bytes
 
-  walk-fine : (left : ℕ) (i : Item ℕ) (at : Cursor) (bytes : List ℕ) → Fine (walk c left i at bytes)
+  walk-fine : (left : ℕ) (i : Content ℕ) (at : Cursor) (bytes : List ℕ) → Fine (walk c left i at bytes)
   unfolding walk
   walk-fine zero i at bytes = fine-refused 16 0 bytes is-16
   walk-fine (suc left) i at bytes = item-fine (walk c left) (walk-fine left) i at bytes

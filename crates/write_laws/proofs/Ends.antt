@@ -22,7 +22,7 @@ use Rattle.field_types.specs.declared.FieldsCheck.the-variants as check
 use Rattle.shape.specs.declared.Shape.{Shape}
 use Rattle.shape.specs.declared.Shape.the-variants as shape
 use Rattle.shape.specs.Value.{shapeOf}
-use Rattle.shape.specs.Array.{strideOf, bytesOf}
+use Rattle.shape.specs.Array.{strideOf, arrayBytes}
 use Rattle.named_blocks.specs.Named.{fieldNamed}
 use Rattle.tape.specs.Record.{stepAt}
 use Rattle.tape.specs.Text.{recordText}
@@ -32,17 +32,17 @@ use Rattle.tape.specs.declared.cursor.Step.{Step}
 use Rattle.tape.specs.declared.cursor.Step.the-variants as step
 use Rattle.tape_form.specs.declared.form.Place.{Place}
 use Rattle.tape_form.specs.declared.form.Place.the-variants.{At, Broken}
-use Rattle.tape_form.specs.Ranges.{onlyA, empty, names, leafFine}
+use Rattle.tape_form.specs.Ranges.{onlyA, empty, namesBlock, leafFine}
 use Rattle.tape_form.specs.Ranges as ranges
-use Rattle.tape_form.specs.Form.{formed, withRecord, onward, closing, several, memberAt, valueAt, endsAt}
+use Rattle.tape_form.specs.Form.{formed, withRecord, formOnward, closingRecord, several, memberAt, valueAt, atTapeEnd}
 use Rattle.tape_form.specs.Form as form
 use Rattle.ser_leaf.specs.Leaf.{Leaf, holds, targetOf, leafBy}
 use Rattle.ser_leaf.specs.Leaf as leaf
 use Rattle.ser.specs.declared.array_writer.Entered.{Entered}
 use Rattle.ser.specs.declared.array_writer.Entered.the-variants as entered
 use Rattle.ser.specs.declared.WriteAnswer.the-variants.{NotFound, Refused}
-use Rattle.array_elements.specs.Element.{Item, whole, further, shapeAt, elementItem, elementCheck}
-use Rattle.ser.specs.Write.{Ctx, Outcome, went, refused, _then_, Child, placed, takenBy, taken, endBy, leafEnd, leafOf, checked, fieldValue, foundValue, keyBy, keyOf, keysFrom, mapBy, mapOf, elementsFrom, elementsBy, dimensionOf, elementType, enteredBy, enteredAt, arrayBy, arrayOf, valueBy, itemWalk, walk}
+use Rattle.array_elements.specs.Element.{Content, whole, further, shapeAt, elementItem, elementCheck}
+use Rattle.ser.specs.Write.{Ctx, Outcome, went, refused, _then_, Child, placed, takenBy, taken, endRecordBy, leafEnd, leafOf, checked, fieldValue, foundValue, keyBy, keyOf, keysFrom, mapBy, mapOf, elementsFrom, elementsBy, dimensionOf, elementType, enteredBy, enteredAt, arrayBy, arrayOf, valueBy, itemWalk, walk}
 use Rattle.ser.specs.Call.{typeWrite, rootBy, rootWrite, bookWrite, answerOf}
 use Rattle.write_laws.specs.Laws.{EndsAt, FormedEnds, SixteenIsForm}
 use Rattle.write_laws.proofs.LeafForm.{Mild, mild-leaf}
@@ -97,8 +97,8 @@ record Went (p : Place) (f : form.Child) (next : Cursor) : Type 0 where
   is : p ≡ At mid
   goes : f mid ≡ At next
 
-went-on : (p : Place) (f : form.Child) (next : Cursor) → onward p f ≡ At next → Went p f next
-unfolding onward
+went-on : (p : Place) (f : form.Child) (next : Cursor) → formOnward p f ≡ At next → Went p f next
+unfolding formOnward
 went-on (At mid) f next h = record { mid = mid; is = refl; goes = h }
 went-on Broken f next h = broken-at h
 
@@ -120,8 +120,8 @@ empty-kind : (k : ℕ) (r : Record) → empty k r ≡ true → r .kind ≡ k
 unfolding empty
 empty-kind k r h = only-kind k r (and-left (onlyA k r) _ h)
 
-names-kind : (book : List ℕ) (k kind : ℕ) (r : Record) → names book k kind r ≡ true → r .kind ≡ k
-unfolding names
+names-kind : (book : List ℕ) (k kind : ℕ) (r : Record) → namesBlock book k kind r ≡ true → r .kind ≡ k
+unfolding namesBlock
 names-kind book k kind r h = only-kind k r (and-left (onlyA k r) _ h)
 
 only-other : (k : ℕ) (r : Record) → (r .kind ≡ k → ⊥) → onlyA k r ≡ false
@@ -141,9 +141,9 @@ unfolding ranges.leafBy
 three-no-leaf book text r = refl
 
 -- what follows a value's record in the form, by its kind
-module _ (c : form.Ctx) (child : form.Child) (r : Record) (mid next : Cursor) (h : form.valueBy c child (form.shapeOf c r) mid ≡ At next) where
+module _ (c : form.Ctx) (child : form.Child) (r : Record) (mid next : Cursor) (h : form.bodyBy c child (form.recordShape c r) mid ≡ At next) where
   array-form : r .kind ≡ 1 → several c child 2 (r .a) mid ≡ At next
-  unfolding form.shapeOf form.valueBy
+  unfolding form.recordShape form.bodyBy
   array-form e = by (onlyA 1 r) refl
     where
       by : (b : Bool) → onlyA 1 r ≡ b → several c child 2 (r .a) mid ≡ At next
@@ -154,7 +154,7 @@ module _ (c : form.Ctx) (child : form.Child) (r : Record) (mid next : Cursor) (h
           broken-at (rw (q, o, l) at h)
 
   map-form : r .kind ≡ 3 → several c (memberAt c child) 5 (r .a) mid ≡ At next
-  unfolding form.shapeOf form.valueBy
+  unfolding form.recordShape form.bodyBy
   map-form e = by (onlyA 3 r) refl
     where
       o : onlyA 1 r ≡ false
@@ -171,7 +171,7 @@ module _ (c : form.Ctx) (child : form.Child) (r : Record) (mid next : Cursor) (h
     same : mid .at ≡ next .at
 
   leaf-form : (r .kind ≡ 1 → ⊥) → (r .kind ≡ 3 → ⊥) → LeafForm
-  unfolding form.shapeOf form.valueBy
+  unfolding form.recordShape form.bodyBy
   leaf-form a b = by (leafFine (c .book) (c .text) r) refl
     where
       o : onlyA 1 r ≡ false
@@ -206,7 +206,7 @@ entered-if false x m = record { never = λ e. omega arith }
 
 element-mild : (book : List ℕ) (t len : ℕ) (r : Resolved) → EnteredMild (elementType book t len r)
 unfolding elementType
-element-mild book t len (resolved.Base e) = entered-if (eqb (bytesOf book t e) len) (entered.Element e) (record { never = λ e. omega arith })
+element-mild book t len (resolved.Base e) = entered-if (eqb (arrayBytes book t e) len) (entered.Element e) (record { never = λ e. omega arith })
 element-mild book t len (resolved.Lacks b) = record { never = λ e. omega arith }
 element-mild book t len resolved.TooLong = record { never = λ e. omega arith }
 
@@ -225,15 +225,15 @@ formCtx c = form.ctx (c .book) (c .tape) (c .text)
 -- where the form's walk of a value ends, a child ends
 abbrev Follows : Ctx → ℕ → Child → Type 0
 Follows c left child =
-    (i : Item ℕ) (at next : Cursor) (bytes : List ℕ) → valueAt (formCtx c) left at ≡ At next → EndsAt (next .at) (child i at bytes)
+    (i : Content ℕ) (at next : Cursor) (bytes : List ℕ) → valueAt (formCtx c) left at ≡ At next → EndsAt (next .at) (child i at bytes)
 
 ends-taken : (tape : List ℕ) (n : ℕ) (at : Cursor) (bytes : List ℕ) (f : Record → Cursor → Outcome) (r : Record) (mid : Cursor)
     → stepAt tape (at .at) ≡ step.Record r mid → EndsAt n (f r mid) → EndsAt n (taken tape at bytes f)
 unfolding taken takenBy
 ends-taken tape n at bytes f r mid e p = rw e p
 
-ends-closing : (c : Ctx) (k : ℕ) (at next : Cursor) (bytes : List ℕ) → closing (formCtx c) k at ≡ At next → EndsAt (next .at) (taken (c .tape) at bytes (endBy k bytes))
-unfolding closing endBy
+ends-closing : (c : Ctx) (k : ℕ) (at next : Cursor) (bytes : List ℕ) → closingRecord (formCtx c) k at ≡ At next → EndsAt (next .at) (taken (c .tape) at bytes (endRecordBy k bytes))
+unfolding closingRecord endRecordBy
 ends-closing c k at next bytes h =
     let t = took (stepAt (c .tape) (at .at)) _ next h in
     let p = passed (empty k (t .r)) (At (t .mid)) next (t .goes) in
@@ -268,7 +268,7 @@ module _ (c : Ctx) (left : ℕ) (child : Child) (ih : Follows c left child) wher
   unfolding memberAt keyOf keyBy
   key-ends t at next bytes h =
       let k = took (stepAt (c .tape) (at .at)) _ next h in
-      let p = passed (names (c .book) 4 2 (k .r)) _ next (k .goes) in
+      let p = passed (namesBlock (c .book) 4 2 (k .r)) _ next (k .goes) in
       let q : k .r .kind ≡ 4 = names-kind (c .book) 4 2 (k .r) (p .test) in
       ends-taken (c .tape) (next .at) at bytes _ (k .r) (k .mid) (k .is)
       (rw (eq-eqb (k .r .kind) 4 q) (found-ends (k .mid) next bytes (p .goes) (fieldNamed (c .book) t (recordText (c .book) (c .text) (k .r)))))
@@ -292,7 +292,7 @@ module _ (c : Ctx) (left : ℕ) (child : Child) (ih : Follows c left child) wher
 
   -- ---- an array
 
-  elements-end : (item : Item ℕ) (stride n i from k : ℕ) (at next : Cursor) (bytes : List ℕ) → several (formCtx c) (valueAt (formCtx c) left) 2 k at ≡ At next
+  elements-end : (item : Content ℕ) (stride n i from k : ℕ) (at next : Cursor) (bytes : List ℕ) → several (formCtx c) (valueAt (formCtx c) left) 2 k at ≡ At next
       → EndsAt (next .at) (elementsFrom child c item stride n i from k at bytes)
   unfolding several elementsFrom
   elements-end item stride n i from zero at next bytes h =
@@ -305,7 +305,7 @@ module _ (c : Ctx) (left : ℕ) (child : Child) (ih : Follows c left child) wher
 
   -- a value's record, where the form has one
   module _ (at next : Cursor) (r : Record) (mid : Cursor) (s : stepAt (c .tape) (at .at) ≡ step.Record r mid)
-      (h : form.valueBy (formCtx c) (valueAt (formCtx c) left) (form.shapeOf (formCtx c) r) mid ≡ At next) where
+      (h : form.bodyBy (formCtx c) (valueAt (formCtx c) left) (form.recordShape (formCtx c) r) mid ≡ At next) where
     dimension-ends : (d t e : ℕ) (bytes : List ℕ) → EndsAt (next .at) (dimensionOf child c d t e at bytes)
     unfolding dimensionOf elementsBy
     dimension-ends d t e bytes =
@@ -364,9 +364,9 @@ walk-follows c (suc left) i at next bytes h = item-ends c left (walk c left) (wa
 
 -- ---- the laws
 
-ends-formed : (c : Ctx) (t : ℕ) (image : List ℕ) (p : Place) → valueAt (formCtx c) 64 (record { at = 0 }) ≡ p → endsAt (length (c .tape)) p ≡ true
+ends-formed : (c : Ctx) (t : ℕ) (image : List ℕ) (p : Place) → valueAt (formCtx c) 64 (record { at = 0 }) ≡ p → atTapeEnd (length (c .tape)) p ≡ true
     → EndsAt (length (c .tape)) (typeWrite c t image)
-unfolding endsAt typeWrite
+unfolding atTapeEnd typeWrite
 ends-formed c t image (At next) e h =
     let q : next .at ≡ length (c .tape) = eqb-true (next .at) (length (c .tape)) h in
     rw q at (walk-follows c 64 (whole t) (record { at = 0 }) next image e)

@@ -21,7 +21,7 @@ pub mild-leaf : (book : List ℕ) (width t : ℕ) (old : List ℕ) (k : Target) 
 unfolding leafFine ranges.leafBy
 mild-leaf book width t old k r text h =
     let x = leaf-tells (λ (n : ℕ). n ≡ 16 → ⊥) (λ e. omega arith) (λ e. omega arith) (λ e. omega arith) (λ e. omega arith) (λ e. omega arith) book width t old k r text
-        (λ n6 n7 n8 n9 n10 n11 n12 n13 e.
-        let g : false ≡ true = rw (ne-eqb (r .kind) 6 n6, ne-eqb (r .kind) 7 n7, ne-eqb (r .kind) 8 n8, ne-eqb (r .kind) 9 n9, ne-eqb (r .kind) 10 n10, ne-eqb (r .kind) 11 n11, ne-eqb (r .kind) 12 n12, ne-eqb (r .kind) 13 n13) at h in
-        different cc) in
+    (λ n6 n7 n8 n9 n10 n11 n12 n13 e.
+    let g : false ≡ true = rw (ne-eqb (r .kind) 6 n6, ne-eqb (r .kind) 7 n7, ne-eqb (r .kind) 8 n8, ne-eqb (r .kind) 9 n9, ne-eqb (r .kind) 10 n10, ne-eqb (r .kind) 11 n11, ne-eqb (r .kind) 12 n12, ne-eqb (r .kind) 13 n13) at h in
+    different cc) in
     record { never = λ e. x .each 16 e refl }

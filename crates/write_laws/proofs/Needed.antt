@@ -75,7 +75,7 @@ lost :
     ∷ went (record { at = 24 }) (1 ∷ [])
     ∷ went (record { at = 144 }) (2 ∷ 2 ∷ [])
     ∷ []
-unfolding again kept bare enum struct made filled flatMap number-le.leValue number-le.leBytes integer-integer.integerReadNumbers integer-integer.integerWriteNumbers integer-integer.twosComplement integer-integer.twosBits integer-integer.bytesValue integer-integer.integerOf integer-integer.readInteger integer-integer.fitsSigned integer-integer.fitsUnsigned integer-integer.fitsId integer-integer.writeInteger integer-integer.bufferAfter integer-integer.integerBytes float-float.realReadNumbers float-float.singleOf float-float.doubleOf float-float.realOf float-float.readReal float-float.writeReal float-float.realAfter utf-8-utf8.leading utf-8-utf8.following utf-8-utf8.after utf-8-utf8.decodeFrom utf-8-utf8.noError utf-8-utf8.found utf-8-utf8.nextFrom utf-8-utf8.encoded utf-8-utf8.utf8Of windows-1252-text.endFrom windows-1252-text.decodeText windows-1252-text.digits windows-1252-text.bytesBy windows-1252-text.encodeText windows-1252-index.listed windows-1252-index.codePoint windows-1252-index.codePoints windows-1252-index.firstFrom windows-1252-index.byteOf utf-16-decode.unitAlone utf-16-decode.unitAfter utf-16-decode.decodeFrom utf-16-decode.decodeScalars utf-16-encode.utf16Of utf-16-wstring.endFrom typebook-book.sameName typebook-book.isNamed type-id-typeid.idOf type-names-text.isOneOf type-names-text.startsWith type-names-text.contains type-names-names.isPointerName type-names-names.isSubRangeName type-names-names.isPrimitiveName type-category-category.isPointer type-category-category.isReference type-category-category.isAlias type-category-category.orElse type-category-category.isUnion type-category-category.methodsCategory type-category-category.fieldsCategory type-category-category.isEmptyStruct type-category-category.bareCategory type-category-category.sizeCategory type-category-category.complexCategory type-category-category.simpleCategory type-category-category.categoryOf type-provider-find.findFrom type-provider-find.find block-form-form.sumOf block-form-form.sumRight block-form-form.every block-form-form.unusedZero block-form-form.nameForm block-form-form.namesForm block-form-form.typeForm block-form-form.flagsForm block-form-form.fieldForm block-form-form.entryForm doubles-doubles.allFrom doubles-doubles.isOther doubles-doubles.isFirst book-check-check.sizeRight book-check-check.sumAt book-check-check.placeOf book-check-check.onward book-check-check.placedFrom book-check-check.checkBlocks book-check-check.checkBook book-check-check.rootOf book-check-check.bookNumbers book-check-check.atRoot book-check-check.checkRoot resolvers-resolve.isFollowed resolvers-resolve.onward resolvers-resolve.follow resolvers-resolve.lookUp field-types-fields.fieldOf field-types-fields.fieldFound field-types-fields.resolveField field-types-fields.fieldThen field-types-fields.fieldsFrom field-types-fields.fieldsCheck named-blocks-named.namedFrom tape-record.recordBytes tape-record.recordOf tape-record.stepAt tape-text.partOf tape-text.nameIn tape-text.recordText tape-form-ranges.unused tape-form-ranges.isWidth tape-form-ranges.blockIs tape-form-ranges.textIn tape-form-ranges.onlyA tape-form-ranges.empty tape-form-ranges.names tape-form-ranges.onlyB tape-form-ranges.sized tape-form-ranges.integerFine tape-form-ranges.textual tape-form-ranges.leafBy tape-form-ranges.leafFine tape-form-form.withRecord tape-form-form.onward tape-form-form.closing tape-form-form.several tape-form-form.memberAt tape-form-form.shapeOf tape-form-form.valueBy tape-form-form.valueAt tape-form-form.endsAt tape-form-form.formed shape-array.productFrom shape-array.strideOf shape-array.isLast shape-array.bytesOf leaves-leaf.boolLeaf leaves-leaf.integerLeaf leaves-leaf.realOr leaves-leaf.numberLeaf leaves-leaf.pointerLeaf leaves-leaf.decoderOf leaves-leaf.textLeaf leaves-leaf.entryFrom leaves-leaf.unlisted leaves-leaf.enumLeaf leaves-leaf.kindLeaf leaves-leaf.leafBy leaves-leaf.leafAt steps-trace.textBytes steps-trace.tapeBytes steps-trace.eventsOf steps-trace.endOf steps-trace._then_ steps-trace.fits steps-trace.stepOf steps-trace.fitting text-decoder-text.decodedBy text-decoder-text.endBy array-elements-element.shapeAt de-walk.leafOf de-walk.checked de-walk.fieldValue de-walk.memberOf de-walk.membersFrom de-walk.membersOf de-walk.mapOf array-elements-element.elementItem array-elements-element.shapeCheck array-elements-element.elementCheck de-walk.elementsFrom de-walk.elementsOf de-walk.dimensionOf de-walk.elementBy de-walk.arrayBy de-walk.arrayOf de-walk.shapeWalk de-walk.itemWalk de-walk.walk de-read.rootBy de-read.rootTrace de-read.readTrace ser-leaf-leaf.exactly ser-leaf-leaf.boolLeaf ser-leaf-leaf.realLeaf ser-leaf-leaf.integerBy ser-leaf-leaf.pointerLeaf ser-leaf-leaf.integerLeaf ser-leaf-leaf.entryBy ser-leaf-leaf.entryLeaf ser-leaf-leaf.enumLeaf ser-leaf-leaf.padded ser-leaf-leaf.textBy ser-leaf-leaf.textLeaf ser-leaf-leaf.leafBy ser-write._then_ ser-write.placed ser-write.takenBy ser-write.taken ser-write.endBy ser-write.leafEnd ser-write.leafOf ser-write.checked ser-write.fieldValue ser-write.foundValue ser-write.keyBy ser-write.keyOf ser-write.keysFrom ser-write.mapBy ser-write.mapOf ser-write.elementsFrom ser-write.elementsBy ser-write.dimensionOf ser-write.elementType ser-write.enteredBy ser-write.enteredAt ser-write.arrayBy ser-write.arrayOf ser-write.valueBy ser-write.itemWalk ser-write.walk ser-call.typeWrite ser-call.rootBy ser-call.rootWrite ser-call.refusedBefore ser-call.bookWrite ser-call.writeCall trip.zerosAfter trip.isWhole trip.textKept trip.entryKept trip.leafKept trip.finds trip.fieldKept trip.fieldsKept trip.elementsKept trip.dimensionKept trip.arrayKept trip.shapeKept trip.itemKept trip.walkKept trip.rootKept trip.isKept
+unfolding again kept bare enum struct made filled flatMap number-le.leValue number-le.leBytes integer-integer.integerReadNumbers integer-integer.integerWriteNumbers integer-integer.twosComplement integer-integer.twosBits integer-integer.bytesValue integer-integer.integerOf integer-integer.readInteger integer-integer.fitsSigned integer-integer.fitsUnsigned integer-integer.fitsId integer-integer.writeInteger integer-integer.integerAfter integer-integer.integerBytes float-float.realReadNumbers float-float.singleOf float-float.doubleOf float-float.realOf float-float.readReal float-float.writeReal float-float.realAfter utf-8-utf8.leading utf-8-utf8.following utf-8-utf8.afterReply utf-8-utf8.decodeFrom utf-8-utf8.noError utf-8-utf8.found utf-8-utf8.nextFrom utf-8-utf8.encoded utf-8-utf8.utf8Of windows-1252-text.endFrom windows-1252-text.decodeText windows-1252-text.digits windows-1252-text.bytesBy windows-1252-text.encodeText windows-1252-index.listedPoints windows-1252-index.codePoint windows-1252-index.codePoints windows-1252-index.firstFrom windows-1252-index.byteOf utf-16-decode.unitAlone utf-16-decode.unitAfter utf-16-decode.decodeFrom utf-16-decode.decodeScalars utf-16-encode.utf16Of utf-16-wstring.endFrom typebook-book.sameName typebook-book.isNamed type-id-typeid.idOf type-names-text.isOneOf type-names-text.startsWith type-names-text.contains type-names-names.isPointerName type-names-names.isSubRangeName type-names-names.isPrimitiveName type-category-category.isPointer type-category-category.isReference type-category-category.isAlias type-category-category.orElse type-category-category.isUnion type-category-category.methodsCategory type-category-category.fieldsCategory type-category-category.isEmptyStruct type-category-category.bareCategory type-category-category.sizeCategory type-category-category.complexCategory type-category-category.simpleCategory type-category-category.categoryOf type-provider-find.findFrom type-provider-find.find block-form-form.sumOf block-form-form.sumRight block-form-form.every block-form-form.unusedZero block-form-form.nameForm block-form-form.namesForm block-form-form.typeForm block-form-form.flagsForm block-form-form.fieldForm block-form-form.entryForm doubles-doubles.allFrom doubles-doubles.isOther doubles-doubles.isFirst book-check-check.sizeRight book-check-check.sumAt book-check-check.placeOf book-check-check.placesOnward book-check-check.placedFrom book-check-check.checkBlocks book-check-check.checkBook book-check-check.rootOf book-check-check.bookNumbers book-check-check.atRoot book-check-check.checkRoot resolvers-resolve.isFollowed resolvers-resolve.chainOnward resolvers-resolve.follow resolvers-resolve.lookUp field-types-fields.fieldOf field-types-fields.fieldFound field-types-fields.resolveField field-types-fields.fieldThen field-types-fields.fieldsFrom field-types-fields.fieldsCheck named-blocks-named.namedFrom tape-record.recordBytes tape-record.recordOf tape-record.stepAt tape-text.textPart tape-text.nameIn tape-text.recordText tape-form-ranges.unused tape-form-ranges.isWidth tape-form-ranges.blockIs tape-form-ranges.textIn tape-form-ranges.onlyA tape-form-ranges.empty tape-form-ranges.namesBlock tape-form-ranges.onlyB tape-form-ranges.sized tape-form-ranges.integerFine tape-form-ranges.textual tape-form-ranges.leafBy tape-form-ranges.leafFine tape-form-form.withRecord tape-form-form.formOnward tape-form-form.closingRecord tape-form-form.several tape-form-form.memberAt tape-form-form.recordShape tape-form-form.bodyBy tape-form-form.valueAt tape-form-form.atTapeEnd tape-form-form.formed shape-array.productFrom shape-array.strideOf shape-array.isLast shape-array.arrayBytes leaves-leaf.boolLeaf leaves-leaf.integerLeaf leaves-leaf.realOr leaves-leaf.numberLeaf leaves-leaf.pointerLeaf leaves-leaf.decoderOf leaves-leaf.textLeaf leaves-leaf.entryFrom leaves-leaf.unlisted leaves-leaf.enumLeaf leaves-leaf.kindLeaf leaves-leaf.leafBy leaves-leaf.leafAt steps-trace.textBytes steps-trace.tapeBytes steps-trace.eventsOf steps-trace.endOf steps-trace._then_ steps-trace.fits steps-trace.stepOf steps-trace.fitting text-decoder-text.decodedBy text-decoder-text.endBy array-elements-element.shapeAt de-walk.leafOf de-walk.checked de-walk.fieldValue de-walk.memberOf de-walk.membersFrom de-walk.membersOf de-walk.mapOf array-elements-element.elementItem array-elements-element.shapeCheck array-elements-element.elementCheck de-walk.elementsFrom de-walk.elementsOf de-walk.dimensionOf de-walk.elementBy de-walk.arrayBy de-walk.arrayOf de-walk.shapeWalk de-walk.itemWalk de-walk.walk de-read.rootBy de-read.rootTrace de-read.readTrace ser-leaf-leaf.exactly ser-leaf-leaf.boolLeaf ser-leaf-leaf.realLeaf ser-leaf-leaf.integerBy ser-leaf-leaf.pointerLeaf ser-leaf-leaf.integerLeaf ser-leaf-leaf.entryBy ser-leaf-leaf.entryLeaf ser-leaf-leaf.enumLeaf ser-leaf-leaf.padded ser-leaf-leaf.textBy ser-leaf-leaf.textLeaf ser-leaf-leaf.leafBy ser-write._then_ ser-write.placed ser-write.takenBy ser-write.taken ser-write.endRecordBy ser-write.leafEnd ser-write.leafOf ser-write.checked ser-write.fieldValue ser-write.foundValue ser-write.keyBy ser-write.keyOf ser-write.keysFrom ser-write.mapBy ser-write.mapOf ser-write.elementsFrom ser-write.elementsBy ser-write.dimensionOf ser-write.elementType ser-write.enteredBy ser-write.enteredAt ser-write.arrayBy ser-write.arrayOf ser-write.valueBy ser-write.itemWalk ser-write.walk ser-call.typeWrite ser-call.rootBy ser-call.rootWrite ser-call.refusedBefore ser-call.bookWrite ser-call.writeCall trip.zerosAfter trip.isWhole trip.textKept trip.entryKept trip.leafKept trip.finds trip.fieldKept trip.fieldsKept trip.elementsKept trip.dimensionKept trip.arrayKept trip.shapeKept trip.itemKept trip.walkKept trip.rootKept trip.isKept
 lost = refl
 
 -- and the premise says so, case by case; their like is kept
@@ -89,5 +89,5 @@ told :
     ∷ kept (struct 0x41 0x41) (1 ∷ 2 ∷ []) ∷ kept (struct 0x41 0x42) (1 ∷ 2 ∷ [])
     ∷ []
     ≡ false ∷ true ∷ false ∷ true ∷ false ∷ true ∷ false ∷ true ∷ false ∷ true ∷ false ∷ true ∷ false ∷ true ∷ []
-unfolding again kept bare enum struct made filled flatMap number-le.leValue number-le.leBytes integer-integer.integerReadNumbers integer-integer.integerWriteNumbers integer-integer.twosComplement integer-integer.twosBits integer-integer.bytesValue integer-integer.integerOf integer-integer.readInteger integer-integer.fitsSigned integer-integer.fitsUnsigned integer-integer.fitsId integer-integer.writeInteger integer-integer.bufferAfter integer-integer.integerBytes float-float.realReadNumbers float-float.singleOf float-float.doubleOf float-float.realOf float-float.readReal float-float.writeReal float-float.realAfter utf-8-utf8.leading utf-8-utf8.following utf-8-utf8.after utf-8-utf8.decodeFrom utf-8-utf8.noError utf-8-utf8.found utf-8-utf8.nextFrom utf-8-utf8.encoded utf-8-utf8.utf8Of windows-1252-text.endFrom windows-1252-text.decodeText windows-1252-text.digits windows-1252-text.bytesBy windows-1252-text.encodeText windows-1252-index.listed windows-1252-index.codePoint windows-1252-index.codePoints windows-1252-index.firstFrom windows-1252-index.byteOf utf-16-decode.unitAlone utf-16-decode.unitAfter utf-16-decode.decodeFrom utf-16-decode.decodeScalars utf-16-encode.utf16Of utf-16-wstring.endFrom typebook-book.sameName typebook-book.isNamed type-id-typeid.idOf type-names-text.isOneOf type-names-text.startsWith type-names-text.contains type-names-names.isPointerName type-names-names.isSubRangeName type-names-names.isPrimitiveName type-category-category.isPointer type-category-category.isReference type-category-category.isAlias type-category-category.orElse type-category-category.isUnion type-category-category.methodsCategory type-category-category.fieldsCategory type-category-category.isEmptyStruct type-category-category.bareCategory type-category-category.sizeCategory type-category-category.complexCategory type-category-category.simpleCategory type-category-category.categoryOf type-provider-find.findFrom type-provider-find.find block-form-form.sumOf block-form-form.sumRight block-form-form.every block-form-form.unusedZero block-form-form.nameForm block-form-form.namesForm block-form-form.typeForm block-form-form.flagsForm block-form-form.fieldForm block-form-form.entryForm doubles-doubles.allFrom doubles-doubles.isOther doubles-doubles.isFirst book-check-check.sizeRight book-check-check.sumAt book-check-check.placeOf book-check-check.onward book-check-check.placedFrom book-check-check.checkBlocks book-check-check.checkBook book-check-check.rootOf book-check-check.bookNumbers book-check-check.atRoot book-check-check.checkRoot resolvers-resolve.isFollowed resolvers-resolve.onward resolvers-resolve.follow resolvers-resolve.lookUp field-types-fields.fieldOf field-types-fields.fieldFound field-types-fields.resolveField field-types-fields.fieldThen field-types-fields.fieldsFrom field-types-fields.fieldsCheck named-blocks-named.namedFrom tape-record.recordBytes tape-record.recordOf tape-record.stepAt tape-text.partOf tape-text.nameIn tape-text.recordText tape-form-ranges.unused tape-form-ranges.isWidth tape-form-ranges.blockIs tape-form-ranges.textIn tape-form-ranges.onlyA tape-form-ranges.empty tape-form-ranges.names tape-form-ranges.onlyB tape-form-ranges.sized tape-form-ranges.integerFine tape-form-ranges.textual tape-form-ranges.leafBy tape-form-ranges.leafFine tape-form-form.withRecord tape-form-form.onward tape-form-form.closing tape-form-form.several tape-form-form.memberAt tape-form-form.shapeOf tape-form-form.valueBy tape-form-form.valueAt tape-form-form.endsAt tape-form-form.formed shape-array.productFrom shape-array.strideOf shape-array.isLast shape-array.bytesOf leaves-leaf.boolLeaf leaves-leaf.integerLeaf leaves-leaf.realOr leaves-leaf.numberLeaf leaves-leaf.pointerLeaf leaves-leaf.decoderOf leaves-leaf.textLeaf leaves-leaf.entryFrom leaves-leaf.unlisted leaves-leaf.enumLeaf leaves-leaf.kindLeaf leaves-leaf.leafBy leaves-leaf.leafAt steps-trace.textBytes steps-trace.tapeBytes steps-trace.eventsOf steps-trace.endOf steps-trace._then_ steps-trace.fits steps-trace.stepOf steps-trace.fitting text-decoder-text.decodedBy text-decoder-text.endBy array-elements-element.shapeAt de-walk.leafOf de-walk.checked de-walk.fieldValue de-walk.memberOf de-walk.membersFrom de-walk.membersOf de-walk.mapOf array-elements-element.elementItem array-elements-element.shapeCheck array-elements-element.elementCheck de-walk.elementsFrom de-walk.elementsOf de-walk.dimensionOf de-walk.elementBy de-walk.arrayBy de-walk.arrayOf de-walk.shapeWalk de-walk.itemWalk de-walk.walk de-read.rootBy de-read.rootTrace de-read.readTrace ser-leaf-leaf.exactly ser-leaf-leaf.boolLeaf ser-leaf-leaf.realLeaf ser-leaf-leaf.integerBy ser-leaf-leaf.pointerLeaf ser-leaf-leaf.integerLeaf ser-leaf-leaf.entryBy ser-leaf-leaf.entryLeaf ser-leaf-leaf.enumLeaf ser-leaf-leaf.padded ser-leaf-leaf.textBy ser-leaf-leaf.textLeaf ser-leaf-leaf.leafBy ser-write._then_ ser-write.placed ser-write.takenBy ser-write.taken ser-write.endBy ser-write.leafEnd ser-write.leafOf ser-write.checked ser-write.fieldValue ser-write.foundValue ser-write.keyBy ser-write.keyOf ser-write.keysFrom ser-write.mapBy ser-write.mapOf ser-write.elementsFrom ser-write.elementsBy ser-write.dimensionOf ser-write.elementType ser-write.enteredBy ser-write.enteredAt ser-write.arrayBy ser-write.arrayOf ser-write.valueBy ser-write.itemWalk ser-write.walk ser-call.typeWrite ser-call.rootBy ser-call.rootWrite ser-call.refusedBefore ser-call.bookWrite ser-call.writeCall trip.zerosAfter trip.isWhole trip.textKept trip.entryKept trip.leafKept trip.finds trip.fieldKept trip.fieldsKept trip.elementsKept trip.dimensionKept trip.arrayKept trip.shapeKept trip.itemKept trip.walkKept trip.rootKept trip.isKept
+unfolding again kept bare enum struct made filled flatMap number-le.leValue number-le.leBytes integer-integer.integerReadNumbers integer-integer.integerWriteNumbers integer-integer.twosComplement integer-integer.twosBits integer-integer.bytesValue integer-integer.integerOf integer-integer.readInteger integer-integer.fitsSigned integer-integer.fitsUnsigned integer-integer.fitsId integer-integer.writeInteger integer-integer.integerAfter integer-integer.integerBytes float-float.realReadNumbers float-float.singleOf float-float.doubleOf float-float.realOf float-float.readReal float-float.writeReal float-float.realAfter utf-8-utf8.leading utf-8-utf8.following utf-8-utf8.afterReply utf-8-utf8.decodeFrom utf-8-utf8.noError utf-8-utf8.found utf-8-utf8.nextFrom utf-8-utf8.encoded utf-8-utf8.utf8Of windows-1252-text.endFrom windows-1252-text.decodeText windows-1252-text.digits windows-1252-text.bytesBy windows-1252-text.encodeText windows-1252-index.listedPoints windows-1252-index.codePoint windows-1252-index.codePoints windows-1252-index.firstFrom windows-1252-index.byteOf utf-16-decode.unitAlone utf-16-decode.unitAfter utf-16-decode.decodeFrom utf-16-decode.decodeScalars utf-16-encode.utf16Of utf-16-wstring.endFrom typebook-book.sameName typebook-book.isNamed type-id-typeid.idOf type-names-text.isOneOf type-names-text.startsWith type-names-text.contains type-names-names.isPointerName type-names-names.isSubRangeName type-names-names.isPrimitiveName type-category-category.isPointer type-category-category.isReference type-category-category.isAlias type-category-category.orElse type-category-category.isUnion type-category-category.methodsCategory type-category-category.fieldsCategory type-category-category.isEmptyStruct type-category-category.bareCategory type-category-category.sizeCategory type-category-category.complexCategory type-category-category.simpleCategory type-category-category.categoryOf type-provider-find.findFrom type-provider-find.find block-form-form.sumOf block-form-form.sumRight block-form-form.every block-form-form.unusedZero block-form-form.nameForm block-form-form.namesForm block-form-form.typeForm block-form-form.flagsForm block-form-form.fieldForm block-form-form.entryForm doubles-doubles.allFrom doubles-doubles.isOther doubles-doubles.isFirst book-check-check.sizeRight book-check-check.sumAt book-check-check.placeOf book-check-check.placesOnward book-check-check.placedFrom book-check-check.checkBlocks book-check-check.checkBook book-check-check.rootOf book-check-check.bookNumbers book-check-check.atRoot book-check-check.checkRoot resolvers-resolve.isFollowed resolvers-resolve.chainOnward resolvers-resolve.follow resolvers-resolve.lookUp field-types-fields.fieldOf field-types-fields.fieldFound field-types-fields.resolveField field-types-fields.fieldThen field-types-fields.fieldsFrom field-types-fields.fieldsCheck named-blocks-named.namedFrom tape-record.recordBytes tape-record.recordOf tape-record.stepAt tape-text.textPart tape-text.nameIn tape-text.recordText tape-form-ranges.unused tape-form-ranges.isWidth tape-form-ranges.blockIs tape-form-ranges.textIn tape-form-ranges.onlyA tape-form-ranges.empty tape-form-ranges.namesBlock tape-form-ranges.onlyB tape-form-ranges.sized tape-form-ranges.integerFine tape-form-ranges.textual tape-form-ranges.leafBy tape-form-ranges.leafFine tape-form-form.withRecord tape-form-form.formOnward tape-form-form.closingRecord tape-form-form.several tape-form-form.memberAt tape-form-form.recordShape tape-form-form.bodyBy tape-form-form.valueAt tape-form-form.atTapeEnd tape-form-form.formed shape-array.productFrom shape-array.strideOf shape-array.isLast shape-array.arrayBytes leaves-leaf.boolLeaf leaves-leaf.integerLeaf leaves-leaf.realOr leaves-leaf.numberLeaf leaves-leaf.pointerLeaf leaves-leaf.decoderOf leaves-leaf.textLeaf leaves-leaf.entryFrom leaves-leaf.unlisted leaves-leaf.enumLeaf leaves-leaf.kindLeaf leaves-leaf.leafBy leaves-leaf.leafAt steps-trace.textBytes steps-trace.tapeBytes steps-trace.eventsOf steps-trace.endOf steps-trace._then_ steps-trace.fits steps-trace.stepOf steps-trace.fitting text-decoder-text.decodedBy text-decoder-text.endBy array-elements-element.shapeAt de-walk.leafOf de-walk.checked de-walk.fieldValue de-walk.memberOf de-walk.membersFrom de-walk.membersOf de-walk.mapOf array-elements-element.elementItem array-elements-element.shapeCheck array-elements-element.elementCheck de-walk.elementsFrom de-walk.elementsOf de-walk.dimensionOf de-walk.elementBy de-walk.arrayBy de-walk.arrayOf de-walk.shapeWalk de-walk.itemWalk de-walk.walk de-read.rootBy de-read.rootTrace de-read.readTrace ser-leaf-leaf.exactly ser-leaf-leaf.boolLeaf ser-leaf-leaf.realLeaf ser-leaf-leaf.integerBy ser-leaf-leaf.pointerLeaf ser-leaf-leaf.integerLeaf ser-leaf-leaf.entryBy ser-leaf-leaf.entryLeaf ser-leaf-leaf.enumLeaf ser-leaf-leaf.padded ser-leaf-leaf.textBy ser-leaf-leaf.textLeaf ser-leaf-leaf.leafBy ser-write._then_ ser-write.placed ser-write.takenBy ser-write.taken ser-write.endRecordBy ser-write.leafEnd ser-write.leafOf ser-write.checked ser-write.fieldValue ser-write.foundValue ser-write.keyBy ser-write.keyOf ser-write.keysFrom ser-write.mapBy ser-write.mapOf ser-write.elementsFrom ser-write.elementsBy ser-write.dimensionOf ser-write.elementType ser-write.enteredBy ser-write.enteredAt ser-write.arrayBy ser-write.arrayOf ser-write.valueBy ser-write.itemWalk ser-write.walk ser-call.typeWrite ser-call.rootBy ser-call.rootWrite ser-call.refusedBefore ser-call.bookWrite ser-call.writeCall trip.zerosAfter trip.isWhole trip.textKept trip.entryKept trip.leafKept trip.finds trip.fieldKept trip.fieldsKept trip.elementsKept trip.dimensionKept trip.arrayKept trip.shapeKept trip.itemKept trip.walkKept trip.rootKept trip.isKept
 told = refl

@@ -22,7 +22,7 @@ use Rattle.field_types.specs.declared.FieldsCheck.the-variants as check
 use Rattle.shape.specs.declared.Shape.{Shape}
 use Rattle.shape.specs.declared.Shape.the-variants as shape
 use Rattle.shape.specs.Value.{shapeOf}
-use Rattle.shape.specs.Array.{strideOf, isLast, bytesOf, Fills}
+use Rattle.shape.specs.Array.{strideOf, isLast, arrayBytes, Fills}
 use Rattle.shape.proofs.Strides.{Along, along-again, along-end, fills-first, fills-further}
 use Rattle.named_blocks.specs.Named.{fieldNamed}
 use Rattle.tape.specs.Record.{stepAt}
@@ -34,9 +34,9 @@ use Rattle.tape.specs.declared.cursor.Step.the-variants as step
 use Rattle.ser_leaf.specs.Leaf.{Leaf, holds, targetOf}
 use Rattle.ser_leaf.specs.Leaf as leaf
 use Rattle.ser.specs.declared.array_writer.Entered.the-variants as entered
-use Rattle.array_elements.specs.Element.{Item, whole, further, cut, shapeAt, elementItem, elementCheck}
-use Rattle.ser.specs.Write.{Ctx, Outcome, went, refused, _then_, Child, placed, takenBy, taken, endBy, leafEnd, leafOf, checked, fieldValue, foundValue, keyBy, keyOf, keysFrom, mapBy, mapOf, elementsFrom, elementsBy, dimensionOf, elementType, enteredBy, enteredAt, arrayBy, arrayOf, valueBy, itemWalk, walk}
-use Rattle.write_laws.specs.Touched.{Range, Touched, upto, nowhere, after, _and_, recordBy, endAt, fieldTouched, foundTouched, keyTouched, keysTouched, elementsTouched, dimensionTouched, arrayTouched, valueTouched, itemTouched, walkTouched}
+use Rattle.array_elements.specs.Element.{Content, whole, further, cut, shapeAt, elementItem, elementCheck}
+use Rattle.ser.specs.Write.{Ctx, Outcome, went, refused, _then_, Child, placed, takenBy, taken, endRecordBy, leafEnd, leafOf, checked, fieldValue, foundValue, keyBy, keyOf, keysFrom, mapBy, mapOf, elementsFrom, elementsBy, dimensionOf, elementType, enteredBy, enteredAt, arrayBy, arrayOf, valueBy, itemWalk, walk}
+use Rattle.write_laws.specs.Touched.{Range, Touched, upto, nowhere, rangesThen, _and_, recordBy, endAt, fieldTouched, foundTouched, keyTouched, keysTouched, elementsTouched, dimensionTouched, arrayTouched, valueTouched, itemTouched, walkTouched}
 use Rattle.write_laws.specs.Touched as touched
 use Rattle.write_laws.proofs.Sizes.{Sized, sized-leaf}
 use Rattle.write_laws.proofs.Ranges.{Kept, kept-none, kept-all, kept-then, kept-part, length-cut}
@@ -77,22 +77,22 @@ agrees-cond from old true o u t s p q = p
 agrees-cond from old false o u t s p q = q
 
 module _ (from : ℕ) (old : List ℕ) where
-  -- one change after another
+  -- one change rangesThen another
   agrees-next : (at : Cursor) (mid : List ℕ) (rs : List Range) → Kept from old mid rs → (o : Outcome) (t : Touched) → Agrees from mid o t
-      → Agrees from old o (after rs t)
-  unfolding after
+      → Agrees from old o (rangesThen rs t)
+  unfolding rangesThen
   agrees-next at mid rs k (went next new) t a =
       let x = a .agrees in
-      let z : after rs t ≡ upto next (rs ++ x .ranges) = rw (x .is) in
+      let z : rangesThen rs t ≡ upto next (rs ++ x .ranges) = rw (x .is) in
       record { agrees = record { ranges = rs ++ x .ranges; is = z; kept = kept-then k (x .kept) } }
-  agrees-next at mid rs k (refused n b new) t a = agrees-refused from old n b new (after rs t)
+  agrees-next at mid rs k (refused n b new) t a = agrees-refused from old n b new (rangesThen rs t)
 
   pub agrees-then : (o : Outcome) (t : Touched) (f : Cursor → List ℕ → Outcome) (g : Cursor → Touched) → Agrees from old o t
       → ((at : Cursor) (mid : List ℕ) → length mid ≡ length old → Agrees from mid (f at mid) (g at)) → Agrees from old (o then f) (t and g)
   unfolding _then_ _and_
   agrees-then (went at mid) t f g a h =
       let x = a .agrees in
-      let z : (t and g) ≡ after (x .ranges) (g at) = rw (x .is) in
+      let z : (t and g) ≡ rangesThen (x .ranges) (g at) = rw (x .is) in
       rw z (agrees-next at mid (x .ranges) (x .kept) (f at mid) (g at) (h at mid (x .kept .same-length)))
   agrees-then (refused n b mid) t f g a h = agrees-refused from old n b mid (t and g)
 
@@ -119,8 +119,8 @@ module _ (c : Ctx) (from : ℕ) (bytes : List ℕ) where
   unfolding taken
   agrees-taken at f g h = agrees-by from bytes f g h (stepAt (c .tape) (at .at))
 
-  agrees-end : (at : Cursor) (kind : ℕ) → Agrees from bytes (taken (c .tape) at bytes (endBy kind bytes)) (endAt c at)
-  unfolding endAt endBy
+  agrees-end : (at : Cursor) (kind : ℕ) → Agrees from bytes (taken (c .tape) at bytes (endRecordBy kind bytes)) (endAt c at)
+  unfolding endAt endRecordBy
   agrees-end at kind =
       agrees-taken at _ _ (λ r next.
       agrees-if from bytes (eqb (r .kind) kind) _ 16 0 bytes _ (λ h. record { agrees = record { ranges = []; is = refl; kept = kept-none from bytes } }))
@@ -137,13 +137,13 @@ agrees-leaf-end from size bytes next e (leaf.refused n) s = agrees-refused from 
 -- ---- the walk
 
 -- a further dimension fills its bytes
-abbrev pub Good : Ctx → Item ℕ → ℕ → Type 0
+abbrev pub Good : Ctx → Content ℕ → ℕ → Type 0
 Good c (whole t) size = Unit {0}
 Good c (further d t e) size = Fills (c .book) d t e size
 
 abbrev Children : Ctx → Child → touched.Child → Type 0
 Children c child marks =
-    (i : Item ℕ) (at : Cursor) (from size : ℕ) (bytes : List ℕ) → size ≡ length bytes → Good c i size → Agrees from bytes (child i at bytes) (marks i at from size)
+    (i : Content ℕ) (at : Cursor) (from size : ℕ) (bytes : List ℕ) → size ≡ length bytes → Good c i size → Agrees from bytes (child i at bytes) (marks i at from size)
 
 module _ (c : Ctx) (child : Child) (marks : touched.Child) (ih : Children c child marks) where
   -- ---- a map
@@ -200,7 +200,7 @@ module _ (c : Ctx) (child : Child) (marks : touched.Child) (ih : Children c chil
       by false q = fills-further (c .book) d t e (strideOf (c .book) d t e) false q refl (record { fills = refl })
 
   -- the elements from index i of n on, at byte `at` of the array's bytes
-  module _ (d t e n stride : ℕ) (q : stride ≡ strideOf (c .book) d t e) (item : Item ℕ) (good : Good c item stride) where
+  module _ (d t e n stride : ℕ) (q : stride ≡ strideOf (c .book) d t e) (item : Content ℕ) (good : Good c item stride) where
     elements-agree : (k i at : ℕ) (cur : Cursor) (from place : ℕ) → place ≡ from + at → (bytes : List ℕ) → Along (c .book) d t e n stride at i (length bytes)
         → Agrees from bytes (elementsFrom child c item stride n i at k cur bytes) (elementsTouched marks c item stride k cur place)
     unfolding elementsFrom elementsTouched
@@ -228,7 +228,7 @@ module _ (c : Ctx) (child : Child) (marks : touched.Child) (ih : Children c chil
       start : 0 + (countOf (c .book) t d - 0) * strideOf (c .book) d t e ≡ length bytes
       start = let z : countOf (c .book) t d - 0 ≡ countOf (c .book) t d = omega arith in rw z (omega (arith, f .fills))
 
-  sized-agrees : (t e : ℕ) (at : Cursor) (from : ℕ) (bytes : List ℕ) (b : Bool) → b ≡ eqb (bytesOf (c .book) t e) (length bytes)
+  sized-agrees : (t e : ℕ) (at : Cursor) (from : ℕ) (bytes : List ℕ) (b : Bool) → b ≡ eqb (arrayBytes (c .book) t e) (length bytes)
       → Agrees from bytes (arrayBy child c t at bytes (cond b (entered.Element e) (entered.Stop 10 0))) (dimensionTouched marks c 0 t e at from)
   unfolding arrayBy
   sized-agrees t e at from bytes true q = dimension-agrees 0 t e at from bytes (fills-first (c .book) t e (length bytes) true q refl)
@@ -237,7 +237,7 @@ module _ (c : Ctx) (child : Child) (marks : touched.Child) (ih : Children c chil
   element-agrees : (t : ℕ) (at : Cursor) (from : ℕ) (bytes : List ℕ) (r : Resolved)
       → Agrees from bytes (arrayBy child c t at bytes (elementType (c .book) t (length bytes) r)) (arrayTouched marks c t at from r)
   unfolding arrayBy elementType arrayTouched
-  element-agrees t at from bytes (resolved.Base e) = sized-agrees t e at from bytes (eqb (bytesOf (c .book) t e) (length bytes)) refl
+  element-agrees t at from bytes (resolved.Base e) = sized-agrees t e at from bytes (eqb (arrayBytes (c .book) t e) (length bytes)) refl
   element-agrees t at from bytes (resolved.Lacks b) = agrees-refused from bytes 7 b bytes nowhere
   element-agrees t at from bytes resolved.TooLong = agrees-refused from bytes 8 0 bytes nowhere
 

@@ -29,7 +29,7 @@ rec k w a b = tape-record.recordBytes (record { kind = k; width = w; spare = 0; 
 
 -- a key that names the second field of a struct, with a value: the second byte alone
 second : leavesOf (ctx (struct 0x41 0x42) 8 (rec 3 0 1 0 ++ rec 4 0 2 0 ++ rec 8 1 0 7 ++ rec 5 0 0 0) []) 0 2 ≡ record { from = 1; size = 1 } ∷ []
-unfolding rec struct bare made filled number-le.leValue number-le.leBytes typebook-book.sameName typebook-book.isNamed type-id-typeid.idOf type-names-text.isOneOf type-names-text.startsWith type-names-text.contains type-names-names.isPointerName type-names-names.isSubRangeName type-names-names.isPrimitiveName type-category-category.isPointer type-category-category.isReference type-category-category.isAlias type-category-category.orElse type-category-category.isUnion type-category-category.fieldsCategory type-category-category.complexCategory type-category-category.simpleCategory type-category-category.categoryOf type-provider-find.findFrom type-provider-find.find resolvers-resolve.isFollowed resolvers-resolve.follow field-types-fields.fieldOf field-types-fields.fieldFound field-types-fields.resolveField named-blocks-named.namedFrom tape-record.recordBytes tape-record.recordOf tape-record.stepAt tape-text.nameIn tape-text.recordText touched.after touched._and_ touched.recordBy touched.endAt touched.fieldTouched touched.foundTouched touched.keyTouched touched.keysTouched touched.valueTouched touched.itemTouched touched.walkTouched touched.rootTouched touched.leavesOf
+unfolding rec struct bare made filled number-le.leValue number-le.leBytes typebook-book.sameName typebook-book.isNamed type-id-typeid.idOf type-names-text.isOneOf type-names-text.startsWith type-names-text.contains type-names-names.isPointerName type-names-names.isSubRangeName type-names-names.isPrimitiveName type-category-category.isPointer type-category-category.isReference type-category-category.isAlias type-category-category.orElse type-category-category.isUnion type-category-category.fieldsCategory type-category-category.complexCategory type-category-category.simpleCategory type-category-category.categoryOf type-provider-find.findFrom type-provider-find.find resolvers-resolve.isFollowed resolvers-resolve.follow field-types-fields.fieldOf field-types-fields.fieldFound field-types-fields.resolveField named-blocks-named.namedFrom tape-record.recordBytes tape-record.recordOf tape-record.stepAt tape-text.nameIn tape-text.recordText touched.rangesThen touched._and_ touched.recordBy touched.endAt touched.fieldTouched touched.foundTouched touched.keyTouched touched.keysTouched touched.valueTouched touched.itemTouched touched.walkTouched touched.rootTouched touched.leavesOf
 second = refl
 
 -- no key: no byte; a leaf by itself: all its bytes

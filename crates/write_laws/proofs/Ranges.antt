@@ -11,7 +11,7 @@ use lib.Seq.{getD-append-add, getD-take, getD-drop, length-take-le}
 use lib.Dec.{leb, ltb}
 use Rattle.array_elements.specs.Element.{cut}
 use Rattle.ser.specs.Write.{putIn}
-use Rattle.write_laws.specs.Touched.{Range, isIn, isTouched, Within, none, more, OnlyIn}
+use Rattle.write_laws.specs.Touched.{Range, inRange, isTouched, Within, none, more, OnlyIn}
 use Rattle.write_laws.proofs.Plain.{different}
 
 -- ---- in no range
@@ -29,17 +29,17 @@ out-left : (j : ℕ) (rs ss : List Range) → isTouched j (rs ++ ss) ≡ false �
 unfolding isTouched
 out-left j [] ss h = refl
 out-left j (r ∷ rs) ss h =
-    let a : isIn j r ≡ false = or-left (isIn j r) (isTouched j (rs ++ ss)) h in
-    rw a (out-left j rs ss (or-right (isIn j r) (isTouched j (rs ++ ss)) h))
+    let a : inRange j r ≡ false = or-left (inRange j r) (isTouched j (rs ++ ss)) h in
+    rw a (out-left j rs ss (or-right (inRange j r) (isTouched j (rs ++ ss)) h))
 
 out-right : (j : ℕ) (rs ss : List Range) → isTouched j (rs ++ ss) ≡ false → isTouched j ss ≡ false
 unfolding isTouched
 out-right j [] ss h = h
-out-right j (r ∷ rs) ss h = out-right j rs ss (or-right (isIn j r) (isTouched j (rs ++ ss)) h)
+out-right j (r ∷ rs) ss h = out-right j rs ss (or-right (inRange j r) (isTouched j (rs ++ ss)) h)
 
 -- outside one range
 out-one : (j from size : ℕ) → isTouched (from + j) (record { from = from; size = size } ∷ []) ≡ false → size ≤ j
-unfolding isTouched isIn
+unfolding isTouched inRange
 out-one j from size h = by (leb size j) refl
   where
     by : (b : Bool) → leb size j ≡ b → size ≤ j

@@ -66,10 +66,10 @@ by-check buffer len width n mem p b =
 
 -- ---- the buffers
 
-bytes-length : (rs : List Record) → length (trees.bytesOf rs) ≡ 24 * length rs
-unfolding trees.bytesOf
+bytes-length : (rs : List Record) → length (trees.recordsBytes rs) ≡ 24 * length rs
+unfolding trees.recordsBytes
 bytes-length [] = refl
-bytes-length (r ∷ rs) = length-append (recordBytes r) (trees.bytesOf rs) ∙ omega (arith, length-record r, bytes-length rs)
+bytes-length (r ∷ rs) = length-append (recordBytes r) (trees.recordsBytes rs) ∙ omega (arith, length-record r, bytes-length rs)
 
 -- what an accepted answer tells of a trace
 record Told (t : Trace) (tape txt tape′ txt′ : List ℕ) (k m : ℕ) : Type 0 where

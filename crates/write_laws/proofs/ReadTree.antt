@@ -29,7 +29,7 @@ use Rattle.field_types.specs.declared.FieldsCheck.{FieldsCheck}
 use Rattle.field_types.specs.declared.FieldsCheck.the-variants as check
 use Rattle.shape.specs.declared.Shape.{Shape}
 use Rattle.shape.specs.declared.Shape.the-variants as shape
-use Rattle.shape.specs.Array.{strideOf, isLast, bytesOf}
+use Rattle.shape.specs.Array.{strideOf, isLast, arrayBytes}
 use Rattle.tape.specs.declared.record.Record.{Record}
 use Rattle.tape.specs.Record.{newRecord, recordBytes}
 use Rattle.leaves.specs.declared.leaf.LeafValue.{LeafValue}
@@ -39,10 +39,10 @@ use Rattle.leaf_steps.specs.Leaves.{endsAt, traceOf}
 use Rattle.text_decoder.specs.Text.{decodedBy}
 use Rattle.steps.specs.Trace.{Event, rec, text, Trace, done, stop, textBytes, tapeBytes, one, refuse, _then_}
 use Rattle.steps.proofs.Runs.{text-then, tape-then}
-use Rattle.array_elements.specs.Element.{Item, whole, further, shapeAt, elementItem, elementCheck}
+use Rattle.array_elements.specs.Element.{Content, whole, further, shapeAt, elementItem, elementCheck}
 use Rattle.de.specs.declared.reading.Typed.{Typed}
 use Rattle.de.specs.Walk.{Ctx, ctx, typedOf, Child, leafOf, checked, fieldValue, memberOf, membersFrom, membersOf, mapOf, elementsFrom, elementsOf, dimensionOf, elementBy, arrayBy, arrayOf, shapeWalk, itemWalk, walk}
-use Rattle.tape_form.specs.Tree.{Tree, leaf, array, map, Elements, none, element, Members, no-keys, member, count, keys, with-A, records, elementRecords, memberRecords, depth, elementsDepth, membersDepth, Leaf, FineLeaf, FineKey, Fine, FineElements, FineMembers}
+use Rattle.tape_form.specs.Tree.{Tree, leaf, array, map, Elements, none, element, Members, no-keys, member, elementCount, keys, with-A, records, elementRecords, memberRecords, depth, elementsDepth, membersDepth, LeafForm, FineLeaf, FineKey, Fine, FineElements, FineMembers}
 use Rattle.tape_form.specs.Tree as trees
 use Rattle.write_laws.proofs.ReadLeaf.{FineValue, leaf-fine, bits-small, decoded-formed}
 
@@ -120,10 +120,10 @@ stands-right {buffer} from xs ys s =
 
 -- ---- the bytes of records
 
-bytes-append : (xs ys : List Record) → trees.bytesOf (xs ++ ys) ≡ trees.bytesOf xs ++ trees.bytesOf ys
-unfolding trees.bytesOf
+bytes-append : (xs ys : List Record) → trees.recordsBytes (xs ++ ys) ≡ trees.recordsBytes xs ++ trees.recordsBytes ys
+unfolding trees.recordsBytes
 bytes-append [] ys = refl
-bytes-append (r ∷ xs) ys = rw (bytes-append xs ys) (sym (append-assoc (recordBytes r) (trees.bytesOf xs) (trees.bytesOf ys)))
+bytes-append (r ∷ xs) ys = rw (bytes-append xs ys) (sym (append-assoc (recordBytes r) (trees.recordsBytes xs) (trees.recordsBytes ys)))
 
 -- ---- what events are
 
@@ -133,27 +133,27 @@ module _ (book buffer : List ℕ) where
     pub tree : Tree
     pub levels : depth tree ≤ left
     pub fine : Fine book buffer tree
-    pub bytes : tapeBytes from es ≡ trees.bytesOf (records tree)
+    pub bytes : tapeBytes from es ≡ trees.recordsBytes (records tree)
 
   record Several (left n from : ℕ) (es : List Event) : Type 0 where
     all : Elements
-    many : count all ≡ n
+    many : elementCount all ≡ n
     levels : elementsDepth all ≤ left
     fine : FineElements book buffer all
-    bytes : tapeBytes from es ≡ trees.bytesOf (elementRecords all)
+    bytes : tapeBytes from es ≡ trees.recordsBytes (elementRecords all)
 
   record Keyed (left n from : ℕ) (es : List Event) : Type 0 where
     all : Members
     many : keys all ≡ n
     levels : membersDepth all ≤ left
     fine : FineMembers book buffer all
-    bytes : tapeBytes from es ≡ trees.bytesOf (memberRecords all)
+    bytes : tapeBytes from es ≡ trees.recordsBytes (memberRecords all)
 
   record OneKey (left f from : ℕ) (es : List Event) : Type 0 where
     tree : Tree
     levels : depth tree ≤ left
     fine : Fine book buffer tree
-    bytes : tapeBytes from es ≡ recordBytes (with-A 4 f) ++ trees.bytesOf (records tree)
+    bytes : tapeBytes from es ≡ recordBytes (with-A 4 f) ++ trees.recordsBytes (records tree)
 
   -- a trace that is not refused emits events that are so, where their texts stand
   abbrev EmitsBy : (ℕ → List Event → Type 0) → Trace → Type 0
@@ -204,7 +204,7 @@ module _ (book buffer : List ℕ) where
     -- a record that is a value by itself
     alone : (left k w a b : ℕ) → FineLeaf book buffer (record { kind = k; width = w; spare = 0; declared = 0; a = a; b = b })
         → Emits (Value (suc left)) (one (rec (newRecord k w a b)))
-    unfolding textBytes tapeBytes depth Fine records trees.bytesOf
+    unfolding textBytes tapeBytes depth Fine records trees.recordsBytes
     alone left k w a b f =
         record {
           emits = λ from s. record {
@@ -216,7 +216,7 @@ module _ (book buffer : List ℕ) where
         }
 
     fine-record : (k w a b : ℕ) → k < 256 → w < 256 → a < 2 ^ 64 → b < 2 ^ 64
-        → Leaf book buffer (record { kind = k; width = w; spare = 0; declared = 0; a = a; b = b })
+        → LeafForm book buffer (record { kind = k; width = w; spare = 0; declared = 0; a = a; b = b })
         → FineLeaf book buffer (record { kind = k; width = w; spare = 0; declared = 0; a = a; b = b })
     fine-record k w a b hk hw ha hb l =
         record {
@@ -234,7 +234,7 @@ module _ (book buffer : List ℕ) where
         fine-record 11 0 from (length xs) (omega arith) (omega arith) (omega arith) (omega arith) (trees.text refl refl l (rw e h))
 
     text-alone : (left : ℕ) (xs : List ℕ) → wellFormed xs ≡ true → Emits (Value (suc left)) (one (text 0 0 xs))
-    unfolding textBytes tapeBytes depth Fine records trees.bytesOf
+    unfolding textBytes tapeBytes depth Fine records trees.recordsBytes
     text-alone left xs h =
         record {
           emits = λ from s. record {
@@ -287,12 +287,12 @@ module _ (book buffer : List ℕ) where
       few = valid-size book valid .few
 
       -- a value's type, and an array's element type, are type blocks
-      abbrev Good : Item Typed → Type 0
+      abbrev Good : Content Typed → Type 0
       Good (whole x) = isType book (x .resolved) ≡ true
       Good (further d t e) = isType book (e .resolved) ≡ true
 
       abbrev Children : ℕ → Child → Type 0
-      Children left child = (i : Item Typed) (mem : List ℕ) → Good i → Bytes mem → Emits (Value left) (child i mem)
+      Children left child = (i : Content Typed) (mem : List ℕ) → Good i → Bytes mem → Emits (Value left) (child i mem)
 
       module _ (left : ℕ) (child : Child) (ih : Children left child) where
         -- ---- a map
@@ -312,7 +312,7 @@ module _ (book buffer : List ℕ) where
             (λ from fs v. record { tree = v .tree; levels = v .levels; fine = v .fine; bytes = ap (λ (x : List ℕ). recordBytes (with-A 4 f) ++ x) (v .bytes) })
 
         members-emit : (mem : List ℕ) → Bytes mem → (f k : ℕ) → ((j : ℕ) → j < k → FineKey book (f + j)) → Emits (Keyed left k) (membersFrom child c mem f k)
-        unfolding membersFrom tapeBytes textBytes keys membersDepth FineMembers memberRecords trees.bytesOf
+        unfolding membersFrom tapeBytes textBytes keys membersDepth FineMembers memberRecords trees.recordsBytes
         members-emit mem b f zero h =
             record { emits = λ from s. record { all = no-keys; many = refl; levels = omega arith; fine = tt; bytes = refl } }
         members-emit mem b f (suc k) h =
@@ -329,11 +329,11 @@ module _ (book buffer : List ℕ) where
               bytes =
                   tape-then from es fs
                   ∙ rw (v .bytes, r .bytes, bytes-append (records (v .tree)) (memberRecords (r .all)))
-                  (append-assoc (recordBytes (with-A 4 f)) (trees.bytesOf (records (v .tree))) (trees.bytesOf (memberRecords (r .all))));
+                  (append-assoc (recordBytes (with-A 4 f)) (trees.recordsBytes (records (v .tree))) (trees.recordsBytes (memberRecords (r .all))));
             })
 
         map-emits : (x : Typed) → isType book (x .resolved) ≡ true → (mem : List ℕ) → Bytes mem → Emits (Value (suc left)) (mapOf child c x mem)
-        unfolding mapOf membersOf tapeBytes depth Fine records trees.bytesOf
+        unfolding mapOf membersOf tapeBytes depth Fine records trees.recordsBytes
         map-emits x y mem b =
             let t : ℕ = x .resolved in
             let d = valid-type book valid t y in
@@ -357,8 +357,8 @@ module _ (book buffer : List ℕ) where
 
         -- ---- an array
 
-        elements-emit : (item : Item Typed) → Good item → (stride : ℕ) (mem : List ℕ) → Bytes mem → (from k : ℕ) → Emits (Several left k) (elementsFrom child item stride mem from k)
-        unfolding elementsFrom tapeBytes textBytes count elementsDepth FineElements elementRecords trees.bytesOf
+        elements-emit : (item : Content Typed) → Good item → (stride : ℕ) (mem : List ℕ) → Bytes mem → (from k : ℕ) → Emits (Several left k) (elementsFrom child item stride mem from k)
+        unfolding elementsFrom tapeBytes textBytes elementCount elementsDepth FineElements elementRecords trees.recordsBytes
         elements-emit item g stride mem b at zero =
             record { emits = λ from s. record { all = none; many = refl; levels = omega arith; fine = tt; bytes = refl } }
         elements-emit item g stride mem b at (suc k) =
@@ -385,7 +385,7 @@ module _ (book buffer : List ℕ) where
             by false = y
 
         dimension-emits : (d t : ℕ) (e : Typed) → isType book (e .resolved) ≡ true → (mem : List ℕ) → Bytes mem → Emits (Value (suc left)) (dimensionOf child c d t e mem)
-        unfolding dimensionOf elementsOf tapeBytes depth Fine records trees.bytesOf
+        unfolding dimensionOf elementsOf tapeBytes depth Fine records trees.recordsBytes
         dimension-emits d t e y mem b =
             emits-checked (Value (suc left)) (elementCheck book width d t (e .resolved)) _
             (emits-after (Several left (countOf book t d)) (Value (suc left)) 1 0 (countOf book t d) 0 _
@@ -398,14 +398,14 @@ module _ (book buffer : List ℕ) where
               tree = array (r .all);
               levels = omega arith;
               fine = (omega (arith, q, l), r .fine);
-              bytes = rw (← q) (ap (λ (x : List ℕ). recordBytes (with-A 1 (count (r .all))) ++ x) (r .bytes));
+              bytes = rw (← q) (ap (λ (x : List ℕ). recordBytes (with-A 1 (elementCount (r .all))) ++ x) (r .bytes));
             }))
 
         element-by : (t n : ℕ) (mem : List ℕ) → Bytes mem → (r : Resolved) → ((u : ℕ) → r ≡ resolved.Base u → isType book u ≡ true)
             → Emits (Value (suc left)) (elementBy child c t n mem r)
         unfolding elementBy resolvedNumbers
         element-by t n mem b (resolved.Base e) h =
-            emits-if (Value (suc left)) (eqb (bytesOf book t e) (length mem)) _ 10 0 (dimension-emits 0 t (typedOf c n e) (h e refl) mem b)
+            emits-if (Value (suc left)) (eqb (arrayBytes book t e) (length mem)) _ 10 0 (dimension-emits 0 t (typedOf c n e) (h e refl) mem b)
         element-by t n mem b (resolved.Lacks k) h = emits-refused (Value (suc left)) 7 k
         element-by t n mem b resolved.TooLong h = emits-refused (Value (suc left)) 8 0
 

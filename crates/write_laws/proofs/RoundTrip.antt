@@ -23,7 +23,7 @@ use Rattle.ser.specs.declared.WriteAnswer.{WriteAnswer}
 use Rattle.ser.proofs.Numbers.{write-is}
 use Rattle.ser.specs.Write as ser
 use Rattle.ser.specs.Write.{Outcome, went}
-use Rattle.ser.specs.Call.{typeWrite, rootBy, rootWrite, bookWrite, writeCall, Wrote}
+use Rattle.ser.specs.Call.{typeWrite, rootBy, rootWrite, bookWrite, writeCall, WriteIs}
 use Rattle.write_laws.specs.Trip as trip
 use Rattle.write_laws.specs.Laws.{GivenBack, RoundTrip}
 use Rattle.write_laws.proofs.Plain.{different}
@@ -74,7 +74,7 @@ call-same buffer len width n mem tape text p b small es records texts h f q =
     book-same (take len buffer) text tape small width mem b es records texts (v .valid) (bytes-take len buffer p) m (v .kind) (rw z h) y f)
 
 -- an accepted call's answer and output
-given : (o : Outcome) (mem output : List ℕ) (w : WriteAnswer) (new : List ℕ) → Same o mem → length output ≡ length mem → Wrote o mem output w new → GivenBack w mem new
+given : (o : Outcome) (mem output : List ℕ) (w : WriteAnswer) (new : List ℕ) → Same o mem → length output ≡ length mem → WriteIs o mem output w new → GivenBack w mem new
 given o mem output w new s l x =
     record {
       done = write-is _ _ (x .answer) ∙ rw (s .is);

@@ -17,7 +17,7 @@ use Rattle.type_id.specs.TypeId.{idOf}
 use Rattle.type_id.specs.declared.AdsTypeId.{AdsTypeId}
 use Rattle.type_id.specs.declared.AdsTypeId.the-variants.{Real32, Real64, UInt16, UInt32, UInt64}
 use Rattle.integer.proofs.Numbers.{integer-write-is}
-use Rattle.integer.specs.Integer.{integerReadNumbers, readInteger, writeInteger, integerBytes, bufferAfter}
+use Rattle.integer.specs.Integer.{integerReadNumbers, readInteger, writeInteger, integerBytes, integerAfter}
 use Rattle.integer.specs.declared.Integer.{Integer}
 use Rattle.integer.specs.declared.Integer.the-variants as integer
 use Rattle.integer.specs.declared.IntegerRead.{IntegerRead}
@@ -41,7 +41,7 @@ use Rattle.book_check.proofs.Valid.{valid-size}
 use Rattle.named_blocks.specs.Named.{entryNamed}
 use Rattle.tape.specs.declared.record.Record.{Record}
 use Rattle.tape.specs.Record.{recordBytes, Held}
-use Rattle.tape.specs.Text.{partOf, nameIn, recordText}
+use Rattle.tape.specs.Text.{textPart, nameIn, recordText}
 use Rattle.leaves.specs.declared.leaf.LeafValue.{LeafValue}
 use Rattle.leaves.specs.declared.leaf.LeafValue.the-variants as value
 use Rattle.leaves.specs.Leaf as leaves
@@ -126,7 +126,7 @@ module _ (book buffer : List ℕ) (width t : ℕ) (mem : List ℕ) (b : Bytes me
 
   module _ (id : AdsTypeId) (same : (v : Integer) → integerLeaf book width t v mem k ≡ integerBy id v mem) where
     integer-writes : (v : Integer) → read.Value v ≡ readInteger id mem → integerLeaf book width t v mem k ≡ holds mem
-    unfolding integerBy bufferAfter
+    unfolding integerBy integerAfter
     integer-writes v e =
         let w = integer-back id mem b v e mem refl in
         let d : writeInteger id v mem ≡ write.Done = sym (integer-write-is _ _ (w .answer)) in
@@ -256,7 +256,7 @@ module _ (book buffer : List ℕ) (width t : ℕ) (mem : List ℕ) (b : Bytes me
 
   module _ (small : length buffer < 2 ^ 64) (other : k ≡ target.Other) where
     record-text : (from : ℕ) (xs : List ℕ) → Stands buffer from xs → recordText book buffer (rec-of 11 0 from (length xs)) ≡ xs
-    unfolding recordText partOf
+    unfolding recordText textPart
     record-text from xs s =
         rw (le-leb (from + length xs) (length buffer) (s .inside)) (ap (take (length xs)) (s .is) ∙ take-append-seam xs (s .rest))
 

@@ -17,7 +17,7 @@ use Rattle.type_provider.specs.declared.Found.the-variants as found
 use Rattle.type_category.specs.Category.{categoryOf}
 use Rattle.book_check.specs.Check.{ValidBook}
 use Rattle.book_check.proofs.Valid.{valid-size, valid-below, valid-type}
-use Rattle.resolvers.specs.Resolve.{resolveAlias, onward, lookUp, resolvedNumbers}
+use Rattle.resolvers.specs.Resolve.{resolveAlias, chainOnward, lookUp, resolvedNumbers}
 use Rattle.resolvers.specs.declared.Resolved.{Resolved}
 use Rattle.resolvers.specs.declared.Resolved.the-variants as resolved
 use Rattle.resolvers.proofs.Chains.{look-typed}
@@ -29,7 +29,7 @@ use Rattle.field_types.specs.declared.FieldsCheck.the-variants as check
 use Rattle.shape.specs.declared.Shape.{Shape}
 use Rattle.shape.specs.declared.Shape.the-variants as shape
 use Rattle.shape.specs.Value.{shapeOf}
-use Rattle.shape.specs.Array.{strideOf, isLast, bytesOf}
+use Rattle.shape.specs.Array.{strideOf, isLast, arrayBytes}
 use Rattle.named_blocks.specs.Named.{fieldNamed}
 use Rattle.tape.specs.declared.record.Record.{Record}
 use Rattle.tape.specs.declared.cursor.Cursor.{Cursor}
@@ -40,7 +40,7 @@ use Rattle.tape.proofs.Records.{record-back, length-record}
 use Rattle.leaves.specs.Leaf.{leafAt}
 use Rattle.steps.specs.Trace.{Event, rec, Trace, done, stop, textBytes, tapeBytes, one, refuse}
 use Rattle.steps.proofs.Runs.{tape-then}
-use Rattle.array_elements.specs.Element.{Item, whole, further, cut, shapeAt, elementItem, elementCheck}
+use Rattle.array_elements.specs.Element.{Content, whole, further, cut, shapeAt, elementItem, elementCheck}
 use Rattle.de.specs.declared.reading.Typed.{Typed}
 use Rattle.de.specs.Walk as de
 use Rattle.ser_leaf.specs.Leaf.{targetOf}
@@ -57,7 +57,7 @@ put-back : (from size : ℕ) (bytes : List ℕ) → ser.putIn from size bytes (c
 put-back from size bytes = ap (λ (x : List ℕ). take from bytes ++ x) (take-append-drop size (drop from bytes)) ∙ take-append-drop from bytes
 
 -- the same item for the writer and for what is kept, which know of a type its resolved block alone
-abbrev pub plainItem : Item Typed → Item ℕ
+abbrev pub plainItem : Content Typed → Content ℕ
 plainItem (whole x) = whole (x .resolved)
 plainItem (further d t e) = further d t (e .resolved)
 
@@ -145,8 +145,8 @@ module _ (book buffer tape : List ℕ) where
   emits-fine P check.TooLong t p = emits-refused book buffer P 8 0
 
   -- the end record of a kind
-  end-back : (k : ℕ) → k < 256 → (mem : List ℕ) → Emits book buffer (Back (λ at bytes. ser.taken tape at bytes (ser.endBy k bytes)) mem) (one (rec (rec-of k 0 0 0)))
-  unfolding tapeBytes ser.taken ser.takenBy ser.endBy
+  end-back : (k : ℕ) → k < 256 → (mem : List ℕ) → Emits book buffer (Back (λ at bytes. ser.taken tape at bytes (ser.endRecordBy k bytes)) mem) (one (rec (rec-of k 0 0 0)))
+  unfolding tapeBytes ser.taken ser.takenBy ser.endRecordBy
   end-back k l mem =
       record {
         emits = λ from s.
@@ -167,13 +167,13 @@ module _ (book buffer tape : List ℕ) where
     few = valid-size book valid .few
 
     -- a value's type, and an array's element type, are type blocks
-    abbrev Good : Item Typed → Type 0
+    abbrev Good : Content Typed → Type 0
     Good (whole x) = isType book (x .resolved) ≡ true
     Good (further d t e) = isType book (e .resolved) ≡ true
 
     abbrev Children : de.Child → ser.Child → trip.Child → Type 0
     Children child write kept =
-        (i : Item Typed) (mem : List ℕ) → Good i → Bytes mem → kept (plainItem i) mem ≡ true → Emits book buffer (Back (write (plainItem i)) mem) (child i mem)
+        (i : Content Typed) (mem : List ℕ) → Good i → Bytes mem → kept (plainItem i) mem ≡ true → Emits book buffer (Back (write (plainItem i)) mem) (child i mem)
 
     module _ (child : de.Child) (write : ser.Child) (kept : trip.Child) (ih : Children child write kept) where
       -- ---- a map
@@ -240,11 +240,11 @@ module _ (book buffer tape : List ℕ) where
 
       -- ---- an array
 
-      elements-back : (i : Item Typed) → Good i → (stride n : ℕ) (mem : List ℕ) → Bytes mem → (index at k : ℕ) → index + k ≡ n → trip.elementsKept kept (plainItem i) stride mem at k ≡ true
+      elements-back : (i : Content Typed) → Good i → (stride n : ℕ) (mem : List ℕ) → Bytes mem → (index at k : ℕ) → index + k ≡ n → trip.elementsKept kept (plainItem i) stride mem at k ≡ true
           → Emits book buffer (Back (ser.elementsFrom write sc (plainItem i) stride n index at k) mem) (de.elementsFrom child i stride mem at k)
       unfolding de.elementsFrom ser.elementsFrom trip.elementsKept
       elements-back i g stride n mem b index at zero e h =
-          emits-map (Back (λ cur bytes. ser.taken tape cur bytes (ser.endBy 2 bytes)) mem) _ _
+          emits-map (Back (λ cur bytes. ser.taken tape cur bytes (ser.endRecordBy 2 bytes)) mem) _ _
           (λ from es x. back-as _ _ mem (λ cur. rw (le-ltb index n (omega (arith, e)))) from es x) (end-back 2 (omega arith) mem)
       elements-back i g stride n mem b index at (suc k) e h =
           let first : Bool = kept (plainItem i) (cut at stride mem) in
@@ -290,14 +290,14 @@ module _ (book buffer tape : List ℕ) where
           → (r : Resolved) → lookUp book width t ≡ r → trip.arrayKept kept rc t mem r ≡ true → Emits book buffer (Back (ser.itemWalk write sc (whole t)) mem) (de.elementBy child rc t n mem r)
       unfolding de.elementBy trip.arrayKept ser.itemWalk ser.taken ser.takenBy ser.valueBy ser.arrayOf ser.enteredAt ser.enteredBy ser.elementType ser.arrayBy resolvedNumbers
       element-by t s mem b q n (resolved.Base e) l h =
-          emits-where _ (eqb (bytesOf book t e) (length mem)) _ 10 0 (λ z.
+          emits-where _ (eqb (arrayBytes book t e) (length mem)) _ 10 0 (λ z.
           dimension-back 0 t (de.typedOf rc n e) (look-typed book width t e l) mem b h (ser.itemWalk write sc (whole t)) (λ at x. rw (x, s, q, l, z)))
       element-by t s mem b q n (resolved.Lacks k) l h = emits-refused book buffer _ 7 k
       element-by t s mem b q n resolved.TooLong l h = emits-refused book buffer _ 8 0
 
       -- a name that is found leads where its aliases do
       look-found : (t n : ℕ) → find book (typeNameOf book t) ≡ found.At n → lookUp book width t ≡ resolveAlias book width n
-      unfolding lookUp onward
+      unfolding lookUp chainOnward
       look-found t n e = rw e
 
       array-by : (t : ℕ) → shapeOf (categoryOf book width t) ≡ shape.Array → (mem : List ℕ) → Bytes mem → eqb (length mem) (sizeOf book t) ≡ true

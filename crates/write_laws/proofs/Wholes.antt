@@ -18,7 +18,7 @@ use Rattle.ser.specs.declared.WriteAnswer.the-variants.{Done, NotFound, Refused
 use Rattle.array_elements.specs.Element.{whole}
 use Rattle.ser.specs.Write.{Ctx, ctx, Outcome, went, refused}
 use Rattle.ser.proofs.Numbers.{write-is}
-use Rattle.ser.specs.Call.{typeWrite, rootBy, rootWrite, bookWrite, writeCall, Wrote}
+use Rattle.ser.specs.Call.{typeWrite, rootBy, rootWrite, bookWrite, writeCall, WriteIs}
 use Rattle.write_laws.specs.Touched.{Touched, rangesOf, rootTouched, leavesOf, OnlyIn}
 use Rattle.write_laws.specs.Laws.{BytesOutside}
 use Rattle.write_laws.proofs.Plain.{different}
@@ -83,7 +83,7 @@ call-room buffer len width n image room tape text at new =
     (λ m q e. room-same (ctx (take len buffer) width tape text) m room image (eqb room (length image)) refl at new e)
 
 module _ (image output : List ℕ) (r : WriteAnswer) (last : List ℕ) (d : r ≡ Done) (c : Ctx) (n : ℕ) where
-  by-outcome : (o : Outcome) → Wrote o image output r last → Whole c n image o
+  by-outcome : (o : Outcome) → WriteIs o image output r last → Whole c n image o
       → ((at : Cursor) (new : List ℕ) → o ≡ went at new → eqb (length output) (length image) ≡ true) → OnlyIn (leavesOf c n (length image)) image last
   by-outcome (went at new) w x room =
       let q : last ≡ new = (rw (room at new refl) at (w .output-is)) in

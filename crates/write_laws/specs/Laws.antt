@@ -15,7 +15,7 @@ use Rattle.de.specs.Read.{readTrace}
 use Rattle.ser.specs.declared.WriteAnswer.{WriteAnswer}
 use Rattle.ser.specs.declared.WriteAnswer.the-variants.{Done, Refused}
 use Rattle.ser.specs.Write.{Ctx, ctx, Outcome, went, refused}
-use Rattle.ser.specs.Call.{typeWrite, bookWrite, answerOf, writeCall, Wrote}
+use Rattle.ser.specs.Call.{typeWrite, bookWrite, answerOf, writeCall, WriteIs}
 use Rattle.write_laws.specs.Touched.{OnlyIn, leavesOf}
 use Rattle.write_laws.specs.Trip.{isKept}
 
@@ -24,7 +24,7 @@ use Rattle.write_laws.specs.Trip.{isKept}
 abbrev pub BytesOutside : Type 0
 BytesOutside =
     (buffer : List ℕ) (len width n : ℕ) (image output tape text : List ℕ) (r : WriteAnswer) (new : List ℕ)
-    → Wrote (writeCall buffer len width n image (length output) tape text) image output r new → r ≡ Done
+    → WriteIs (writeCall buffer len width n image (length output) tape text) image output r new → r ≡ Done
     → OnlyIn (leavesOf (ctx (take len buffer) width tape text) n (length image)) image new
 
 -- a write that is accepted ends at place n of the tape, and one that is refused is not refused with 16
@@ -67,4 +67,4 @@ RoundTrip =
     → Bytes buffer → Bytes mem → length txt < 2 ^ 64
     → ReadIs (readTrace buffer len width n mem) tape txt r tape′ txt′ → r ≡ reading.Done k m → m ≤ room
     → isKept (de.ctx (take len buffer) width) n mem ≡ true → length output ≡ length mem
-    → Wrote (writeCall buffer len width n mem (length output) (take (24 * k) tape′) (take room txt′)) mem output w new → GivenBack w mem new
+    → WriteIs (writeCall buffer len width n mem (length output) (take (24 * k) tape′) (take room txt′)) mem output w new → GivenBack w mem new

@@ -23,7 +23,7 @@ use Rattle.tape.specs.declared.record.Record.{Record}
 use Rattle.tape.specs.declared.cursor.Cursor.{Cursor}
 use Rattle.tape.specs.declared.cursor.Step.{Step}
 use Rattle.tape.specs.declared.cursor.Step.the-variants as step
-use Rattle.array_elements.specs.Element.{Item, whole, further, elementItem}
+use Rattle.array_elements.specs.Element.{Content, whole, further, elementItem}
 use Rattle.ser.specs.Write.{Ctx}
 
 -- a range of bytes: its first, and how many
@@ -32,13 +32,13 @@ pub record Range : Type 0 where
   pub size : ℕ
 
 -- byte j is in a range
-unfoldable pub isIn : ℕ → Range → Bool
-isIn j r = leb (r .from) j && ltb j (r .from + r .size)
+unfoldable pub inRange : ℕ → Range → Bool
+inRange j r = leb (r .from) j && ltb j (r .from + r .size)
 
 -- byte j is in one of the ranges
 unfoldable pub isTouched : ℕ → List Range → Bool
 isTouched j [] = false
-isTouched j (r ∷ rs) = isIn j r || isTouched j rs
+isTouched j (r ∷ rs) = inRange j r || isTouched j rs
 
 -- every range lies from byte lo on and before byte hi
 pub data Within (lo hi : ℕ) : List Range → Type 0 where
@@ -53,25 +53,25 @@ pub record OnlyIn (rs : List Range) (old new : List ℕ) : Type 0 where
 
 -- ---- along the tape
 
--- the cursor after some records with the ranges of their leaves; or nothing, where no write is accepted
+-- the cursor rangesThen some records with the ranges of their leaves; or nothing, where no write is accepted
 pub data Touched : Type 0 where
   upto : Cursor → List Range → Touched
   nowhere : Touched
 
 -- some ranges, and those that follow
-unfoldable pub after : List Range → Touched → Touched
-after rs (upto at ss) = upto at (rs ++ ss)
-after rs nowhere = nowhere
+unfoldable pub rangesThen : List Range → Touched → Touched
+rangesThen rs (upto at ss) = upto at (rs ++ ss)
+rangesThen rs nowhere = nowhere
 
--- the first, and what follows from the cursor after it
+-- the first, and what follows from the cursor rangesThen it
 infixr 5 _and_
 unfoldable pub _and_ : Touched → (Cursor → Touched) → Touched
-upto at rs and f = after rs (f at)
+upto at rs and f = rangesThen rs (f at)
 nowhere and f = nowhere
 
 -- what an item touches at one level less: from a cursor on, at a place of the output, in so many bytes
 abbrev pub Child : Type 0
-Child = Item ℕ → Cursor → ℕ → ℕ → Touched
+Child = Content ℕ → Cursor → ℕ → ℕ → Touched
 
 -- what follows by a record, where there is one
 unfoldable pub recordBy : (Record → Cursor → Touched) → Step → Touched
@@ -106,7 +106,7 @@ keysTouched child c t (suc k) at from = keyTouched child c t at from and (λ nex
 -- ---- an array: its elements follow each other
 
 -- k elements of `stride` bytes each, and the end record
-unfoldable pub elementsTouched : Child → Ctx → Item ℕ → ℕ → ℕ → Cursor → ℕ → Touched
+unfoldable pub elementsTouched : Child → Ctx → Content ℕ → ℕ → ℕ → Cursor → ℕ → Touched
 elementsTouched child c item stride zero at from = endAt c at
 elementsTouched child c item stride (suc k) at from = child item at from stride and (λ next. elementsTouched child c item stride k next (from + stride))
 

@@ -26,7 +26,7 @@ use Rattle.leaves.specs.Leaf.{leafAt}
 use Rattle.text_decoder.specs.declared.Decoder.{Decoder}
 use Rattle.text_decoder.specs.declared.Decoder.the-variants as decoder
 use Rattle.leaf_steps.specs.Leaves.{endsAt}
-use Rattle.array_elements.specs.Element.{Item, whole, further, cut, elementItem, shapeAt}
+use Rattle.array_elements.specs.Element.{Content, whole, further, cut, elementItem, shapeAt}
 use Rattle.de.specs.Walk.{Ctx}
 
 -- ---- a leaf
@@ -68,7 +68,7 @@ leafKept book t mem (leaf.Refused k) = true
 
 -- what is asked at one level less
 abbrev pub Child : Type 0
-Child = Item ℕ → List ℕ → Bool
+Child = Content ℕ → List ℕ → Bool
 
 -- a name finds this block
 unfoldable pub finds : ℕ → Found → Bool
@@ -89,7 +89,7 @@ fieldsKept child c t mem f (suc k) =
     && (fieldKept child mem (resolveField (c .book) (c .width) f) && fieldsKept child c t mem (f + 1) k)
 
 -- the k elements of `stride` bytes from `from` on
-unfoldable pub elementsKept : Child → Item ℕ → ℕ → List ℕ → ℕ → ℕ → Bool
+unfoldable pub elementsKept : Child → Content ℕ → ℕ → List ℕ → ℕ → ℕ → Bool
 elementsKept child item stride mem from zero = true
 elementsKept child item stride mem from (suc k) = child item (cut from stride mem) && elementsKept child item stride mem (from + stride) k
 

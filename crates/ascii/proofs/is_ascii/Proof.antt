@@ -5,14 +5,14 @@ use mathlib.Core.Bool.{false, cond}
 use Prim.Native.Nat.{_≤_, _-_}
 use lib.ListN.{length, drop}
 use lib.Dec.{ltb}
-use Rattle.ascii.specs.Ascii.{ascii}
+use Rattle.ascii.specs.Ascii.{isAscii}
 use Rattle.ascii.proofs.Ascii.{highest-again, highest-end}
 use Rattle.ascii.proofs.is_ascii.Statement.{statement}
 use Rattle.ascii.proofs.is_ascii.Tie as tie
 
 abbrev Inv-loop : tie.InvT-loop
 Inv-loop bytes highest₀ i₀ highest i =
-    (i ≤ length bytes) × (ascii bytes ≡ cond (ltb highest 0x80) (ascii (drop i bytes)) false)
+    (i ≤ length bytes) × (isAscii bytes ≡ cond (ltb highest 0x80) (isAscii (drop i bytes)) false)
 
 abbrev μ-loop : tie.MeasureT-loop
 μ-loop bytes highest₀ i₀ highest i =

@@ -2,14 +2,14 @@ use borrow.Author.Needs.{needs}
 use mathlib.Core.Path.{_≡_}
 use Prim.Native.Nat.{_≤_, _-_}
 use Rattle.typebook.specs.Book.{blocks}
-use Rattle.book_check.specs.Check.{placedFrom, placed}
+use Rattle.book_check.specs.Check.{placedFrom, allInPlace}
 use Rattle.book_check.proofs.Blocks.{placed-start, placed-stop, placed-again, placed-fields, placed-end}
 use Rattle.book_check.proofs.placed.Statement.{statement}
 use Rattle.book_check.proofs.placed.Tie as tie
 
 abbrev Inv-loop : tie.InvT-loop
 Inv-loop book n fields₀ entries₀ i₀ fields entries i =
-    (i ≤ n) × (placed book ≡ placedFrom book i (blocks book - i) fields entries)
+    (i ≤ n) × (allInPlace book ≡ placedFrom book i (blocks book - i) fields entries)
 
 abbrev μ-loop : tie.MeasureT-loop
 μ-loop book n fields₀ entries₀ i₀ fields entries i =

@@ -52,8 +52,8 @@ use denote.Triple.Table.{entered, cited}
 use denote.Triple.Walked.{says, needs, Stays, stay-slice, stay-none, stay-none-slice, walkOf, goes-slice, goes-none, goes-none-slice, Walks, ends-at, walked, walk-meets}
 use denote.Exit.{yes}
 use Rattle.field_records.specs.declared.ResolvedField.{ResolvedField as Rec}
-use Rattle.field_records.specs.Stored.{none}
-use Rattle.field_records.specs.Stored.{Ready, recordAt, recordsAt, filledAt}
+use Rattle.field_records.specs.Stored.{noRecord}
+use Rattle.field_records.specs.Stored.{AllResolvable, recordAt, resolvedRecordsAt, filledAt}
 use Rattle.field_records.proofs.Stored.{sets-filled}
 use Rattle.field_records.proofs.ResolvedField as T
 use Rattle.field_records.proofs.ResolvedField.Laws as T′
@@ -111,7 +111,7 @@ module _ {M : Type 1} (𝓤 : URA M) (H : Heap 𝓤) (A : Atoms 𝓤) (mem : Mem
   RecordAt = tripleOf 𝓤 H A record-at.signature (record-at.spec 𝓤 H A mem run)
 
 module _ {M : Type 1} (𝓤 : URA M) (H : Heap 𝓤) (A : Atoms 𝓤) (W : Given 𝓤 H A) (mem : Memory → SProp 𝓤) (run : Routine → Fun 𝓤) (κ₀ κ₁ κ₂ : Lft) (q₀ q₁ q₂ : Share) (buf idx : RefT (List ℕ)) (len width root n b o : ℕ) (γ : GName) (ys : List Rec)
-    (buf-room : Room u8 (length (buf .now))) (idx-room : Room u32 (length (idx .now))) (len-fits : len < 2 ^ 64) (width-fits : width < 2 ^ 8) (root-fits : root < 2 ^ 64) (n-fits : n < 2 ^ 64) (room : Room R (length ys)) (ready : Ready (buf .now) len width root n) (inside : n ≤ length ys) where
+    (buf-room : Room u8 (length (buf .now))) (idx-room : Room u32 (length (idx .now))) (len-fits : len < 2 ^ 64) (width-fits : width < 2 ^ 8) (root-fits : root < 2 ^ 64) (n-fits : n < 2 ^ 64) (room : Room R (length ys)) (ready : AllResolvable (buf .now) len width root n) (inside : n ≤ length ys) where
   -- the borrow at the list l
   abbrev x : List Rec → RefT (List Rec)
   x l = record { ptr = (b, o); name = γ; now = l }
@@ -140,10 +140,10 @@ module _ {M : Type 1} (𝓤 : URA M) (H : Heap 𝓤) (A : Atoms 𝓤) (W : Given
   recordI i = recordAt (buf .now) len width root i
 
   abbrev whole-list : List Rec
-  whole-list = sets ys 0 (recordsAt (buf .now) len width root 0 n)
+  whole-list = sets ys 0 (resolvedRecordsAt (buf .now) len width root 0 n)
 
   same-length : length whole-list ≡ length ys
-  same-length = length-sets ys 0 (recordsAt (buf .now) len width root 0 n)
+  same-length = length-sets ys 0 (resolvedRecordsAt (buf .now) len width root 0 n)
 
   abbrev Post : Val → SProp 𝓤
   Post = walkOf 𝓤 H A fill.ended stayed (fill.clauses 𝓤 H A mem run) .post (((κ₀, (κ₁, (κ₂, tt))), (q₀, (q₁, (q₂, tt))), tt, a, vals), tt)
@@ -218,7 +218,7 @@ module _ {M : Type 1} (𝓤 : URA M) (H : Heap 𝓤) (A : Atoms 𝓤) (W : Given
 
     -- t records are left, and stored into zs from i on they give the whole
     abbrev Facts : ℕ → ℕ → List Rec → Type 0
-    Facts t i zs = (i + t ≡ n) × (length zs ≡ length ys) × (sets zs i (recordsAt (buf .now) len width root i t) ≡ whole-list)
+    Facts t i zs = (i + t ≡ n) × (length zs ≡ length ys) × (sets zs i (resolvedRecordsAt (buf .now) len width root i t) ≡ whole-list)
 
     abbrev Inv : ℕ → SProp 𝓤
     Inv t = ex 𝓤 (λ (i : ℕ). ex 𝓤 (λ (zs : List Rec). guard 𝓤 (Facts t i zs) (⋆ 𝓤 H A (At i zs))))
@@ -252,7 +252,7 @@ module _ {M : Type 1} (𝓤 : URA M) (H : Heap 𝓤) (A : Atoms 𝓤) (W : Given
         assigns ! (bin ! (load ! (from ! (fld ! refl (stop !))) (look-in ! 16 (sub ! 0 refl (whole !)))) (load ! (from ! (stop !)) (look ! 8 refl)) tt) (from ! (stop !)) (init ! 9 refl (tt, tt)) $
         rewrite ! 9 (λ (p : ℕ). ‵ (fat fullShare tyPtr l₁₂ 0 (vptr b p))) (sym (place-is 16 o i)) refl $
         -- element i is taken out of the row, stored to, and put back
-        move ! (4 ∷ []) $ elem-out ! R (Is R) (shows 𝓤 H A R) (LL.vals T.the-type T′.the-laws) (LL.tells T.the-type T′.the-laws) fullShare zs i none b o within (λ _.
+        move ! (4 ∷ []) $ elem-out ! R (Is R) (shows 𝓤 H A R) (LL.vals T.the-type T′.the-laws) (LL.tells T.the-type T′.the-laws) fullShare zs i noRecord b o within (λ _.
         assigns ! (of-opd ! (load ! (from ! (stop !)) (look ! 9 refl))) (from ! (hop ! (look ! 11 refl) (stop !))) (store-raw ! 0 refl (LL.lawful T.the-type T′.the-laws 𝓤 H A W .typed r _ is .0)) $
         move ! (1 ∷ []) $ drop ! $ move ! (0 ∷ 2 ∷ 1 ∷ []) $ elem-put ! R fullShare zs i r (u ∷ []) b o within $
         rewrite ! 0 (λ (y : Rec). ‵ (row R fullShare (set zs i y) b o)) e refl $
@@ -284,7 +284,7 @@ module _ {M : Type 1} (𝓤 : URA M) (H : Heap 𝓤) (A : Atoms 𝓤) (W : Given
 
     -- a turn from the invariant at t leaves the loop, or ends in the invariant below t
     turn-at : (t i : ℕ) (zs : List Rec) → Facts t i zs → ent 𝓤 (⋆ 𝓤 H A (At i zs)) (Wp 𝓤 H C Λ En body.turn-1 (afterTurn 𝓤 H (Below t) Left))
-    unfolding recordsAt
+    unfolding resolvedRecordsAt
     turn-at zero i zs f =
         subst (λ (j : ℕ). ent 𝓤 (⋆ 𝓤 H A (At j zs)) (Wp 𝓤 H C Λ En body.turn-1 (afterTurn 𝓤 H (Below zero) Left))) (sym (f .0) ∙ add-zero i)
         (subst (λ (ws : List Rec). ent 𝓤 (⋆ 𝓤 H A (At n ws)) (Wp 𝓤 H C Λ En body.turn-1 (afterTurn 𝓤 H (Below zero) Left))) (sym (f .2)) (ends (Below zero)))
@@ -319,7 +319,7 @@ module _ {M : Type 1} (𝓤 : URA M) (H : Heap 𝓤) (A : Atoms 𝓤) (W : Given
   fill-walks 𝓣 known = walked 𝓤 H A fill.ended stayed (fill.clauses 𝓤 H A mem run) (WpFn 𝓤 H (𝓣 .C) (𝓣 .Λ) code.function)
       (λ κs. (slice-vals, (uint-vals w64, (slice-vals, (uint-vals w8, (uint-vals w64, (uint-vals w64, (slice-vals, tt))))))))
       (λ κs. (shr-slice-tells (named 0) (κs .0) u8, (uint-tells w64, (shr-slice-tells (named 1) (κs .1 .0) u32, (uint-tells w8, (uint-tells w64, (uint-tells w64, (mut-slice-tells (named 2) (κs .1 .1 .0) R, tt))))))))
-      (λ κs qs bounds a g are. needs 𝓤 (Ready (a .0 .now) (a .1 .0) (a .1 .1 .1 .0) (a .1 .1 .1 .1 .0) (a .1 .1 .1 .1 .1 .0) × (a .1 .1 .1 .1 .1 .0 ≤ length (a .1 .1 .1 .1 .1 .1 .0 .now))) _ (λ asks.
+      (λ κs qs bounds a g are. needs 𝓤 (AllResolvable (a .0 .now) (a .1 .0) (a .1 .1 .1 .0) (a .1 .1 .1 .1 .0) (a .1 .1 .1 .1 .1 .0) × (a .1 .1 .1 .1 .1 .0 ≤ length (a .1 .1 .1 .1 .1 .1 .0 .now))) _ (λ asks.
       walk 𝓤 H A W mem run (κs .0) (κs .1 .0) (κs .1 .1 .0) (qs .0) (qs .1 .0) (qs .1 .1 .0) (a .0) (a .1 .1 .0) (a .1 .0) (a .1 .1 .1 .0) (a .1 .1 .1 .1 .0) (a .1 .1 .1 .1 .1 .0) (a .1 .1 .1 .1 .1 .1 .0 .ptr .0) (a .1 .1 .1 .1 .1 .1 .0 .ptr .1) (a .1 .1 .1 .1 .1 .1 .0 .name) (a .1 .1 .1 .1 .1 .1 .0 .now)
       (are .0 .0 .1) (are .1 .1 .0 .0 .1) (are .1 .0 .1) (are .1 .1 .1 .0 .1) (are .1 .1 .1 .1 .0 .1) (are .1 .1 .1 .1 .1 .0 .1) (are .1 .1 .1 .1 .1 .1 .0 .0 .1) (asks .0) (asks .1) 𝓣 known))
 

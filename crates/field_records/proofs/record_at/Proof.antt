@@ -3,7 +3,7 @@ use mathlib.Core.Path.{sym, ap, _∙_}
 use borrow.Author.Needs.{needs}
 use Rattle.field_types.proofs.Numbers.{field-is}
 use lib.Seq.{length-take-le}
-use Rattle.field_records.specs.Stored.{recordOf}
+use Rattle.field_records.specs.Stored.{resolvedRecord}
 use Rattle.field_records.proofs.record_at.Statement.{statement}
 use Rattle.field_records.proofs.record_at.Tie as tie
 
@@ -29,7 +29,7 @@ record-of-requires : tie.Need-record-of-requires
 record-of-requires c κs = search needs
 
 returns : tie.Need-returns
-returns c = c .record-of .ensures ∙ ap recordOf (field-is _ _ (c .before .resolve-field-in .ensures .is))
+returns c = c .record-of .ensures ∙ ap resolvedRecord (field-is _ _ (c .before .resolve-field-in .ensures .is))
 
 pub record-at-spec : {M : Type 1} → statement M
 record-at-spec =

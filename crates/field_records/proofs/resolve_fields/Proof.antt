@@ -44,7 +44,7 @@ use Rattle.field_records.specs.declared.ResolvedField.{ResolvedField as 
 use Rattle.field_types.specs.declared.FieldsAnswer.{FieldsAnswer}
 use Rattle.field_types.specs.Calls.{fieldsNumbers, rootFields}
 use Rattle.field_types.proofs.Numbers.{fields-is}
-use Rattle.field_records.specs.Stored.{Ready, countOf, filledAt, Filled}
+use Rattle.field_records.specs.Stored.{AllResolvable, storedCount, filledAt, Filled}
 use Rattle.field_records.proofs.Stored.{filled-stored, plan-ready}
 use Rattle.field_records.proofs.Lent.{Part, lends-local, room-again, big-lit}
 use Rattle.field_records.proofs.ResolvedField as T
@@ -183,8 +183,8 @@ module _ {M : Type 1} (𝓤 : URA M) (H : Heap 𝓤) (A : Atoms 𝓤) (W : Given
   goes-count : (r : FieldsAnswer) (u : Val) → ent 𝓤 (sem 𝓤 H A (S.the-row .own r (u ∷ []))) (Count 𝓤 H A mem run .pre (to-count r u))
   goes-count r u = qed W (‵ (S.the-row .own r (u ∷ [])) ∷ []) ∵ nothing ! $ move ! (1 ∷ 0 ∷ []) $ join ! $ nothing ! $ join ! $ frame ! $ done !
 
-  count-is : (r : FieldsAnswer) (n : ℕ) → ent 𝓤 (ensured 𝓤 H A count.ended (count.clauses 𝓤 H A mem run) tt (r, tt) tt n) (fact 𝓤 (n ≡ countOf r))
-  count-is r n = exE 𝓤 _ (λ ws. snd∗ 𝓤 (sem 𝓤 H A (lasts count.ended tt (r, tt) ws)) (fact 𝓤 (n ≡ countOf r)))
+  count-is : (r : FieldsAnswer) (n : ℕ) → ent 𝓤 (ensured 𝓤 H A count.ended (count.clauses 𝓤 H A mem run) tt (r, tt) tt n) (fact 𝓤 (n ≡ storedCount r))
+  count-is r n = exE 𝓤 _ (λ ws. snd∗ 𝓤 (sem 𝓤 H A (lasts count.ended tt (r, tt) ws)) (fact 𝓤 (n ≡ storedCount r)))
 
   abbrev to-index : Index 𝓤 H A mem run .Ghost
   to-index = (((κ, tt), (q, tt), tt, (buf, (len, tt)), (bv ∷ [], (vint w64 len ∷ [], tt))), tt)
@@ -212,19 +212,19 @@ module _ {M : Type 1} (𝓤 : URA M) (H : Heap 𝓤) (A : Atoms 𝓤) (W : Given
   abbrev Fields : GName → ℕ → List ℕ → ℕ → ℕ → Val → Fml
   Fields δ ν xs l n w = owns (ShrSlice (named 0) κ u8 ∷ usize ∷ ShrSlice (named 1) (ν ∷ []) u32 ∷ u8 ∷ u64 ∷ usize ∷ MutSlice (named 2) κ′ R ∷ []) (filling δ xs l n) (filling-vals xs l w)
 
-  goes-fill : (δ : GName) (ν : ℕ) (xs : List ℕ) (l n : ℕ) (w : Val) → Ready (buf .now) len width root n × (n ≤ length ys)
+  goes-fill : (δ : GName) (ν : ℕ) (xs : List ℕ) (l n : ℕ) (w : Val) → AllResolvable (buf .now) len width root n × (n ≤ length ys)
       → ent 𝓤 (sep 𝓤 (sep 𝓤 (A .lft κ q) (sep 𝓤 (A .lft (ν ∷ []) fullShare) (sep 𝓤 (A .lft κ′ q′) (sem 𝓤 H A ftrue)))) (sem 𝓤 H A (Fields δ ν xs l n w))) (Fill 𝓤 H A mem run .pre (to-fill δ ν xs l n w))
   goes-fill δ ν xs l n w fits = qed W ((‵ (flft κ q) ⊛ ‵ (flft (ν ∷ []) fullShare) ⊛ ‵ (flft κ′ q′) ⊛ ‵ ftrue) ∷ ‵ (Fields δ ν xs l n w) ∷ []) ∵ says ! fits $ frame ! $ done !
 
-  fits-fill : (n : ℕ) → n ≡ countOf planned → Ready (buf .now) len width root n × (n ≤ length ys)
+  fits-fill : (n : ℕ) → n ≡ storedCount planned → AllResolvable (buf .now) len width root n × (n ≤ length ys)
   fits-fill n e =
-      subst (λ (k : ℕ). Ready (buf .now) len width root k × (k ≤ length ys)) (sym e) (plan-ready (buf .now) len width root (length ys) .1, plan-ready (buf .now) len width root (length ys) .0)
+      subst (λ (k : ℕ). AllResolvable (buf .now) len width root k × (k ≤ length ys)) (sym e) (plan-ready (buf .now) len width root (length ys) .1, plan-ready (buf .now) len width root (length ys) .0)
 
   -- what the contract says, of what the callees say
-  meant : (r : FieldsAnswer) (n : ℕ) (zs : List Rec) → Numbers r planned → n ≡ countOf r → zs ≡ filledAt (buf .now) len width root n ys → Filled (buf .now) len width root ys r zs
+  meant : (r : FieldsAnswer) (n : ℕ) (zs : List Rec) → Numbers r planned → n ≡ storedCount r → zs ≡ filledAt (buf .now) len width root n ys → Filled (buf .now) len width root ys r zs
   meant r n zs e e₂ e₃ = record {
     is = e;
-    records = e₃ ∙ ap (λ (k : ℕ). filledAt (buf .now) len width root k ys) (e₂ ∙ ap countOf (fields-is r planned e)) ∙ filled-stored (buf .now) len width root planned ys;
+    records = e₃ ∙ ap (λ (k : ℕ). filledAt (buf .now) len width root k ys) (e₂ ∙ ap storedCount (fields-is r planned e)) ∙ filled-stored (buf .now) len width root planned ys;
   }
 
   exits : (r : FieldsAnswer) (u : Val) (zs : List Rec) → Is S.the-row r (u ∷ []) → Filled (buf .now) len width root ys r zs → length zs ≡ length ys
@@ -273,7 +273,7 @@ module _ {M : Type 1} (𝓤 : URA M) (H : Heap 𝓤) (A : Atoms 𝓤) (W : Given
         use1 W (raw (Count 𝓤 H A mem run .pre (to-count r u))) (goes-count r u) $
         calls-at ! fm (Count 𝓤 H A mem run) known-count (to-count r u) (and-then ! (load ! (from ! (stop !)) (look ! 20 refl)) (no-more !)) (λ w.
         use1 W (later (some (λ (n : ℕ). (‵ ftrue ⊛ ‵ (usize .own n (w ∷ []))) ⊛ raw (ensured 𝓤 H A count.ended (count.clauses 𝓤 H A mem run) tt (r, tt) tt n)))) (id⊢ 𝓤 _) $ await ! tt $ pick ! (λ n.
-        split ! $ move ! (1 ∷ []) $ use1 W (raw (fact 𝓤 (n ≡ countOf r))) (count-is r n) $ heard ! (n ≡ countOf r) (λ e₂. split ! $ drop ! $
+        split ! $ move ! (1 ∷ []) $ use1 W (raw (fact 𝓤 (n ≡ storedCount r))) (count-is r n) $ heard ! (n ≡ storedCount r) (λ e₂. split ! $ drop ! $
         peeks ! usize (Is usize) (shows 𝓤 H A usize) n (w ∷ []) (λ is₂.
         land ! (from ! (stop !)) (init ! 18 refl (uint-lawful 𝓤 H A W w64 .typed n _ is₂ .0)) $
         assigns ! (addr ! (from ! (fld ! refl (hop ! (look-in ! 25 (sub ! 0 refl (whole !))) (stop !))))) (from ! (stop !)) (init ! 8 refl (tt, tt)) $
@@ -283,7 +283,7 @@ module _ {M : Type 1} (𝓤 : URA M) (H : Heap 𝓤) (A : Atoms 𝓤) (W : Given
         move ! (3 ∷ []) $ fsplit ! $ use1 W (‵ Buf ⊛ ‵ Buf) (shr-slice-copy 𝓤 H A W (named 0) κ u8 .twice buf (bv ∷ [])) $ split ! $
         move ! (7 ∷ 4 ∷ []) $ fjoin ! $ move ! (5 ∷ 0 ∷ []) $ fjoin ! $ owned ! u64 (Is u64) (uint-makes 𝓤 H A W w64) root _ (refl, root-fits) $ fjoin ! $ owned ! u8 (Is u8) (uint-makes 𝓤 H A W w8) width _ (refl, width-fits) $ fjoin ! $
         move ! (3 ∷ 0 ∷ []) $ fjoin ! $ owned ! usize (Is usize) (uint-makes 𝓤 H A W w64) len _ (refl, len-fits) $ fjoin ! $ move ! (2 ∷ 0 ∷ []) $ fjoin ! $ move ! (2 ∷ 0 ∷ []) $
-        use2 W (raw (Fill 𝓤 H A mem run .pre (to-fill δ ν xs l₆ n w))) (goes-fill δ ν xs l₆ n w (fits-fill n (e₂ ∙ ap countOf (fields-is r planned e)))) $
+        use2 W (raw (Fill 𝓤 H A mem run .pre (to-fill δ ν xs l₆ n w))) (goes-fill δ ν xs l₆ n w (fits-fill n (e₂ ∙ ap storedCount (fields-is r planned e)))) $
         calls-at ! fm (Fill 𝓤 H A mem run) known-fill (to-fill δ ν xs l₆ n w) (and-then ! (load ! (from ! (stop !)) (look ! 30 refl)) (and-then ! (load ! (from ! (stop !)) (look ! 28 refl)) (and-then ! (load ! (from ! (stop !)) (look ! 19 refl)) (and-then ! (load ! (from ! (stop !)) (look ! 26 refl)) (and-then ! (load ! (from ! (stop !)) (look ! 24 refl)) (and-then ! (load ! (from ! (stop !)) (look ! 15 refl)) (and-then ! (load ! (from ! (stop !)) (look ! 3 refl)) (no-more !)))))))) (λ z.
         use1 W (later (some (λ (t : Unit {0}). ((‵ (flft κ q) ⊛ ‵ (flft (ν ∷ []) fullShare) ⊛ ‵ (flft κ′ q′) ⊛ ‵ ftrue) ⊛ ‵ (unit .own t (z ∷ []))) ⊛ raw (ensured 𝓤 H A fill.ended (fill.clauses 𝓤 H A mem run) (κ, (ν ∷ [], (κ′, tt))) (filling δ xs l₆ n) tt t)))) (id⊢ 𝓤 _) $ await ! tt $ pick ! (λ t.
         split ! $ move ! (1 ∷ []) $ use1 W (some (λ (zs : Lasts′). ‵ (lasts fill.ended (κ, (ν ∷ [], (κ′, tt))) (filling δ xs l₆ n) zs) ⊛ raw (fact 𝓤 (last zs ≡ filledAt (buf .now) len width root n ys)))) (id⊢ 𝓤 _) $ pick ! (λ zs.

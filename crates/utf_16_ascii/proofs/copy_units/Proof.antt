@@ -1,6 +1,6 @@
 -- `utf_16_ascii::copy_units` meets its contract. The loop's invariant: the low bytes that are left, written from here on, make the buffer that all of them make. Assumes nothing.
 use Prim.Native.Nat.{_+_, _*_, _-_, _≤_}
-use Rattle.utf_16.specs.Step.{Left}
+use Rattle.utf_16.specs.Step.{LeftToWrite}
 use Rattle.utf_16_ascii.specs.Ascii16.{lows}
 use Rattle.utf_16_ascii.proofs.Blocks.{copy-start, copy-room, copy-again, copy-end}
 use borrow.Author.Needs.{needs}
@@ -9,7 +9,7 @@ use Rattle.utf_16_ascii.proofs.copy_units.Tie as tie
 
 abbrev Inv-loop : tie.InvT-loop
 Inv-loop bytes at out₀ to i₀ out i =
-    (i ≤ 32) × Left (lows bytes at 32) out₀ to (lows bytes (at + 2 * i) (32 - i)) out (to + i)
+    (i ≤ 32) × LeftToWrite (lows bytes at 32) out₀ to (lows bytes (at + 2 * i) (32 - i)) out (to + i)
 
 abbrev μ-loop : tie.MeasureT-loop
 μ-loop bytes at out₀ to i₀ out i =

@@ -5,7 +5,7 @@ use lib.ListN.{length, drop}
 use Rattle.utf_8.specs.Utf8.{utf8Of}
 use Rattle.utf_16.specs.Decode.{decodeScalars, decodeText}
 use Rattle.utf_16_scalar.proofs.Decodes.{nothing-left}
-use Rattle.utf_16.specs.Step.{Left}
+use Rattle.utf_16.specs.Step.{LeftToWrite}
 use Rattle.utf_16.proofs.Runs.{left-all, write-end}
 use Rattle.utf_16_decoder.proofs.Blocks.{part-room, part-next}
 use borrow.Author.Needs.{needs}
@@ -14,7 +14,7 @@ use Rattle.utf_16_decoder.proofs.write_8.Tie as tie
 
 abbrev Inv-loop : tie.InvT-loop
 Inv-loop bytes out₀ at from₀ to₀ out from to =
-    (from ≤ length bytes) × Left (decodeText bytes) out₀ at (decodeText (drop from bytes)) out to
+    (from ≤ length bytes) × LeftToWrite (decodeText bytes) out₀ at (decodeText (drop from bytes)) out to
 
 abbrev μ-loop : tie.MeasureT-loop
 μ-loop bytes out₀ at from₀ to₀ out from to =

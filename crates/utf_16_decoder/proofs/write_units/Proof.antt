@@ -5,7 +5,7 @@ use lib.ListN.{length, drop}
 use Rattle.utf_8.specs.Utf8.{utf8Of}
 use Rattle.utf_16.specs.Decode.{decodeScalars, decodeText}
 use Rattle.utf_16_scalar.proofs.Decodes.{nothing-left}
-use Rattle.utf_16.specs.Step.{Left}
+use Rattle.utf_16.specs.Step.{LeftToWrite}
 use Rattle.utf_16.proofs.Runs.{left-all, write-again}
 use Rattle.utf_16_decoder.proofs.Blocks.{units-written, units-never}
 use borrow.Author.Needs.{needs}
@@ -14,7 +14,7 @@ use Rattle.utf_16_decoder.proofs.write_units.Tie as tie
 
 abbrev Inv-loop : tie.InvT-loop
 Inv-loop bytes from end out₀ to at₀ place₀ out at place =
-    (at ≤ length bytes) × Left (decodeText (drop from bytes)) out₀ to (decodeText (drop at bytes)) out place
+    (at ≤ length bytes) × LeftToWrite (decodeText (drop from bytes)) out₀ to (decodeText (drop at bytes)) out place
 
 abbrev μ-loop : tie.MeasureT-loop
 μ-loop bytes from end out₀ to at₀ place₀ out at place =

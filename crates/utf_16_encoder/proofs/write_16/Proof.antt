@@ -6,14 +6,14 @@ use lib.ListN.{length, drop}
 use Rattle.utf_8.specs.Utf8.{scalars}
 use Rattle.utf_16.specs.Encode.{utf16Of, encodeText}
 use Rattle.utf_16_encoder.proofs.Scalars.{no-scalars}
-use Rattle.utf_16.specs.Step.{Left}
+use Rattle.utf_16.specs.Step.{LeftToWrite}
 use Rattle.utf_16.proofs.Runs.{left-all, write-again, write-never, write-end}
 use Rattle.utf_16_encoder.proofs.write_16.Statement.{statement}
 use Rattle.utf_16_encoder.proofs.write_16.Tie as tie
 
 abbrev Inv-loop : tie.InvT-loop
 Inv-loop text out₀ from₀ to₀ out from to =
-    (from ≤ length text) × Left (encodeText text) out₀ 0 (encodeText (drop from text)) out to
+    (from ≤ length text) × LeftToWrite (encodeText text) out₀ 0 (encodeText (drop from text)) out to
 
 abbrev μ-loop : tie.MeasureT-loop
 μ-loop text out₀ from₀ to₀ out from to =
