@@ -11,23 +11,23 @@ Numbers are little-endian. A case:
 The program runs the operation on the input and compares what it answers with the recorded bytes. The operations of the
 first layer, with their inputs and answers (u16, u32, u64: numbers; `lent`: all of the lent buffer after the call):
 
-     1  windows_1252::code_point           byte                        u32
-     2  windows_1252::byte_of              u32                         1 and the byte, or 0
-     3  windows_1252::string_end           bytes                       1 if a zero was found, else 0; u32 place
-     4  windows_1252_decoder::decoded_len  u16 room, bytes             0, u64 length; or 15
-     5  windows_1252_decoder::decode       u16 place, bytes            0, u64 next place, lent; or 15, lent
-     6  windows_1252_encoder::encoded_len  u16 room, text              0, u64 length; or 15
-     7  windows_1252_encoder::encode       text                        0, u64 length, lent; or 15, lent
-     8  utf_16::wstring_end                as 3
-     9  utf_16_decoder::decoded_len        as 4
-    10  utf_16_decoder::decode             as 5
-    11  utf_16_encoder::encoded_len        as 6
-    12  utf_16_encoder::encode             as 7
-    13  utf_8_decoder::well_formed         text                        1 or 0
-    14  utf_8_decoder::next                text                        from place 0 to the end: u32 code point, or FFFFFFFFh for
+     1  enc_windows_1252::code_point       byte                        u32
+     2  enc_windows_1252::byte_of          u32                         1 and the byte, or 0
+     3  enc_windows_1252::string_end       bytes                       1 if a zero was found, else 0; u32 place
+     4  enc_windows_1252_decoder::decoded_len u16 room, bytes             0, u64 length; or 15
+     5  enc_windows_1252_decoder::decode   u16 place, bytes            0, u64 next place, lent; or 15, lent
+     6  enc_windows_1252_encoder::encoded_len u16 room, text              0, u64 length; or 15
+     7  enc_windows_1252_encoder::encode   text                        0, u64 length, lent; or 15, lent
+     8  enc_utf_16::wstring_end            as 3
+     9  enc_utf_16_decoder::decoded_len    as 4
+    10  enc_utf_16_decoder::decode         as 5
+    11  enc_utf_16_encoder::encoded_len    as 6
+    12  enc_utf_16_encoder::encode         as 7
+    13  enc_utf_8_decoder::well_formed     text                        1 or 0
+    14  enc_utf_8_decoder::next            text                        from place 0 to the end: u32 code point, or FFFFFFFFh for
                                                                        an ill-formed part, and u32 place after it
-    15  utf_8_encoder::put                 u16 place, u32 code point   0, u64 next place, lent; or 15, lent
-    16  utf_8_encoder::utf8_len            u32 code point              byte
+    15  enc_utf_8_encoder::put             u16 place, u32 code point   0, u64 next place, lent; or 15, lent
+    16  enc_utf_8_encoder::utf8_len        u32 code point              byte
     32  AdsTypeId                          u32                         its place in the list of ids (Unknown: 17), u32 back
     33  le::le_value                       bytes                       u64
     34  le::le_u32                         bytes                       u32

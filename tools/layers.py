@@ -3,7 +3,7 @@
 
     python3 tools/layers.py        prints each such definition with its crate and the file that opens it (exit status 1 if there is any)
 
-The layers are those of crates.txt: '# layer N: ..', and the writer counts to layer 3. A definition is opened by a line 'unfolding a b ..', which
+The layers are those of crates.txt, '# layer N, ..'. A definition is opened by a line 'unfolding a b ..', which
 may go on in lines indented deeper, or by 'unfold a b .. in'. A name comes from a 'use' line, which may rename it or its module, or is written in full.
 """
 
@@ -12,7 +12,7 @@ import sys
 from pathlib import Path
 
 TOP = Path(__file__).resolve().parent.parent
-# `use Rattle.number.specs.Le.{leBytes as bytes, leValue}` and `use Rattle.number.specs.Le as le`; `·specs` and `·proofs` mark the crate itself.
+# `use Rattle.enc_number.specs.Le.{leBytes as bytes, leValue}` and `use Rattle.enc_number.specs.Le as le`; `·specs` and `·proofs` mark the crate itself.
 USE = re.compile(r"^\s*use (Rattle·[\w·]+\.[\w.·-]+?)(?:\.\{([^}]*)\}| as (\S+))?\s*$", re.M)
 OPENS = re.compile(r"^( *)unfolding\b(.*(?:\n\1 +\S.*)*)$|\bunfold\b((?:\s+[^\s()]+)+?)\s+in\b", re.M)
 
@@ -23,7 +23,7 @@ def layers():
     for line in (TOP / "crates.txt").read_text().splitlines():
         if line.startswith("#"):
             number = re.match(r"# layer (\d)", line)
-            layer = int(number[1]) if number else 3 if line == "# the writer" else None
+            layer = int(number[1]) if number else None
         elif ":" in line and layer:
             found[line.partition(":")[0]] = layer
     return found

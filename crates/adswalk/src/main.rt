@@ -3,7 +3,7 @@
 // early return never runs.
 mod files;
 
-use utf_8::Put;
+use enc_utf_8::Put;
 
 fn main() {
     let mut book = files::book_buffer();

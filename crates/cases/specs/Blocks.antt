@@ -2,7 +2,7 @@
 use mathlib.Core.List.{List, [], _∷_, _++_}
 use Prim.Native.Nat.{ℕ, _+_, _-_}
 use lib.ListN.{length, replicate}
-use Rattle.number.specs.Le.{leBytes}
+use Rattle.enc_number.specs.Le.{leBytes}
 
 -- bytes, filled up with zeros
 abbrev pub filledUp : ℕ → List ℕ → List ℕ

@@ -4,20 +4,20 @@ use mathlib.Core.Bool.{_&&_}
 use Prim.Native.Nat.{ℕ, zero, suc, _+_}
 use lib.ListN.{length, take, replicate}
 use lib.IntN.{ℤ, pos, negsuc}
-use Rattle.number.specs.Answer.{refusalOf}
-use Rattle.integer.specs.Integer.{integerReadNumbers, readInteger, twosBits}
+use Rattle.enc_number.specs.Answer.{refusalOf}
+use Rattle.enc_integer.specs.Integer.{integerReadNumbers, readInteger, twosBits}
 use Rattle.type_id.specs.declared.AdsTypeId.the-variants.{Int8, Int16}
-use Rattle.book_check.specs.Check.{checkBook, bookNumbers, checkRoot, atRoot}
+use Rattle.type_book_check.specs.Check.{checkBook, bookNumbers, checkRoot, atRoot}
 use Rattle.type_category.specs.Category.{categoryOf}
 use Rattle.type_category.specs.Number.{categoryNumbers}
 use Rattle.type_category.specs.declared.type_category.AdsTypeCategory.the-variants as category
 use Rattle.resolvers.specs.Calls.{resolutionNumbers, rootAlias}
-use Rattle.walks.specs.Scratch.{scratchFits, listFits}
-use Rattle.read_modify_write.specs.Calls.{rmwNumbers, rmwCall}
-use Rattle.missing_types.specs.Calls.{missingNumbers, missingCall, missingList}
+use Rattle.resolve_walk.specs.Scratch.{scratchFits, listFits}
+use Rattle.resolve_read_modify_write.specs.Calls.{rmwNumbers, rmwCall}
+use Rattle.resolve_missing_types.specs.Calls.{missingNumbers, missingCall, missingList}
 use Rattle.tape.specs.Record.{recordBytes}
-use Rattle.steps.specs.Trace.{Trace, textRecord, textBytes, eventsOf, stepOf}
-use Rattle.steps.specs.Answer.{readNumbers, answerOf, bufferAfter}
+use Rattle.de_output.specs.Trace.{Trace, textRecord, textBytes, eventsOf, stepOf}
+use Rattle.de_output.specs.Answer.{readNumbers, answerOf, bufferAfter}
 use Rattle.de.specs.Read.{readTrace}
 use Rattle.ser.specs.Write.{Outcome}
 use Rattle.ser.specs.Call.{writeCall, writeNumbers, outputAfter}

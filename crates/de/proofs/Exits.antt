@@ -7,13 +7,13 @@ use native.Mathlib.Omega.{arith}
 use lib.ListN.{length, take, drop}
 use lib.Dec.{eqb}
 use borrow.Author.Tests.{le-leb, lt-leb}
-use Rattle.field_types.specs.Fields.{resolveField}
-use Rattle.typebook.specs.Book.{isType, sizeOf, fieldsOf, entriesOf, countOf, typeNameOf}
+use Rattle.resolve_field_types.specs.Fields.{resolveField}
+use Rattle.type_book.specs.Book.{isType, sizeOf, fieldsOf, entriesOf, countOf, typeNameOf}
 use Rattle.type_provider.specs.Find.{foundNumbers, find}
 use Rattle.type_provider.specs.declared.Found.{Found}
 use Rattle.type_provider.specs.declared.Found.the-variants.{At, Nothing}
-use Rattle.book_check.specs.Check.{ValidBook}
-use Rattle.book_check.proofs.Valid.{valid-size, valid-type}
+use Rattle.type_book_check.specs.Check.{ValidBook}
+use Rattle.type_book_check.proofs.Valid.{valid-size, valid-type}
 use mir.Syntax.{w32}
 use mir.Val.{Fits}
 use Rattle.type_category.specs.Category.{categoryOf}
@@ -22,35 +22,35 @@ use Rattle.resolvers.specs.Resolve.{resolveAlias, ResolvedIs}
 use Rattle.resolvers.proofs.Chains.{found-type}
 use Rattle.resolvers.specs.declared.Resolved.{Resolved}
 use Rattle.resolvers.specs.declared.Resolved.the-variants as resolved
-use Rattle.field_types.specs.declared.FieldsCheck.{FieldsCheck}
-use Rattle.field_types.specs.declared.FieldsCheck.the-variants as check
-use Rattle.field_plan.specs.declared.PlannedField.{PlannedField}
-use Rattle.field_plan.specs.declared.Planned.{Planned}
-use Rattle.field_plan.specs.declared.Planned.the-variants as planned
+use Rattle.resolve_field_types.specs.declared.FieldsCheck.{FieldsCheck}
+use Rattle.resolve_field_types.specs.declared.FieldsCheck.the-variants as check
+use Rattle.resolve_field_plan.specs.declared.PlannedField.{PlannedField}
+use Rattle.resolve_field_plan.specs.declared.Planned.{Planned}
+use Rattle.resolve_field_plan.specs.declared.Planned.the-variants as planned
 use Rattle.type_provider.proofs.Numbers.{found-is}
 use Rattle.resolvers.proofs.Numbers.{resolved-is, lacks-numbers, long-numbers}
-use Rattle.field_types.proofs.Numbers.{check-is, check-lacks, check-long, field-lacks, field-long}
-use Rattle.field_plan.specs.Plan.{PlannedFieldIs, Entries, PlanServes, FieldPlanIs}
-use Rattle.field_plan.proofs.Plans.{ready-none}
-use Rattle.steps.specs.declared.Step.{Step}
-use Rattle.steps.specs.declared.Step.the-variants.{Stop}
-use Rattle.shape.specs.declared.Shape.{Shape}
-use Rattle.shape.specs.declared.Shape.the-variants as shape
+use Rattle.resolve_field_types.proofs.Numbers.{check-is, check-lacks, check-long, field-lacks, field-long}
+use Rattle.resolve_field_plan.specs.Plan.{PlannedFieldIs, Entries, PlanServes, FieldPlanIs}
+use Rattle.resolve_field_plan.proofs.Plans.{ready-none}
+use Rattle.de_output.specs.declared.Step.{Step}
+use Rattle.de_output.specs.declared.Step.the-variants.{Stop}
+use Rattle.tape_shape.specs.declared.Shape.{Shape}
+use Rattle.tape_shape.specs.declared.Shape.the-variants as shape
 use Rattle.tape.specs.Record.{newRecord}
-use Rattle.steps.specs.Trace.{rec, one, From, Halts}
-use Rattle.array_elements.specs.Element.{whole, elementItem, shapeAt, shapeCheck, elementCheck, ElementChecked}
-use Rattle.array_elements.proofs.Items.{item-last, item-further}
+use Rattle.de_output.specs.Trace.{rec, one, From, Halts}
+use Rattle.tape_array_elements.specs.Element.{whole, elementItem, shapeAt, shapeCheck, elementCheck, ElementChecked}
+use Rattle.tape_array_elements.proofs.Items.{item-last, item-further}
 use Rattle.de.specs.Plans.{Given, GivenElement, memberPart, PartIs}
 use Rattle.de.specs.declared.reading.Part.{Part}
 use Rattle.de.specs.declared.reading.Part.the-variants as part
 use Rattle.de.specs.declared.reading.Typed.{Typed}
 use Rattle.de.specs.Walk.{Ctx, ctx, typedOf, Child, leafOf, checked, memberOf, membersFrom, membersOf, mapOf, elementsFrom, elementsOf, dimensionOf, elementBy, arrayOf, shapeWalk, walk}
-use Rattle.leaves.specs.Leaf.{leafAt}
-use Rattle.leaf_steps.specs.Leaves.{traceOf}
-use Rattle.shape.specs.Value.{shapeOf}
-use Rattle.shape.specs.Array.{strideOf, isLast, arrayBytes}
-use Rattle.shape.proofs.Strides.{Along}
-use Rattle.steps.proofs.Runs.{Rest, from-as, from-held, halted, chain, rest-all, rest-next}
+use Rattle.de_leaves.specs.Leaf.{leafAt}
+use Rattle.de_leaf_output.specs.Leaves.{traceOf}
+use Rattle.tape_shape.specs.Value.{shapeOf}
+use Rattle.tape_shape.specs.Array.{strideOf, isLast, arrayBytes}
+use Rattle.tape_shape.proofs.Strides.{Along}
+use Rattle.de_output.proofs.Runs.{Rest, from-as, from-held, halted, chain, rest-all, rest-next}
 use Rattle.de.proofs.Walks as walks
 
 -- ---- value

@@ -7,24 +7,24 @@ use native.Mathlib.Omega.{arith}
 use lib.ListN.{length, take, drop}
 use lib.Dec.{leb}
 use borrow.Author.Tests.{eq-eqb, ne-eqb}
-use Rattle.typebook.specs.Book.{sizeOf, fieldsOf, countOf, typeNameOf}
+use Rattle.type_book.specs.Book.{sizeOf, fieldsOf, countOf, typeNameOf}
 use Rattle.type_provider.specs.Find.{find}
 use Rattle.type_provider.specs.declared.Found.{Found}
 use Rattle.type_provider.specs.declared.Found.the-variants.{At, Nothing}
 use Rattle.resolvers.specs.Resolve.{resolveAlias}
 use Rattle.resolvers.proofs.Numbers.{lacks-numbers}
-use Rattle.field_types.specs.Fields.{resolveField, fieldsCheck}
-use Rattle.field_types.proofs.Numbers.{field-lacks, field-long}
+use Rattle.resolve_field_types.specs.Fields.{resolveField, fieldsCheck}
+use Rattle.resolve_field_types.proofs.Numbers.{field-lacks, field-long}
 use Rattle.resolvers.specs.declared.Resolved.{Resolved}
-use Rattle.field_types.specs.declared.FieldAnswer.the-variants as answer
-use Rattle.field_types.specs.declared.FieldsCheck.{FieldsCheck}
-use Rattle.field_types.specs.declared.ResolvedField.{ResolvedField}
-use Rattle.field_types.specs.declared.FieldAnswer.{FieldAnswer}
-use Rattle.shape.specs.declared.Shape.{Shape}
-use Rattle.shape.specs.Array.{strideOf}
+use Rattle.resolve_field_types.specs.declared.FieldAnswer.the-variants as answer
+use Rattle.resolve_field_types.specs.declared.FieldsCheck.{FieldsCheck}
+use Rattle.resolve_field_types.specs.declared.ResolvedField.{ResolvedField}
+use Rattle.resolve_field_types.specs.declared.FieldAnswer.{FieldAnswer}
+use Rattle.tape_shape.specs.declared.Shape.{Shape}
+use Rattle.tape_shape.specs.Array.{strideOf}
 use Rattle.tape.specs.Record.{newRecord}
-use Rattle.steps.specs.Trace.{Trace, rec, one, refuse, _then_}
-use Rattle.array_elements.specs.Element.{Content, whole, further, cut, elementItem, shapeAt, elementCheck}
+use Rattle.de_output.specs.Trace.{Trace, rec, one, refuse, _then_}
+use Rattle.tape_array_elements.specs.Element.{Content, whole, further, cut, elementItem, shapeAt, elementCheck}
 use Rattle.de.specs.declared.reading.Typed.{Typed}
 use Rattle.de.specs.declared.reading.Part.{Part}
 use Rattle.de.specs.declared.reading.Part.the-variants as part

@@ -5,28 +5,28 @@ use mathlib.Core.List.{List}
 use Prim.Native.Nat.{ℕ, _≤_, _-_}
 use native.Mathlib.Omega.{arith}
 use lib.ListN.{length, take, drop}
-use Rattle.typebook.specs.Book.{isType}
-use Rattle.book_check.specs.Check.{ValidBook, checkRoot}
-use Rattle.book_check.specs.declared.RootCheck.{RootCheck}
-use Rattle.book_check.specs.declared.RootCheck.the-variants as root
-use Rattle.book_check.proofs.Valid.{root-valid}
-use Rattle.book_check.proofs.Roots.{at-refused, at-block}
+use Rattle.type_book.specs.Book.{isType}
+use Rattle.type_book_check.specs.Check.{ValidBook, checkRoot}
+use Rattle.type_book_check.specs.declared.RootCheck.{RootCheck}
+use Rattle.type_book_check.specs.declared.RootCheck.the-variants as root
+use Rattle.type_book_check.proofs.Valid.{root-valid}
+use Rattle.type_book_check.proofs.Roots.{at-refused, at-block}
 use Rattle.resolvers.proofs.Calls.{root-fits}
 use Rattle.resolvers.specs.Resolve.{resolveAlias, ResolvedIs}
 use Rattle.resolvers.specs.declared.Resolved.{Resolved}
 use Rattle.resolvers.specs.declared.Resolved.the-variants as resolved
-use Rattle.steps.specs.declared.Step.{Step}
-use Rattle.steps.specs.declared.Step.the-variants.{Next, Stop}
-use Rattle.steps.specs.declared.ReadAnswer.{ReadAnswer}
-use Rattle.steps.specs.Trace.{From}
+use Rattle.de_output.specs.declared.Step.{Step}
+use Rattle.de_output.specs.declared.Step.the-variants.{Next, Stop}
+use Rattle.de_output.specs.declared.ReadAnswer.{ReadAnswer}
+use Rattle.de_output.specs.Trace.{From}
 use Rattle.type_category.specs.Category.{categoryOf}
 use Rattle.type_category.specs.declared.type_category.AdsTypeCategory.{AdsTypeCategory}
-use Rattle.array_elements.specs.Element.{whole}
+use Rattle.tape_array_elements.specs.Element.{whole}
 use Rattle.de.specs.Walk.{Ctx, ctx, walk}
 use Rattle.de.specs.Read.{rootBy, rootTrace, readTrace}
 use Rattle.resolvers.proofs.Numbers.{resolved-is, lacks-numbers, long-numbers}
-use Rattle.steps.specs.Answer.{ReadIs, Finished}
-use Rattle.steps.proofs.Answers.{read-by, read-refused, read-as}
+use Rattle.de_output.specs.Answer.{ReadIs, Finished}
+use Rattle.de_output.proofs.Answers.{read-by, read-refused, read-as}
 
 -- ---- a checked book
 

@@ -4,17 +4,17 @@ use mathlib.Core.Bool.{true, cond}
 use mathlib.Core.List.{List}
 use Prim.Native.Nat.{ℕ, _+_, _≤_}
 use lib.Dec.{leb}
-use Rattle.number.specs.Answer.{refusalOf}
-use Rattle.typebook.specs.Book.{isType}
+use Rattle.enc_number.specs.Answer.{refusalOf}
+use Rattle.type_book.specs.Book.{isType}
 use Rattle.type_category.specs.Category.{categoryOf}
-use Rattle.field_types.specs.Fields.{resolveField, fieldNumbers}
-use Rattle.field_types.specs.declared.ResolvedField.{ResolvedField}
-use Rattle.field_types.specs.declared.FieldAnswer.{FieldAnswer}
-use Rattle.field_types.specs.declared.FieldAnswer.the-variants as answer
-use Rattle.field_plan.specs.Plan.{PlanServes}
-use Rattle.shape.specs.declared.Shape.the-variants as shape
-use Rattle.shape.specs.Array.{isLast}
-use Rattle.array_elements.specs.Element.{shapeAt}
+use Rattle.resolve_field_types.specs.Fields.{resolveField, fieldNumbers}
+use Rattle.resolve_field_types.specs.declared.ResolvedField.{ResolvedField}
+use Rattle.resolve_field_types.specs.declared.FieldAnswer.{FieldAnswer}
+use Rattle.resolve_field_types.specs.declared.FieldAnswer.the-variants as answer
+use Rattle.resolve_field_plan.specs.Plan.{PlanServes}
+use Rattle.tape_shape.specs.declared.Shape.the-variants as shape
+use Rattle.tape_shape.specs.Array.{isLast}
+use Rattle.tape_array_elements.specs.Element.{shapeAt}
 use Rattle.de.specs.declared.reading.Typed.{Typed}
 use Rattle.de.specs.declared.reading.Part.{Part}
 use Rattle.de.specs.declared.reading.Part.the-variants as part

@@ -2,12 +2,12 @@
 use mathlib.Core.List.{List}
 use Prim.Native.Nat.{ℕ}
 use lib.ListN.{take}
-use Rattle.book_check.specs.Check.{checkRoot, atRoot}
+use Rattle.type_book_check.specs.Check.{checkRoot, atRoot}
 use Rattle.resolvers.specs.Resolve.{resolveAlias, resolvedNumbers}
 use Rattle.resolvers.specs.declared.Resolved.{Resolved}
 use Rattle.resolvers.specs.declared.Resolved.the-variants as resolved
-use Rattle.steps.specs.Trace.{Trace, refuse}
-use Rattle.array_elements.specs.Element.{whole}
+use Rattle.de_output.specs.Trace.{Trace, refuse}
+use Rattle.tape_array_elements.specs.Element.{whole}
 use Rattle.de.specs.Walk.{Ctx, ctx, typedOf, refuseBy, walk}
 
 -- by what the aliases of root block n come to: its value, with 64 levels; or 7 with its block, or 8

@@ -4,29 +4,29 @@ use mathlib.Core.List.{List}
 use Prim.Native.Nat.{ℕ, zero, suc, _+_}
 use lib.ListN.{length, getD}
 use lib.Dec.{leb, eqb}
-use Rattle.number.specs.Answer.{refusalOf, valuesOf}
-use Rattle.typebook.specs.Book.{sizeOf, fieldsOf, countOf, typeNameOf}
+use Rattle.enc_number.specs.Answer.{refusalOf, valuesOf}
+use Rattle.type_book.specs.Book.{sizeOf, fieldsOf, countOf, typeNameOf}
 use Rattle.type_provider.specs.Find.{find}
 use Rattle.type_provider.specs.declared.Found.{Found}
 use Rattle.type_provider.specs.declared.Found.the-variants.{At, Nothing}
 use Rattle.type_category.specs.Category.{categoryOf}
 use Rattle.resolvers.specs.Resolve.{resolveAlias, resolvedNumbers}
-use Rattle.field_types.specs.Fields.{resolveField, fieldsCheck, checkNumbers, fieldNumbers}
+use Rattle.resolve_field_types.specs.Fields.{resolveField, fieldsCheck, checkNumbers, fieldNumbers}
 use Rattle.resolvers.specs.declared.Resolved.{Resolved}
 use Rattle.resolvers.specs.declared.Resolved.the-variants as resolved
-use Rattle.field_types.specs.declared.FieldAnswer.{FieldAnswer}
-use Rattle.field_types.specs.declared.FieldAnswer.the-variants as answer
-use Rattle.field_types.specs.declared.FieldsCheck.{FieldsCheck}
-use Rattle.field_types.specs.declared.FieldsCheck.the-variants as check
-use Rattle.shape.specs.declared.Shape.{Shape}
-use Rattle.shape.specs.declared.Shape.the-variants as shape
-use Rattle.shape.specs.Array.{strideOf, arrayBytes}
-use Rattle.array_elements.specs.Element.{Content, whole, further, cut, elementItem, shapeAt, elementCheck}
+use Rattle.resolve_field_types.specs.declared.FieldAnswer.{FieldAnswer}
+use Rattle.resolve_field_types.specs.declared.FieldAnswer.the-variants as answer
+use Rattle.resolve_field_types.specs.declared.FieldsCheck.{FieldsCheck}
+use Rattle.resolve_field_types.specs.declared.FieldsCheck.the-variants as check
+use Rattle.tape_shape.specs.declared.Shape.{Shape}
+use Rattle.tape_shape.specs.declared.Shape.the-variants as shape
+use Rattle.tape_shape.specs.Array.{strideOf, arrayBytes}
+use Rattle.tape_array_elements.specs.Element.{Content, whole, further, cut, elementItem, shapeAt, elementCheck}
 use Rattle.de.specs.declared.reading.Typed.{Typed}
-use Rattle.leaves.specs.Leaf.{leafAt}
-use Rattle.leaf_steps.specs.Leaves.{traceOf}
+use Rattle.de_leaves.specs.Leaf.{leafAt}
+use Rattle.de_leaf_output.specs.Leaves.{traceOf}
 use Rattle.tape.specs.Record.{newRecord}
-use Rattle.steps.specs.Trace.{Trace, rec, one, refuse, _then_}
+use Rattle.de_output.specs.Trace.{Trace, rec, one, refuse, _then_}
 
 -- what is read and never written
 pub record Ctx : Type 0 where

@@ -2,28 +2,28 @@
 ghost use mathlib.Core.Path.{_≡_};
 ghost use mathlib.Core.Bool.{true};
 ghost use lib.ListN.{length};
-ghost use Rattle.book_check.specs.Check.{ValidBook};
-ghost use Rattle.typebook.specs.Book.{isType};
+ghost use Rattle.type_book_check.specs.Check.{ValidBook};
+ghost use Rattle.type_book.specs.Book.{isType};
 ghost use Rattle.type_category.specs.Category.{categoryOf};
 ghost use Rattle.de.specs.Plans.{GivenElement};
-ghost use Rattle.steps.specs.Trace.{From};
-ghost use Rattle.shape.specs.Array.{Fills, FillsNext};
-ghost use Rattle.array_elements.specs.Element.{elementItem};
+ghost use Rattle.de_output.specs.Trace.{From};
+ghost use Rattle.tape_shape.specs.Array.{Fills, FillsNext};
+ghost use Rattle.tape_array_elements.specs.Element.{elementItem};
 ghost use Rattle.de.specs.Walk.{ctx, walk, arrayOf, dimensionOf, elementsOf};
 use crate::deserializer::value;
 use crate::reading::Place;
 use crate::reading::Reading;
 use crate::reading::Typed;
-use field_types::FieldsCheck;
+use de_output::Step;
+use de_output::put_frame;
+use de_output::stop;
+use resolve_field_types::FieldsCheck;
 use resolvers::Resolved;
-use shape::array::is_last;
-use shape::array::product_is;
-use shape::array::stride_of;
-use steps::Step;
-use steps::put_frame;
-use steps::stop;
 use tape::record::ARRAY;
 use tape::record::ARRAY_END;
+use tape_shape::array::is_last;
+use tape_shape::array::product_is;
+use tape_shape::array::stride_of;
 use type_category::type_category::AdsTypeCategory;
 use type_provider::Found;
 use validators::Validity;
@@ -44,7 +44,7 @@ pub(crate) fn array(
     ensures { λ r. ⌜ From (arrayOf (walk (ctx (now (book .entry)) (v .width)) (v .left)) (ctx (now (book .entry)) (v .width)) (v .typed) (now (bytes .entry))) (now (tape .entry)) (now (text .entry)) s r (now (tape .exit)) (now (text .exit)) ⌝ }
 {
     let t = v.typed.resolved;
-    let size = typebook::block::size(book, t) as usize;
+    let size = type_book::block::size(book, t) as usize;
     let Validity::Valid = validate_exact_size(bytes, size) else {
         return stop(s, 10, 0);
     };
@@ -95,7 +95,7 @@ pub(crate) fn dimension(
     let element = p.element;
     let category = element.category;
     let mut plan = [0u64; 256];
-    let fields = array_elements::element_check(
+    let fields = tape_array_elements::element_check(
         book,
         index,
         p.width,
@@ -126,7 +126,7 @@ pub(crate) fn elements(
     requires { ⌜ ValidBook (now book) × (isType (now book) (p .element .resolved) ≡ true) × (p .element .category ≡ categoryOf (now book) (p .width) (p .element .resolved)) × GivenElement (ctx (now book) (p .width)) (p .d) (p .t) (p .element .resolved) (now plan) × Fills (now book) (p .d) (p .t) (p .element .resolved) (length (now bytes)) ⌝ }
     ensures { λ r. ⌜ From (elementsOf (walk (ctx (now (book .entry)) (p .width)) (p .left)) (ctx (now (book .entry)) (p .width)) (p .d) (p .t) (p .element) (now (bytes .entry))) (now (tape .entry)) (now (text .entry)) s r (now (tape .exit)) (now (text .exit)) ⌝ }
 {
-    let n = typebook::block::count(book, p.t, p.d) as usize;
+    let n = type_book::block::count(book, p.t, p.d) as usize;
     let mut here = put_frame(s, tape, text, ARRAY, n as u64);
     let stride = stride_of(n, bytes.len());
     let mut from: usize = 0;

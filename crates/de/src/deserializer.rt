@@ -1,27 +1,27 @@
 // The value of a type in some bytes.
 ghost use mathlib.Core.Path.{_≡_};
-ghost use Rattle.book_check.specs.Check.{ValidBook};
-ghost use Rattle.typebook.specs.Book.{isType};
+ghost use Rattle.type_book_check.specs.Check.{ValidBook};
+ghost use Rattle.type_book.specs.Book.{isType};
 ghost use mathlib.Core.Bool.{true};
 ghost use Rattle.type_category.specs.Category.{categoryOf};
 ghost use Rattle.de.specs.Plans.{Given};
-ghost use Rattle.steps.specs.Answer.{ReadIs};
-ghost use Rattle.steps.specs.Trace.{From};
-ghost use Rattle.array_elements.specs.Element.{whole};
+ghost use Rattle.de_output.specs.Answer.{ReadIs};
+ghost use Rattle.de_output.specs.Trace.{From};
+ghost use Rattle.tape_array_elements.specs.Element.{whole};
 ghost use Rattle.de.specs.Walk.{ctx, walk};
 ghost use Rattle.de.specs.Read.{rootTrace, readTrace};
 use crate::array_access::array;
 use crate::map_access::map;
 use crate::reading::Reading;
 use crate::reading::Typed;
-use book_check::RootCheck;
-use leaf_steps::leaf;
+use de_leaf_output::leaf;
+use de_output::ReadAnswer;
+use de_output::Step;
+use de_output::finish;
 use resolvers::Resolved;
-use shape::Shape;
-use shape::shape_of;
-use steps::ReadAnswer;
-use steps::Step;
-use steps::finish;
+use tape_shape::Shape;
+use tape_shape::shape_of;
+use type_book_check::RootCheck;
 use type_category::type_category::AdsTypeCategory;
 
 // A value of a type in `bytes` (`deserialize_any`). The plan is that of the type's fields, or empty.
@@ -39,7 +39,7 @@ pub(crate) fn value(
     ensures { λ r. ⌜ From (walk (ctx (now (book .entry)) (v .width)) (v .left) (whole (v .typed)) (now (bytes .entry))) (now (tape .entry)) (now (text .entry)) s r (now (tape .exit)) (now (text .exit)) ⌝ }
 {
     if v.left == 0 {
-        return steps::stop(s, 14, 0);
+        return de_output::stop(s, 14, 0);
     }
     let typed = v.typed;
     let category = typed.category;
@@ -159,11 +159,11 @@ pub fn read(
 ) -> ReadAnswer
     ensures { λ r. ⌜ ReadIs (readTrace (now (buffer .entry)) len width root (now (memory .entry))) (now (tape .entry)) (now (text .entry)) r (now (tape .exit)) (now (text .exit)) ⌝ }
 {
-    let checked = book_check::check_root(buffer, len, root);
+    let checked = type_book_check::check_root(buffer, len, root);
     match checked {
         RootCheck::Root(n) => {
             let book = &buffer[0..len];
-            if typebook::block::blocks(book) <= SMALL_BOOK {
+            if type_book::block::blocks(book) <= SMALL_BOOK {
                 return read_small(book, width, n, memory, tape, text);
             }
             read_large(book, width, n, memory, tape, text)

@@ -3,10 +3,10 @@ ghost use mathlib.Core.Path.{_≡_};
 ghost use mathlib.Core.Bool.{true};
 ghost use Prim.Native.Nat.{_+_, _<_};
 ghost use lib.ListN.{length};
-ghost use Rattle.book_check.specs.Check.{ValidBook};
-ghost use Rattle.typebook.specs.Book.{isType};
-ghost use Rattle.field_plan.specs.Plan.{PlanEntry, Entries, PlanServes};
-ghost use Rattle.steps.specs.Trace.{From};
+ghost use Rattle.type_book_check.specs.Check.{ValidBook};
+ghost use Rattle.type_book.specs.Book.{isType};
+ghost use Rattle.resolve_field_plan.specs.Plan.{PlanEntry, Entries, PlanServes};
+ghost use Rattle.de_output.specs.Trace.{From};
 ghost use Rattle.de.specs.Plans.{PartIs};
 ghost use Rattle.de.specs.Walk.{ctx, walk, mapOf, membersOf, memberOf};
 use crate::deserializer::value;
@@ -14,11 +14,11 @@ use crate::reading::Member;
 use crate::reading::Part;
 use crate::reading::Reading;
 use crate::reading::Typed;
-use field_plan::Planned;
-use field_types::FieldsCheck;
-use steps::Step;
-use steps::put_frame;
-use steps::stop;
+use de_output::Step;
+use de_output::put_frame;
+use de_output::stop;
+use resolve_field_plan::Planned;
+use resolve_field_types::FieldsCheck;
 use tape::record::KEY;
 use tape::record::MAP;
 use tape::record::MAP_END;
@@ -40,7 +40,7 @@ pub(crate) fn map(
     ensures { λ r. ⌜ From (mapOf (walk (ctx (now (book .entry)) (v .width)) (v .left)) (ctx (now (book .entry)) (v .width)) (v .typed) (now (bytes .entry))) (now (tape .entry)) (now (text .entry)) s r (now (tape .exit)) (now (text .exit)) ⌝ }
 {
     let t = v.typed.resolved;
-    let size = typebook::block::size(book, t) as usize;
+    let size = type_book::block::size(book, t) as usize;
     let Validity::Valid = validate_exact_size(bytes, size) else {
         return stop(s, 10, 0);
     };
@@ -48,7 +48,7 @@ pub(crate) fn map(
         return members(s, book, index, v, plan, bytes, tape, text);
     }
     let mut own = [0u64; 256];
-    let fields = field_plan::plan_fields_in(book, index, v.width, t, &mut own);
+    let fields = resolve_field_plan::plan_fields_in(book, index, v.width, t, &mut own);
     match fields {
         FieldsCheck::Fine => members(s, book, index, v, &own, bytes, tape, text),
         FieldsCheck::Lacks(b) => stop(s, 7, b),
@@ -71,7 +71,7 @@ pub(crate) fn members(
     ensures { λ r. ⌜ From (membersOf (walk (ctx (now (book .entry)) (v .width)) (v .left)) (ctx (now (book .entry)) (v .width)) (v .typed) (now (bytes .entry))) (now (tape .entry)) (now (text .entry)) s r (now (tape .exit)) (now (text .exit)) ⌝ }
 {
     let t = v.typed.resolved;
-    let n = typebook::block::fields(book, t);
+    let n = type_book::block::fields(book, t);
     let mut here = put_frame(s, tape, text, MAP, n as u64);
     let mut i: u32 = 0;
     while i < n {
@@ -80,7 +80,7 @@ pub(crate) fn members(
         };
         let m = Member {
             f: t + 1 + i,
-            entry: field_plan::entry_at(plan, i),
+            entry: resolve_field_plan::entry_at(plan, i),
             width: v.width,
             left: v.left,
         };
@@ -95,7 +95,7 @@ fn part_of(book: &[u8], index: &[u32], m: Member, bytes: &[u8]) -> Part
     requires { ⌜ ValidBook (now book) × PlanEntry (now book) (m .width) (m .f) (m .entry) ⌝ }
     ensures { λ r. ⌜ PartIs (ctx (now (book .entry)) (m .width)) (m .f) (length (now (bytes .entry))) r ⌝ }
 {
-    let found = field_plan::planned_field(book, index, m.width, m.f, m.entry);
+    let found = resolve_field_plan::planned_field(book, index, m.width, m.f, m.entry);
     match found {
         Planned::Field(x) => {
             let from = x.offset as usize;

@@ -8,17 +8,17 @@ use native.Mathlib.Omega.{arith}
 use lib.ListN.{length, take}
 use lib.Dec.{eqb}
 use borrow.Author.Tests.{ne-eqb}
-use Rattle.typebook.specs.Book.{isType}
-use Rattle.book_check.specs.Check.{checkBook, bookNumbers, ValidBook}
-use Rattle.book_check.proofs.Numbers.{zero-valid}
-use Rattle.book_check.proofs.Valid.{valid-book}
+use Rattle.type_book.specs.Book.{isType}
+use Rattle.type_book_check.specs.Check.{checkBook, bookNumbers, ValidBook}
+use Rattle.type_book_check.proofs.Numbers.{zero-valid}
+use Rattle.type_book_check.proofs.Valid.{valid-book}
 use Rattle.type_cache.specs.declared.Appended.the-variants.{Done, Refused}
 use Rattle.type_cache.specs.Append.{appendedNumbers, appendRefusal, appendCall}
 use Rattle.type_cache.proofs.Adds.{grown}
-use Rattle.number.specs.Answer.{refusalOf, truthNumber}
+use Rattle.enc_number.specs.Answer.{refusalOf, truthNumber}
 use Rattle.ser.specs.Write.{Outcome, went, refused}
 use Rattle.ser.specs.Call.{writeNumbers}
-use Rattle.write_answers.specs.Answers.{isWritten, Numbered}
+use Rattle.gateway_write_answers.specs.Answers.{isWritten, Numbered}
 use Rattle.gateway.specs.Calls.{AppendGiven, WriteGiven}
 
 -- `gateway_check_book` returned 0

@@ -4,15 +4,15 @@ use mathlib.Core.List.{List, [], _∷_}
 use Prim.Native.Nat.{ℕ}
 use Rattle.type_category.specs.declared.type_category.AdsTypeCategory.{AdsTypeCategory}
 use Rattle.type_category.specs.Number.{categoryNumber, categoryNumbers}
-use Rattle.book_check.specs.declared.BookCheck.{BookCheck}
-use Rattle.book_check.specs.Check.{bookNumbers}
+use Rattle.type_book_check.specs.declared.BookCheck.{BookCheck}
+use Rattle.type_book_check.specs.Check.{bookNumbers}
 use Rattle.resolvers.specs.Resolve.{resolvedNumbers, ResolvedIs}
 use Rattle.resolvers.specs.Calls.{resolutionNumbers}
 use Rattle.resolvers.specs.declared.Resolved.{Resolved}
 use Rattle.resolvers.specs.declared.Resolution.{Resolution}
 use Rattle.resolvers.proofs.Numbers.{resolved-is}
-use Rattle.number.specs.Answer.{refusalOf}
-use Rattle.lent_values.specs.Values.{Gives}
+use Rattle.enc_number.specs.Answer.{refusalOf}
+use Rattle.gateway_lent_values.specs.Values.{Gives}
 use Rattle.gateway.specs.Calls.{ChainGiven}
 
 numbered : (k : AdsTypeCategory) (n : ℕ) → n ≡ categoryNumber k → 0 ∷ n ∷ [] ≡ categoryNumbers k

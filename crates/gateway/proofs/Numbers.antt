@@ -4,13 +4,13 @@ use mathlib.Core.Bool.{Bool, true, false, cond}
 use mathlib.Core.List.{List}
 use Prim.Native.Nat.{ℕ, _+_}
 use lib.ListN.{length}
-use Rattle.utf_8.specs.Buffer.{fitsIn, Wrote}
-use Rattle.utf_8.specs.declared.Put.{Put}
-use Rattle.utf_8.specs.declared.Put.the-variants.{Next, Full}
+use Rattle.enc_utf_8.specs.Buffer.{fitsIn, Wrote}
+use Rattle.enc_utf_8.specs.declared.Put.{Put}
+use Rattle.enc_utf_8.specs.declared.Put.the-variants.{Next, Full}
 use Rattle.type_index.specs.Index.{FoundBy}
 use Rattle.type_provider.specs.declared.Found.{Found}
 use Rattle.type_provider.specs.Find.{foundNumbers}
-use Rattle.codes.specs.Numbers.{placeNumber, foundNumber}
+use Rattle.gateway_codes.specs.Numbers.{placeNumber, foundNumber}
 use Rattle.gateway.specs.Numbers.{WroteAs, FoundAs}
 
 by : (b : Bool) (n : ℕ) → placeNumber (cond b (Next n) Full) ≡ cond b n 0xffff_ffff_ffff_ffff

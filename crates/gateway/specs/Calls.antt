@@ -3,27 +3,27 @@ use mathlib.Core.Path.{_≡_}
 use mathlib.Core.Bool.{Bool, true}
 use mathlib.Core.List.{List}
 use Prim.Native.Nat.{ℕ}
-use Rattle.typebook.specs.Book.{isType}
+use Rattle.type_book.specs.Book.{isType}
 use Rattle.type_cache.specs.declared.Appended.{Appended}
 use Rattle.type_cache.specs.Append.{appendedNumbers, AppendIs}
 use Rattle.resolvers.specs.declared.Resolved.{Resolved}
 use Rattle.resolvers.specs.declared.Resolved.the-variants.{Base}
 use Rattle.resolvers.specs.Resolve.{resolvedNumbers}
-use Rattle.field_types.specs.declared.FieldsAnswer.{FieldsAnswer}
-use Rattle.field_types.specs.Calls.{fieldsNumbers, Filled}
-use Rattle.read_modify_write.specs.declared.Rmw.{Rmw}
-use Rattle.missing_types.specs.declared.Missing.{Missing}
-use Rattle.read_modify_write.specs.Calls.{rmwNumbers, RmwIn, RmwIs}
-use Rattle.missing_types.specs.Calls.{missingNumbers, MissingIn, MissingIs}
-use Rattle.steps.specs.declared.ReadAnswer.{ReadAnswer}
-use Rattle.steps.specs.Trace.{Trace}
-use Rattle.steps.specs.Answer.{readNumbers, ReadIs}
+use Rattle.resolve_field_types.specs.declared.FieldsAnswer.{FieldsAnswer}
+use Rattle.resolve_field_types.specs.Calls.{fieldsNumbers, Filled}
+use Rattle.resolve_read_modify_write.specs.declared.Rmw.{Rmw}
+use Rattle.resolve_missing_types.specs.declared.Missing.{Missing}
+use Rattle.resolve_read_modify_write.specs.Calls.{rmwNumbers, RmwIn, RmwIs}
+use Rattle.resolve_missing_types.specs.Calls.{missingNumbers, MissingIn, MissingIs}
+use Rattle.de_output.specs.declared.ReadAnswer.{ReadAnswer}
+use Rattle.de_output.specs.Trace.{Trace}
+use Rattle.de_output.specs.Answer.{readNumbers, ReadIs}
 use Rattle.ser.specs.declared.WriteAnswer.{WriteAnswer}
 use Rattle.ser.specs.Write.{Outcome}
 use Rattle.ser.specs.Call.{writeNumbers, WriteIs}
 use Rattle.plan_save.specs.declared.Plan.{Plan}
 use Rattle.plan_save.specs.Call.{planNumbers, planRefusal, PlanIs}
-use Rattle.lent_values.specs.Values.{Gives}
+use Rattle.gateway_lent_values.specs.Values.{Gives}
 
 -- what appending answers, as a number and values, and the buffer that it leaves
 pub record AppendGiven (buffer : List ℕ) (len : ℕ) (piece before : List ℕ) (r : ℕ) (buffer′ after : List ℕ) : Type 0 where

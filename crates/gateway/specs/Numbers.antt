@@ -4,11 +4,11 @@ use mathlib.Core.Bool.{cond}
 use mathlib.Core.List.{List}
 use Prim.Native.Nat.{ℕ, _+_}
 use lib.ListN.{length}
-use Rattle.utf_8.specs.Buffer.{splice, fitsIn}
+use Rattle.enc_utf_8.specs.Buffer.{splice, fitsIn}
 use Rattle.type_index.specs.Index.{FoundBy}
 use Rattle.type_provider.specs.declared.Found.{Found}
 use Rattle.type_provider.specs.Find.{foundNumbers}
-use Rattle.codes.specs.Numbers.{foundNumber}
+use Rattle.gateway_codes.specs.Numbers.{foundNumber}
 
 -- `xs` written into `out` from `at` on, or the buffer as it was where it does not fit
 pub record WroteAs (xs out : List ℕ) (at r : ℕ) (out′ : List ℕ) : Type 0 where

@@ -1,26 +1,26 @@
 // What the blocks of a book say, and appending a type to it.
 ghost use mathlib.Core.Path.{_≡_};
 ghost use Prim.Native.Nat.{_+_, _*_};
-ghost use Rattle.typebook.specs.Book.{isType, nameOf, typeNameOf};
+ghost use Rattle.type_book.specs.Book.{isType, nameOf, typeNameOf};
 ghost use Rattle.type_category.specs.Category.{categoryOf};
 ghost use Rattle.type_category.specs.Number.{categoryNumbers};
-ghost use Rattle.number.specs.Answer.{truthNumber};
-ghost use Rattle.lent_values.specs.Values.{Gives};
-ghost use Rattle.book_answers.specs.Answers.{PartGiven};
+ghost use Rattle.enc_number.specs.Answer.{truthNumber};
+ghost use Rattle.gateway_lent_values.specs.Values.{Gives};
+ghost use Rattle.gateway_book_answers.specs.Answers.{PartGiven};
 ghost use Rattle.gateway.specs.Calls.{AppendGiven};
-use book_answers::give_appended;
-use book_answers::give_name;
-use book_answers::give_type_name;
-use category_number::number;
-use lent_values::done_1;
+use gateway_book_answers::give_appended;
+use gateway_book_answers::give_name;
+use gateway_book_answers::give_type_name;
+use gateway_lent_values::done_1;
 use type_category::type_category::AdsTypeCategory;
+use type_category_number::number;
 
 // 1 where the block is a type block, else 0.
 #[no_mangle]
 pub extern "C" fn gateway_is_type(book: &[u8], block: u32) -> u8
     ensures { λ r. ⌜ r ≡ truthNumber (isType (now (book .entry)) block) ⌝ }
 {
-    codes::truth(typebook::block::is_type(book, block))
+    gateway_codes::truth(type_book::block::is_type(book, block))
 }
 
 // The name's offset in the book and its length.

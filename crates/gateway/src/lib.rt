@@ -1,15 +1,15 @@
 // The static library for the Rust gateway: each call of the crates below, by numbers and slices alone.
 // Nothing checks a caller's declarations against this file: rust/ has the ones that match it.
 ghost use mathlib.Core.Path.{_≡_};
-ghost use Rattle.windows_1252.specs.Text as windows1252;
-ghost use Rattle.utf_16.specs.Decode as utf16Decode;
-ghost use Rattle.utf_16.specs.Encode as utf16Encode;
+ghost use Rattle.enc_windows_1252.specs.Text as windows1252;
+ghost use Rattle.enc_utf_16.specs.Decode as utf16Decode;
+ghost use Rattle.enc_utf_16.specs.Encode as utf16Encode;
 ghost use Rattle.type_provider.specs.Find.{find as findIn, foundNumbers};
 ghost use Rattle.type_index.specs.Index.{IndexOf};
-ghost use Rattle.utf_8.specs.Utf8.{wellFormed};
-ghost use Rattle.book_check.specs.Check.{checkBook, bookNumbers};
-ghost use Rattle.codes.specs.Numbers.{foundNumber};
-ghost use Rattle.number.specs.Answer.{refusalOf, truthNumber};
+ghost use Rattle.enc_utf_8.specs.Utf8.{wellFormed};
+ghost use Rattle.type_book_check.specs.Check.{checkBook, bookNumbers};
+ghost use Rattle.gateway_codes.specs.Numbers.{foundNumber};
+ghost use Rattle.enc_number.specs.Answer.{refusalOf, truthNumber};
 ghost use Rattle.gateway.specs.Numbers.{WroteAs, FoundAs};
 
 pub mod book;
@@ -23,42 +23,42 @@ pub mod write;
 pub extern "C" fn gateway_windows_1252_decode(bytes: &[u8], out: &mut [u8], at: usize) -> u64
     ensures { λ r. ⌜ WroteAs (windows1252.decodeText (now (bytes .entry))) (now (out .entry)) at r (now (out .exit)) ⌝ }
 {
-    codes::place(windows_1252_decoder::decode(bytes, out, at))
+    gateway_codes::place(enc_windows_1252_decoder::decode(bytes, out, at))
 }
 
 #[no_mangle]
 pub extern "C" fn gateway_windows_1252_encode(text: &[u8], out: &mut [u8]) -> u64
     ensures { λ r. ⌜ WroteAs (windows1252.encodeText (now (text .entry))) (now (out .entry)) 0 r (now (out .exit)) ⌝ }
 {
-    codes::place(windows_1252_encoder::encode(text, out))
+    gateway_codes::place(enc_windows_1252_encoder::encode(text, out))
 }
 
 #[no_mangle]
 pub extern "C" fn gateway_utf_16_decode(bytes: &[u8], out: &mut [u8], at: usize) -> u64
     ensures { λ r. ⌜ WroteAs (utf16Decode.decodeText (now (bytes .entry))) (now (out .entry)) at r (now (out .exit)) ⌝ }
 {
-    codes::place(utf_16_decoder::decode(bytes, out, at))
+    gateway_codes::place(enc_utf_16_decoder::decode(bytes, out, at))
 }
 
 #[no_mangle]
 pub extern "C" fn gateway_utf_16_encode(text: &[u8], out: &mut [u8]) -> u64
     ensures { λ r. ⌜ WroteAs (utf16Encode.encodeText (now (text .entry))) (now (out .entry)) 0 r (now (out .exit)) ⌝ }
 {
-    codes::place(utf_16_encoder::encode(text, out))
+    gateway_codes::place(enc_utf_16_encoder::encode(text, out))
 }
 
 #[no_mangle]
 pub extern "C" fn gateway_find(book: &[u8], name: &[u8]) -> u32
     ensures { λ r. ⌜ r ≡ foundNumber (foundNumbers (findIn (now (book .entry)) (now (name .entry)))) ⌝ }
 {
-    codes::found(type_provider::find(book, name))
+    gateway_codes::found(type_provider::find(book, name))
 }
 
 #[no_mangle]
 pub extern "C" fn gateway_find_by(book: &[u8], index: &[u32], name: &[u8]) -> u32
     ensures { λ r. ⌜ FoundAs (now (book .entry)) (now (name .entry)) r ⌝ }
 {
-    codes::found(type_index::find_by(book, index, name))
+    gateway_codes::found(type_index::find_by(book, index, name))
 }
 
 // An index of the names alone, for a call or two.
@@ -82,7 +82,7 @@ pub extern "C" fn gateway_fill_index(book: &[u8], index: &mut [u32])
 pub extern "C" fn gateway_utf_8_well_formed(text: &[u8]) -> u8
     ensures { λ r. ⌜ r ≡ truthNumber (wellFormed (now (text .entry))) ⌝ }
 {
-    codes::truth(utf_8_decoder::well_formed(text))
+    gateway_codes::truth(enc_utf_8_decoder::well_formed(text))
 }
 
 // Document 01's number: 0 where the book is valid, else 1 to 4.
@@ -90,5 +90,5 @@ pub extern "C" fn gateway_utf_8_well_formed(text: &[u8]) -> u8
 pub extern "C" fn gateway_check_book(buffer: &[u8], len: usize) -> u8
     ensures { λ r. ⌜ r ≡ refusalOf (bookNumbers (checkBook (now (buffer .entry)) len)) ⌝ }
 {
-    book_check::refusal_of(book_check::check_book(buffer, len))
+    type_book_check::refusal_of(type_book_check::check_book(buffer, len))
 }

@@ -1,6 +1,6 @@
 // The plan of a save, over our book and the controller's: one call for all asks and adds.
 ghost use Rattle.gateway.specs.Calls.{PlanGiven};
-use plan_answers::give_plan;
+use gateway_plan_answers::give_plan;
 use plan_save::plan_save;
 
 // Completes our book from the controller's, and then 1 where the memory must be read before it is written, else 0; and our book's length.

@@ -1,12 +1,12 @@
 // The read. The call whose name ends in `_in` takes a book that was checked once.
 ghost use mathlib.Core.Path.{_≡_};
 ghost use mathlib.Core.Bool.{true};
-ghost use Rattle.typebook.specs.Book.{isType};
-ghost use Rattle.book_check.specs.Check.{ValidBook};
+ghost use Rattle.type_book.specs.Book.{isType};
+ghost use Rattle.type_book_check.specs.Check.{ValidBook};
 ghost use Rattle.de.specs.Walk.{ctx};
 ghost use Rattle.de.specs.Read.{rootTrace, readTrace};
 ghost use Rattle.gateway.specs.Calls.{ReadGiven};
-use read_answers::give_read;
+use gateway_read_answers::give_read;
 
 // Reads the memory by the root's type: how many records and text bytes.
 #[no_mangle]

@@ -2,16 +2,16 @@
 ghost use mathlib.Core.Path.{_≡_};
 ghost use mathlib.Core.Bool.{true};
 ghost use lib.ListN.{length};
-ghost use Rattle.typebook.specs.Book.{isType};
-ghost use Rattle.book_check.specs.Check.{ValidBook};
+ghost use Rattle.type_book.specs.Book.{isType};
+ghost use Rattle.type_book_check.specs.Check.{ValidBook};
 ghost use Rattle.resolvers.specs.Resolve.{resolveAlias, resolveIndirection};
 ghost use Rattle.resolvers.specs.Calls.{resolutionNumbers, rootAlias, rootIndirection};
-ghost use Rattle.field_types.specs.Calls.{rootFields, rootRecords, fieldsAnswer, fieldRecords, recordRoom};
-ghost use Rattle.lent_values.specs.Values.{Gives};
+ghost use Rattle.resolve_field_types.specs.Calls.{rootFields, rootRecords, fieldsAnswer, fieldRecords, recordRoom};
+ghost use Rattle.gateway_lent_values.specs.Values.{Gives};
 ghost use Rattle.gateway.specs.Calls.{ChainGiven, FieldsGiven};
-use resolver_answers::give_fields;
-use resolver_answers::give_resolution;
-use resolver_answers::give_resolved;
+use gateway_resolver_answers::give_fields;
+use gateway_resolver_answers::give_resolution;
+use gateway_resolver_answers::give_resolved;
 
 // The block that the root comes to with its aliases resolved.
 #[no_mangle]
@@ -91,7 +91,7 @@ pub extern "C" fn gateway_resolve_fields(
     ensures { λ r. ⌜ FieldsGiven (rootFields (now (buffer .entry)) len width root (recordRoom (length (now (records .entry))))) (rootRecords (now (buffer .entry)) len width root) (now (records .entry)) (now (values .entry)) r (now (records .exit)) (now (values .exit)) ⌝ }
 {
     give_fields(
-        field_types::resolve_fields(buffer, len, width, root, records),
+        resolve_field_types::resolve_fields(buffer, len, width, root, records),
         values,
     )
 }
@@ -109,7 +109,7 @@ pub extern "C" fn gateway_resolve_fields_in(
     ensures { λ r. ⌜ FieldsGiven (fieldsAnswer (now (book .entry)) width root (recordRoom (length (now (records .entry))))) (fieldRecords (now (book .entry)) width root) (now (records .entry)) (now (values .entry)) r (now (records .exit)) (now (values .exit)) ⌝ }
 {
     give_fields(
-        field_types::resolve_fields_in(book, index, width, root, records),
+        resolve_field_types::resolve_fields_in(book, index, width, root, records),
         values,
     )
 }

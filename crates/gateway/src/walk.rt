@@ -1,12 +1,12 @@
 // The two walks of the types that a type is made of. The calls whose names end in `_in` take a book that was checked once.
 ghost use mathlib.Core.Path.{_≡_};
 ghost use mathlib.Core.Bool.{true, _&&_};
-ghost use Rattle.typebook.specs.Book.{isType};
-ghost use Rattle.book_check.specs.Check.{ValidBook};
-ghost use Rattle.walks.specs.Scratch.{scratchFits, listFits};
+ghost use Rattle.type_book.specs.Book.{isType};
+ghost use Rattle.type_book_check.specs.Check.{ValidBook};
+ghost use Rattle.resolve_walk.specs.Scratch.{scratchFits, listFits};
 ghost use Rattle.gateway.specs.Calls.{RmwGiven, RmwInGiven, MissingGiven, MissingInGiven};
-use walk_answers::give_missing;
-use walk_answers::give_rmw;
+use gateway_walk_answers::give_missing;
+use gateway_walk_answers::give_rmw;
 
 // 1 where a value's memory must be read before it is written, else 0.
 #[no_mangle]
@@ -21,7 +21,7 @@ pub extern "C" fn gateway_requires_read_modify_write(
     ensures { λ r. ⌜ RmwGiven (now (buffer .entry)) len width root (now (scratch .entry)) (now (values .entry)) r (now (scratch .exit)) (now (values .exit)) ⌝ }
 {
     give_rmw(
-        read_modify_write::requires_read_modify_write(buffer, len, width, root, scratch),
+        resolve_read_modify_write::requires_read_modify_write(buffer, len, width, root, scratch),
         values,
     )
 }
@@ -39,7 +39,7 @@ pub extern "C" fn gateway_requires_read_modify_write_in(
     ensures { λ r. ⌜ RmwInGiven (scratchFits (now (scratch .entry))) (now (book .entry)) width root (now (scratch .entry)) (now (values .entry)) r (now (scratch .exit)) (now (values .exit)) ⌝ }
 {
     give_rmw(
-        once_checked::rmw_in(book, index, width, root, scratch),
+        gateway_once_checked::rmw_in(book, index, width, root, scratch),
         values,
     )
 }
@@ -58,7 +58,7 @@ pub extern "C" fn gateway_missing_types(
     ensures { λ r. ⌜ MissingGiven (now (buffer .entry)) len width root (now (scratch .entry)) (now (list .entry)) (now (values .entry)) r (now (scratch .exit)) (now (list .exit)) (now (values .exit)) ⌝ }
 {
     give_missing(
-        missing_types::missing_types(buffer, len, width, root, scratch, list),
+        resolve_missing_types::missing_types(buffer, len, width, root, scratch, list),
         values,
     )
 }
@@ -77,7 +77,7 @@ pub extern "C" fn gateway_missing_types_in(
     ensures { λ r. ⌜ MissingInGiven (scratchFits (now (scratch .entry)) && listFits (now (list .entry))) (now (book .entry)) width root (now (scratch .entry)) (now (list .entry)) (now (values .entry)) r (now (scratch .exit)) (now (list .exit)) (now (values .exit)) ⌝ }
 {
     give_missing(
-        once_checked::missing_in(book, index, width, root, scratch, list),
+        gateway_once_checked::missing_in(book, index, width, root, scratch, list),
         values,
     )
 }

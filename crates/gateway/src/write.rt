@@ -2,12 +2,12 @@
 ghost use mathlib.Core.Path.{_≡_};
 ghost use mathlib.Core.Bool.{true};
 ghost use lib.ListN.{length};
-ghost use Rattle.typebook.specs.Book.{isType};
-ghost use Rattle.book_check.specs.Check.{ValidBook};
+ghost use Rattle.type_book.specs.Book.{isType};
+ghost use Rattle.type_book_check.specs.Check.{ValidBook};
 ghost use Rattle.ser.specs.Write.{ctx};
 ghost use Rattle.ser.specs.Call.{bookWrite, writeCall};
 ghost use Rattle.gateway.specs.Calls.{WriteGiven};
-use write_answers::give_write;
+use gateway_write_answers::give_write;
 
 // Writes the tape over the image by the root's type: the output is the new bytes, or the image after a refusal.
 #[no_mangle]

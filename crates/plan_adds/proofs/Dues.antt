@@ -5,13 +5,13 @@ use mathlib.Core.List.{List}
 use Prim.Native.Nat.{ℕ, zero, suc, _-_, _≤_, _<_}
 use native.Mathlib.Omega.{arith}
 use lib.ListN.{take}
-use Rattle.typebook.specs.Book.{isType, fieldsOf}
+use Rattle.type_book.specs.Book.{isType, fieldsOf}
 use Rattle.type_category.specs.declared.type_category.AdsTypeCategory.{AdsTypeCategory}
 use Rattle.type_category.specs.Category.{categoryOf}
 use Rattle.resolvers.specs.Resolve.{goesOn}
-use Rattle.visits.specs.declared.Parts.{Parts}
-use Rattle.visits.specs.declared.Parts.the-variants as parts
-use Rattle.visits.specs.Parts.{partsKind}
+use Rattle.resolve_walk_scratch.specs.declared.Parts.{Parts}
+use Rattle.resolve_walk_scratch.specs.declared.Parts.the-variants as parts
+use Rattle.resolve_walk_scratch.specs.Parts.{partsKind}
 use Rattle.closure.specs.Calls.{Ours}
 use Rattle.plan_adds.specs.declared.Fetched.{Fetched}
 use Rattle.plan_adds.specs.declared.Fetched.the-variants as fetched

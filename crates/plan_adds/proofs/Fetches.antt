@@ -7,20 +7,20 @@ use native.Mathlib.Omega.{arith}
 use borrow.Author.Tests.{eq-eqb, ne-eqb, eqb-true, eqb-false}
 use lib.ListN.{length, take, length-take}
 use lib.Dec.{eqb}
-use Rattle.typebook.specs.Book.{isType, typeNameOf}
+use Rattle.type_book.specs.Book.{isType, typeNameOf}
 use Rattle.type_provider.specs.declared.Found.{Found}
 use Rattle.type_provider.specs.declared.Found.the-variants.{At, Nothing}
 use Rattle.type_provider.specs.Find.{find}
 use Rattle.type_index.specs.Index.{FoundBy}
-use Rattle.book_check.specs.Check.{checkBook, ValidBook}
-use Rattle.book_check.proofs.Numbers.{valid-number}
+use Rattle.type_book_check.specs.Check.{checkBook, ValidBook}
+use Rattle.type_book_check.proofs.Numbers.{valid-number}
 use Rattle.type_cache.proofs.Numbers.{appended-is}
 use Rattle.type_cache.specs.declared.Appended.{Appended}
 use Rattle.type_cache.specs.declared.Appended.the-variants.{Done, Refused}
 use Rattle.type_cache.specs.Append.{appendRefusal, appendCall, appendBuffer}
 use Rattle.type_cache.specs.Same.{definitionOf}
 use Rattle.type_cache.proofs.Appends.{refused-cut, done-none, buffer-kept}
-use Rattle.type_adds.specs.Knows.{Knows, AppendedIn}
+use Rattle.plan_type_adds.specs.Knows.{Knows, AppendedIn}
 use Rattle.resolvers.proofs.Chains.{found-valid, found-type}
 use Rattle.type_provider.proofs.Numbers.{found-is}
 use Rattle.plan_adds.specs.declared.Fetched.the-variants.{More, Lacks, Full}

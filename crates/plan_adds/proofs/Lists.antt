@@ -9,7 +9,7 @@ use borrow.Author.Tests.{lt-ltb, le-ltb}
 use lib.ListN.{length, getD, take, drop, length-take, drop-of-length-le}
 use lib.Seq.{drop-cons, getD-take}
 use lib.Dec.{ltb}
-use Rattle.typebook.specs.Book.{blocks}
+use Rattle.type_book.specs.Book.{blocks}
 use Rattle.closure.specs.Calls.{Ours}
 use Rattle.plan_adds.specs.declared.Fetched.{Fetched}
 use Rattle.plan_adds.specs.declared.Fetched.the-variants as fetched

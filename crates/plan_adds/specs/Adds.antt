@@ -3,7 +3,7 @@ use mathlib.Core.Bool.{false, cond}
 use mathlib.Core.List.{List, [], _∷_}
 use Prim.Native.Nat.{ℕ, zero, suc, _+_, _-_}
 use lib.Dec.{eqb, ltb}
-use Rattle.typebook.specs.Book.{blocks, isType, fieldsOf, typeNameOf}
+use Rattle.type_book.specs.Book.{blocks, isType, fieldsOf, typeNameOf}
 use Rattle.type_provider.specs.declared.Found.{Found}
 use Rattle.type_provider.specs.declared.Found.the-variants.{At, Nothing}
 use Rattle.type_provider.specs.Find.{find}
@@ -12,9 +12,9 @@ use Rattle.type_category.specs.Category.{categoryOf}
 use Rattle.type_cache.specs.Append.{appendRefusal}
 use Rattle.type_cache.specs.Same.{definitionOf}
 use Rattle.resolvers.specs.Resolve.{goesOn}
-use Rattle.visits.specs.declared.Parts.{Parts}
-use Rattle.visits.specs.declared.Parts.the-variants as parts
-use Rattle.visits.specs.Parts.{partsKind}
+use Rattle.resolve_walk_scratch.specs.declared.Parts.{Parts}
+use Rattle.resolve_walk_scratch.specs.declared.Parts.the-variants as parts
+use Rattle.resolve_walk_scratch.specs.Parts.{partsKind}
 use Rattle.closure.specs.Calls.{Ours, bookOf, add, next}
 use Rattle.plan_adds.specs.declared.Due.{Due}
 use Rattle.plan_adds.specs.declared.Due.the-variants.{Names, Rest}

@@ -4,10 +4,10 @@ use mathlib.Core.Bool.{true}
 use mathlib.Core.List.{List}
 use Prim.Native.Nat.{ℕ}
 use lib.ListN.{take}
-use Rattle.typebook.specs.Book.{isType}
-use Rattle.book_check.specs.declared.BookCheck.the-variants.{Valid}
-use Rattle.book_check.specs.Check.{checkBook}
-use Rattle.type_adds.specs.Knows.{Knows}
+use Rattle.type_book.specs.Book.{isType}
+use Rattle.type_book_check.specs.declared.BookCheck.the-variants.{Valid}
+use Rattle.type_book_check.specs.Check.{checkBook}
+use Rattle.plan_type_adds.specs.Knows.{Knows}
 use Rattle.closure.specs.Calls.{Ours}
 use Rattle.plan_adds.specs.declared.Fetched.{Fetched}
 use Rattle.plan_adds.specs.declared.Fetched.the-variants as fetched

@@ -3,21 +3,21 @@
 ghost use mathlib.Core.Path.{_≡_};
 ghost use Prim.Native.Nat.{_≤_};
 ghost use lib.ListN.{length, take};
-ghost use Rattle.typebook.specs.Book.{typeNameOf};
+ghost use Rattle.type_book.specs.Book.{typeNameOf};
 ghost use Rattle.type_provider.specs.Find.{find};
-ghost use Rattle.book_check.specs.Check.{ValidBook};
+ghost use Rattle.type_book_check.specs.Check.{ValidBook};
 ghost use Rattle.plan_adds.specs.Adds.{ours, addListed, dueType, dueOf, sweep as sweepOf, addAll};
 ghost use Rattle.plan_adds.specs.State.{Ready, FetchedIs, AddedIs, SweptIs, SweepIs};
+use plan_type_adds::append_in;
+use resolve_walk_scratch::Parts;
+use resolve_walk_scratch::parts_of;
 use resolvers::goes_on;
-use type_adds::append_in;
+use type_book::block;
+use type_book::block::BLOCK;
 use type_cache::Appended;
 use type_category::type_category::AdsTypeCategory;
 use type_index::find_by;
 use type_provider::Found;
-use typebook::block;
-use typebook::block::BLOCK;
-use visits::Parts;
-use visits::parts_of;
 
 // The blocks of a book at most.
 const MAX_BLOCKS: u32 = 65536;

@@ -8,23 +8,23 @@ use native.Mathlib.Omega.{arith}
 use borrow.Author.Tests.{le-leb}
 use lib.ListN.{length}
 use lib.Seq.{take-length}
-use Rattle.typebook.specs.Book.{typeNameOf}
+use Rattle.type_book.specs.Book.{typeNameOf}
 use Rattle.type_category.specs.Category.{categoryOf}
-use Rattle.book_check.specs.Check.{bookNumbers, rootNumbers}
+use Rattle.type_book_check.specs.Check.{bookNumbers, rootNumbers}
 use Rattle.type_cache.specs.Append.{orNext}
-use Rattle.number.specs.Answer.{refusalOf}
+use Rattle.enc_number.specs.Answer.{refusalOf}
 use Rattle.resolvers.specs.declared.Resolved.the-variants.{Base, Lacks, TooLong}
-use Rattle.book_check.specs.Check.{atRoot}
-use Rattle.walks.specs.Walk.{Walk, over, full, met}
-use Rattle.walks.specs.Reads.{listed}
-use Rattle.walks.specs.Reached.{Needed}
-use Rattle.walks.specs.Scratch.{zeroed}
-use Rattle.missing_types.specs.Needs.{Defined}
-use Rattle.read_modify_write.proofs.Numbers.{rmw-is, rmw-says}
-use Rattle.read_modify_write.specs.declared.Rmw.{Rmw}
-use Rattle.read_modify_write.specs.declared.Rmw.the-variants as rmw
-use Rattle.read_modify_write.specs.Reads.{rmwOf, keepsState}
-use Rattle.read_modify_write.specs.Calls.{rmwNumbers, rmwAnswer, rmwCall, RmwIs}
+use Rattle.type_book_check.specs.Check.{atRoot}
+use Rattle.resolve_walk.specs.Walk.{Walk, over, full, met}
+use Rattle.resolve_walk.specs.Reads.{listed}
+use Rattle.resolve_walk.specs.Reached.{Needed}
+use Rattle.resolve_walk.specs.Scratch.{zeroed}
+use Rattle.resolve_missing_types.specs.Needs.{Defined}
+use Rattle.resolve_read_modify_write.proofs.Numbers.{rmw-is, rmw-says}
+use Rattle.resolve_read_modify_write.specs.declared.Rmw.{Rmw}
+use Rattle.resolve_read_modify_write.specs.declared.Rmw.the-variants as rmw
+use Rattle.resolve_read_modify_write.specs.Reads.{rmwOf, keepsState}
+use Rattle.resolve_read_modify_write.specs.Calls.{rmwNumbers, rmwAnswer, rmwCall, RmwIs}
 use Rattle.closure.specs.Calls.{Ours, bookOf, walkAt}
 use Rattle.closure.specs.Demand.{rootName, BlockReached, Closed}
 use Rattle.closure.proofs.Steps.{Sound, ours}

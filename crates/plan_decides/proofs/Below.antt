@@ -7,23 +7,23 @@ use mathlib.Core.Logic.{⊎-elim}
 use Prim.Native.Nat.{ℕ, zero, suc, _+_, _<_}
 use native.Mathlib.Omega.{arith}
 use borrow.Author.Tests.{eqb-true}
-use Rattle.typebook.specs.Book.{blocks, isType, fieldsOf, nameOf, typeNameOf}
+use Rattle.type_book.specs.Book.{blocks, isType, fieldsOf, nameOf, typeNameOf}
 use Rattle.type_provider.specs.declared.Found.{Found}
 use Rattle.type_provider.specs.declared.Found.the-variants.{At, Nothing}
 use Rattle.type_provider.specs.Find.{find}
 use Rattle.type_category.specs.Category.{categoryOf}
-use Rattle.book_check.specs.Check.{ValidBook}
-use Rattle.book_check.proofs.Valid.{valid-type, valid-below, valid-own}
+use Rattle.type_book_check.specs.Check.{ValidBook}
+use Rattle.type_book_check.proofs.Valid.{valid-type, valid-below, valid-own}
 use Rattle.resolvers.specs.declared.Resolved.{Resolved}
 use Rattle.resolvers.specs.declared.Resolved.the-variants.{Base, Lacks, TooLong}
 use Rattle.resolvers.specs.Resolve.{isFollowed, chainOnward, resolveAlias}
 use Rattle.resolvers.proofs.Chains.{found-type, follow-ends, follow-breaks}
-use Rattle.visits.specs.declared.Parts.{Parts}
-use Rattle.visits.specs.declared.Parts.the-variants as parts
-use Rattle.visits.specs.Parts.{partsKind, blocksAfter, partsIn, partsOf}
-use Rattle.walks.specs.Walk.{Walk, over, full, met, comesTo, push, meet, walk, walkOf}
-use Rattle.walks.specs.Reads.{listed}
-use Rattle.walks.proofs.Goes.{Goes, goes}
+use Rattle.resolve_walk_scratch.specs.declared.Parts.{Parts}
+use Rattle.resolve_walk_scratch.specs.declared.Parts.the-variants as parts
+use Rattle.resolve_walk_scratch.specs.Parts.{partsKind, blocksAfter, partsIn, partsOf}
+use Rattle.resolve_walk.specs.Walk.{Walk, over, full, met, comesTo, push, meet, walk, walkOf}
+use Rattle.resolve_walk.specs.Reads.{listed}
+use Rattle.resolve_walk.proofs.Goes.{Goes, goes}
 
 listed-cases : (c b : ℕ) (x : List ℕ) (f : Resolved) (w : Walk) {X : Type 0} → List·Memᴰ c (listed (met b x f w)) → (f ≡ Lacks c → X) → (List·Memᴰ c (listed w) → X) → X
 unfolding listed

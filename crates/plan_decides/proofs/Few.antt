@@ -5,11 +5,11 @@ use mathlib.Core.List.{List, [], _∷_}
 use Prim.Native.Nat.{ℕ, zero, suc, _-_}
 use native.Mathlib.Omega.{arith}
 use borrow.Author.Tests.{eqb-true}
-use Rattle.typebook.specs.Book.{isType}
-use Rattle.book_check.specs.declared.BookCheck.the-variants.{Valid}
-use Rattle.book_check.specs.Check.{checkBook, ValidBook}
-use Rattle.book_check.proofs.Valid.{valid-book, valid-below}
-use Rattle.walks.specs.Reads.{listed, whole}
+use Rattle.type_book.specs.Book.{isType}
+use Rattle.type_book_check.specs.declared.BookCheck.the-variants.{Valid}
+use Rattle.type_book_check.specs.Check.{checkBook, ValidBook}
+use Rattle.type_book_check.proofs.Valid.{valid-book, valid-below}
+use Rattle.resolve_walk.specs.Reads.{listed, whole}
 use Rattle.closure.specs.Calls.{Ours, bookOf, walkAt}
 use Rattle.plan_adds.specs.Adds.{Adding, on, lacks, room, thenOn, fetchOf, addListed, passing, sweep, addAll}
 use Rattle.plan_save.specs.Rounds.{Decision, refused, nextRound, closing, notWhole, roundOf, sweptFrom, roundsThen}

@@ -5,19 +5,19 @@ use mathlib.Core.List.{List, [], _∷_, _++_, List·Memᴰ, List·Memᴰ·head, 
 use Prim.Native.Nat.{ℕ, zero, suc, _+_, _-_, _<_}
 use native.Mathlib.Omega.{arith}
 use lib.Dec.{ltb}
-use Rattle.typebook.specs.Book.{blocks, isType, nameOf, typeNameOf}
-use Rattle.typebook.proofs.Blocks.{block-append}
+use Rattle.type_book.specs.Book.{blocks, isType, nameOf, typeNameOf}
+use Rattle.type_book.proofs.Blocks.{block-append}
 use Rattle.type_provider.specs.declared.Found.{Found}
 use Rattle.type_provider.specs.declared.Found.the-variants.{At, Nothing}
 use Rattle.type_provider.specs.Find.{find}
-use Rattle.book_check.specs.Check.{ValidBook}
-use Rattle.book_check.proofs.Valid.{valid-size, valid-names}
+use Rattle.type_book_check.specs.Check.{ValidBook}
+use Rattle.type_book_check.proofs.Valid.{valid-size, valid-names}
 use Rattle.type_cache.specs.Append.{appendRefusal}
 use Rattle.type_cache.specs.Same.{definitionOf}
 use Rattle.type_cache.proofs.Definitions.{type-names-same}
 use Rattle.type_cache.proofs.Adds.{add-known}
 use Rattle.resolvers.proofs.Chains.{found-type}
-use Rattle.missing_types.specs.Needs.{Defined}
+use Rattle.resolve_missing_types.specs.Needs.{Defined}
 use Rattle.closure.specs.Calls.{Ours, bookOf, add, next}
 use Rattle.closure.proofs.Steps.{Sound, ours, add-same, add-none, add-longer, sound-add}
 use Rattle.plan_adds.specs.declared.Due.{Due}

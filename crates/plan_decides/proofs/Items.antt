@@ -6,22 +6,22 @@ use Prim.Native.Nat.{ℕ, zero, suc, _+_, _-_, _≤_}
 use native.Mathlib.Omega.{arith}
 use borrow.Author.Tests.{eqb-true, eqb-false, le-leb}
 use lib.ListN.{length, replicate, length-replicate}
-use Rattle.book_check.specs.declared.BookCheck.the-variants.{Valid}
-use Rattle.book_check.specs.Check.{checkBook}
+use Rattle.type_book_check.specs.declared.BookCheck.the-variants.{Valid}
+use Rattle.type_book_check.specs.Check.{checkBook}
 use Rattle.type_cache.proofs.Appends.{call-done, call-refused, buffer-kept}
 use Rattle.type_cache.proofs.Adds.{Grown, grown}
 use lib.Dec.{eqb, ltb}
-use Rattle.typebook.specs.Book.{blocks, isType, typeNameOf}
+use Rattle.type_book.specs.Book.{blocks, isType, typeNameOf}
 use Rattle.type_provider.specs.declared.Found.{Found}
 use Rattle.type_provider.specs.declared.Found.the-variants.{At, Nothing}
 use Rattle.type_provider.specs.Find.{find}
 use Rattle.type_cache.specs.Append.{appendRefusal}
 use Rattle.type_cache.specs.Same.{definitionOf}
 use Rattle.resolvers.proofs.Chains.{found-type}
-use Rattle.walks.specs.Reads.{listed, whole}
-use Rattle.read_modify_write.specs.declared.Rmw.{Rmw}
-use Rattle.read_modify_write.specs.declared.Rmw.the-variants as rmw
-use Rattle.read_modify_write.specs.Reads.{rmwOf}
+use Rattle.resolve_walk.specs.Reads.{listed, whole}
+use Rattle.resolve_read_modify_write.specs.declared.Rmw.{Rmw}
+use Rattle.resolve_read_modify_write.specs.declared.Rmw.the-variants as rmw
+use Rattle.resolve_read_modify_write.specs.Reads.{rmwOf}
 use Rattle.closure.specs.Calls.{Ours, bookOf, Call, ask, add, appended, next, afterCalls, Each, none, more, walkAt}
 use Rattle.closure.specs.Demand.{Lent, ListedNone, here, later}
 use Rattle.plan_adds.specs.declared.Due.{Due}

@@ -9,14 +9,14 @@ use native.Mathlib.Numerals.{add-one}
 use borrow.Author.Tests.{eqb-true, eqb-false, ltb-true, ltb-false}
 use lib.ListN.{length, length-append, length-take, length-drop}
 use lib.Dec.{eqb, ltb}
-use Rattle.typebook.specs.Book.{blocks, isType, nameOf, typeNameOf}
+use Rattle.type_book.specs.Book.{blocks, isType, nameOf, typeNameOf}
 use Rattle.type_provider.specs.declared.Found.{Found}
 use Rattle.type_provider.specs.declared.Found.the-variants.{At, Nothing}
 use Rattle.type_provider.specs.Find.{find}
 use Rattle.type_provider.proofs.Finds.{find-named, named-name}
-use Rattle.book_check.specs.declared.BookCheck.the-variants.{Valid}
-use Rattle.book_check.specs.Check.{checkBook, ValidBook}
-use Rattle.book_check.proofs.Valid.{valid-book, valid-size, valid-names}
+use Rattle.type_book_check.specs.declared.BookCheck.the-variants.{Valid}
+use Rattle.type_book_check.specs.Check.{checkBook, ValidBook}
+use Rattle.type_book_check.proofs.Valid.{valid-book, valid-size, valid-names}
 use Rattle.type_cache.specs.Append.{hasRoom, appendRefusal, appendBuffer}
 use Rattle.type_cache.specs.Same.{definitionOf}
 use Rattle.type_cache.proofs.Appends.{accepted, room-is, room-fits, room-few, call-done, call-refused, buffer-done, buffer-kept}

@@ -3,23 +3,23 @@ use mathlib.Core.Path.{_≡_, refl, sym, ap, _∙_}
 use mathlib.Core.Bool.{true, false}
 use mathlib.Core.List.{List, _∷_, List·Memᴰ·head}
 use Prim.Native.Nat.{ℕ}
-use Rattle.typebook.specs.Book.{isType, nameOf, typeNameOf}
+use Rattle.type_book.specs.Book.{isType, nameOf, typeNameOf}
 use Rattle.type_provider.specs.declared.Found.{Found}
 use Rattle.type_provider.specs.declared.Found.the-variants.{At, Nothing}
 use Rattle.type_provider.specs.Find.{find}
 use Rattle.type_provider.proofs.Finds.{find-named, named-name}
 use lib.ListN.{length}
-use Rattle.book_check.specs.declared.BookCheck.the-variants.{Valid}
-use Rattle.book_check.specs.Check.{checkBook, ValidBook}
-use Rattle.book_check.proofs.Valid.{valid-book}
-use Rattle.book_check.proofs.Numbers.{valid-number}
+use Rattle.type_book_check.specs.declared.BookCheck.the-variants.{Valid}
+use Rattle.type_book_check.specs.Check.{checkBook, ValidBook}
+use Rattle.type_book_check.proofs.Valid.{valid-book}
+use Rattle.type_book_check.proofs.Numbers.{valid-number}
 use Rattle.type_cache.specs.Append.{isKnown, hasRoom, appendRefusal}
 use Rattle.type_cache.specs.Same.{definitionOf}
 use Rattle.type_cache.proofs.Appends.{known-not, refused-room}
 use Rattle.type_cache.proofs.Adds.{definition-name, definition-whole}
 use Rattle.resolvers.proofs.Chains.{found-type}
-use Rattle.walks.specs.Reads.{listed}
-use Rattle.missing_types.proofs.Missings.{listed-lacking}
+use Rattle.resolve_walk.specs.Reads.{listed}
+use Rattle.resolve_missing_types.proofs.Missings.{listed-lacking}
 use Rattle.closure.specs.Calls.{Ours, bookOf, walkAt}
 use Rattle.plan_adds.specs.Adds.{Adding, lacks, room, thenOn, appendOf, fetchBy, fetchOf, addListed, sweep, addAll}
 use Rattle.plan_decides.proofs.Below.{listed-all, listed-below}

@@ -5,19 +5,19 @@ use mathlib.Core.List.{List, _++_, List·Memᴰ, List·Memᴰ·not-nil, List·Me
 use mathlib.Core.Logic.{⊎-elim}
 use Prim.Native.Nat.{ℕ, zero, suc, _+_, _-_, _≤_, _<_}
 use native.Mathlib.Omega.{arith}
-use Rattle.typebook.specs.Book.{blocks, isType, fieldsOf}
-use Rattle.typebook.proofs.Blocks.{same-byte}
+use Rattle.type_book.specs.Book.{blocks, isType, fieldsOf}
+use Rattle.type_book.proofs.Blocks.{same-byte}
 use Rattle.type_category.specs.declared.type_category.AdsTypeCategory.{AdsTypeCategory}
 use Rattle.type_category.specs.Category.{categoryOf}
-use Rattle.book_check.specs.Check.{ValidBook}
-use Rattle.book_check.proofs.Valid.{valid-type}
+use Rattle.type_book_check.specs.Check.{ValidBook}
+use Rattle.type_book_check.proofs.Valid.{valid-type}
 use Rattle.type_cache.proofs.Definitions.{SameType, same-sym, same-type}
 use Rattle.type_cache.proofs.Joins.{rest-other, join-old, join-kept}
 use Rattle.resolvers.specs.Resolve.{goesOn, isFollowed}
 use Rattle.resolvers.proofs.Chains.{followed-alias}
-use Rattle.visits.specs.declared.Parts.{Parts}
-use Rattle.visits.specs.declared.Parts.the-variants as parts
-use Rattle.visits.specs.Parts.{partsKind, blocksAfter, partsIn, partsOf}
+use Rattle.resolve_walk_scratch.specs.declared.Parts.{Parts}
+use Rattle.resolve_walk_scratch.specs.declared.Parts.the-variants as parts
+use Rattle.resolve_walk_scratch.specs.Parts.{partsKind, blocksAfter, partsIn, partsOf}
 use Rattle.plan_adds.specs.declared.Due.{Due}
 use Rattle.plan_adds.specs.declared.Due.the-variants.{Names, Rest}
 use Rattle.plan_adds.specs.Adds.{dueParts, dueType, dueOf}

@@ -3,9 +3,9 @@ use mathlib.Core.Path.{_≡_}
 use mathlib.Core.Bool.{true}
 use mathlib.Core.List.{List}
 use Prim.Native.Nat.{ℕ}
-use Rattle.typebook.specs.Book.{isType}
-use Rattle.book_check.specs.declared.BookCheck.the-variants.{Valid}
-use Rattle.book_check.specs.Check.{checkBook, ValidBook}
+use Rattle.type_book.specs.Book.{isType}
+use Rattle.type_book_check.specs.declared.BookCheck.the-variants.{Valid}
+use Rattle.type_book_check.specs.Check.{checkBook, ValidBook}
 use Rattle.closure.specs.Calls.{Ours, bookOf}
 use Rattle.plan_save.specs.Rounds.{Decision, roundsThen, planFrom}
 

@@ -4,8 +4,8 @@ use mathlib.Core.Bool.{Bool}
 use mathlib.Core.List.{List, _++_}
 use Prim.Native.Nat.{ℕ, _≤_}
 use lib.ListN.{length}
-use Rattle.book_check.specs.declared.BookCheck.the-variants.{Valid}
-use Rattle.book_check.specs.Check.{checkBook}
+use Rattle.type_book_check.specs.declared.BookCheck.the-variants.{Valid}
+use Rattle.type_book_check.specs.Check.{checkBook}
 use Rattle.closure.specs.Calls.{Ours, bookOf, Call, afterCalls, Each}
 use Rattle.closure.specs.Demand.{Lent, ListedNone}
 use Rattle.plan_save.specs.Rounds.{Decision, decided, planFrom}

@@ -8,21 +8,21 @@ use borrow.Author.Tests.{ne-eqb}
 use lib.ListN.{length, take, drop}
 use lib.Seq.{take-append-seam}
 use lib.Dec.{eqb}
-use Rattle.number.specs.Answer.{refusalOf}
-use Rattle.book_check.proofs.Numbers.{valid-number, size-number, sum-number, form-number, doubled-number}
-use Rattle.book_check.specs.declared.BookCheck.{BookCheck}
-use Rattle.book_check.specs.declared.BookCheck.the-variants.{Valid, Size, Sum, Form, Doubled}
-use Rattle.book_check.specs.Check.{checkBook, bookNumbers}
-use Rattle.walks.specs.Walk.{Walk, walkOf}
-use Rattle.walks.specs.Reads.{count, listed, whole}
-use Rattle.missing_types.proofs.Numbers.{missing-is}
-use Rattle.missing_types.specs.declared.Missing.{Missing}
-use Rattle.missing_types.specs.declared.Missing.the-variants as missing
-use Rattle.missing_types.specs.Calls.{missingAnswer, missingList, MissingIn}
-use Rattle.read_modify_write.proofs.Numbers.{rmw-is}
-use Rattle.read_modify_write.specs.declared.Rmw.{Rmw}
-use Rattle.read_modify_write.specs.declared.Rmw.the-variants as rmw
-use Rattle.read_modify_write.specs.Calls.{rmwAnswer, RmwIn}
+use Rattle.enc_number.specs.Answer.{refusalOf}
+use Rattle.type_book_check.proofs.Numbers.{valid-number, size-number, sum-number, form-number, doubled-number}
+use Rattle.type_book_check.specs.declared.BookCheck.{BookCheck}
+use Rattle.type_book_check.specs.declared.BookCheck.the-variants.{Valid, Size, Sum, Form, Doubled}
+use Rattle.type_book_check.specs.Check.{checkBook, bookNumbers}
+use Rattle.resolve_walk.specs.Walk.{Walk, walkOf}
+use Rattle.resolve_walk.specs.Reads.{count, listed, whole}
+use Rattle.resolve_missing_types.proofs.Numbers.{missing-is}
+use Rattle.resolve_missing_types.specs.declared.Missing.{Missing}
+use Rattle.resolve_missing_types.specs.declared.Missing.the-variants as missing
+use Rattle.resolve_missing_types.specs.Calls.{missingAnswer, missingList, MissingIn}
+use Rattle.resolve_read_modify_write.proofs.Numbers.{rmw-is}
+use Rattle.resolve_read_modify_write.specs.declared.Rmw.{Rmw}
+use Rattle.resolve_read_modify_write.specs.declared.Rmw.the-variants as rmw
+use Rattle.resolve_read_modify_write.specs.Calls.{rmwAnswer, RmwIn}
 use Rattle.plan_adds.specs.declared.Added.{Added}
 use Rattle.plan_adds.specs.declared.Added.the-variants as added
 use Rattle.plan_adds.specs.Adds.{ours}

@@ -7,17 +7,17 @@ use native.Mathlib.Omega.{arith}
 use borrow.Author.Tests.{eq-eqb, ne-eqb, eqb-false, le-leb, lt-leb}
 use lib.ListN.{length, take, replicate}
 use lib.Dec.{eqb, ltb}
-use Rattle.typebook.specs.Book.{blocks, isType}
-use Rattle.number.specs.Answer.{refusalOf}
-use Rattle.book_check.proofs.Numbers.{zero-valid}
-use Rattle.book_check.specs.declared.BookCheck.{BookCheck}
-use Rattle.book_check.specs.declared.BookCheck.the-variants.{Valid, Size, Sum, Form, Doubled}
-use Rattle.book_check.specs.declared.RootCheck.{RootCheck}
-use Rattle.book_check.specs.declared.RootCheck.the-variants as checked
-use Rattle.book_check.specs.Check.{checkBook, bookNumbers, checkRoot, rootOf, rootNumbers, ValidBook}
-use Rattle.book_check.proofs.Valid.{valid-book, root-valid}
+use Rattle.type_book.specs.Book.{blocks, isType}
+use Rattle.enc_number.specs.Answer.{refusalOf}
+use Rattle.type_book_check.proofs.Numbers.{zero-valid}
+use Rattle.type_book_check.specs.declared.BookCheck.{BookCheck}
+use Rattle.type_book_check.specs.declared.BookCheck.the-variants.{Valid, Size, Sum, Form, Doubled}
+use Rattle.type_book_check.specs.declared.RootCheck.{RootCheck}
+use Rattle.type_book_check.specs.declared.RootCheck.the-variants as checked
+use Rattle.type_book_check.specs.Check.{checkBook, bookNumbers, checkRoot, rootOf, rootNumbers, ValidBook}
+use Rattle.type_book_check.proofs.Valid.{valid-book, root-valid}
 use Rattle.type_cache.specs.Append.{orNext}
-use Rattle.walks.specs.Scratch.{scratchFits, zeroed}
+use Rattle.resolve_walk.specs.Scratch.{scratchFits, zeroed}
 use Rattle.plan_adds.specs.Adds.{ours}
 use Rattle.plan_save.specs.declared.Plan.{Plan}
 use Rattle.plan_save.specs.declared.Plan.the-variants as plan

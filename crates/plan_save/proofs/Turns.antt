@@ -8,16 +8,16 @@ use borrow.Author.Tests.{lt-ltb, le-ltb}
 use lib.ListN.{length, take, length-take}
 use lib.Seq.{length-take-le}
 use Rattle.type_cache.proofs.Appends.{refused-cut}
-use Rattle.typebook.specs.Book.{blocks, isType}
-use Rattle.book_check.proofs.Numbers.{valid-number}
-use Rattle.book_check.specs.declared.BookCheck.the-variants.{Valid}
-use Rattle.book_check.specs.Check.{checkBook, ValidBook}
-use Rattle.book_check.proofs.Valid.{valid-book, valid-size}
-use Rattle.type_adds.specs.Knows.{Knows}
-use Rattle.walks.specs.Walk.{Walk, walkOf}
-use Rattle.walks.specs.Reads.{listed, whole}
-use Rattle.read_modify_write.specs.Reads.{rmwOf}
-use Rattle.read_modify_write.specs.Calls.{rmwAnswer}
+use Rattle.type_book.specs.Book.{blocks, isType}
+use Rattle.type_book_check.proofs.Numbers.{valid-number}
+use Rattle.type_book_check.specs.declared.BookCheck.the-variants.{Valid}
+use Rattle.type_book_check.specs.Check.{checkBook, ValidBook}
+use Rattle.type_book_check.proofs.Valid.{valid-book, valid-size}
+use Rattle.plan_type_adds.specs.Knows.{Knows}
+use Rattle.resolve_walk.specs.Walk.{Walk, walkOf}
+use Rattle.resolve_walk.specs.Reads.{listed, whole}
+use Rattle.resolve_read_modify_write.specs.Reads.{rmwOf}
+use Rattle.resolve_read_modify_write.specs.Calls.{rmwAnswer}
 use Rattle.closure.specs.Calls.{Ours}
 use Rattle.plan_adds.specs.declared.Added.{Added}
 use Rattle.plan_adds.specs.Adds.{ours, addAll}

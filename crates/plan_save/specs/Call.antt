@@ -6,10 +6,10 @@ use mathlib.Core.List.{List, [], _∷_}
 use Prim.Native.Nat.{ℕ}
 use lib.ListN.{take}
 use lib.Dec.{eqb}
-use Rattle.number.specs.Answer.{refusalOf}
-use Rattle.book_check.specs.Check.{checkBook, bookNumbers, checkRoot, rootNumbers}
+use Rattle.enc_number.specs.Answer.{refusalOf}
+use Rattle.type_book_check.specs.Check.{checkBook, bookNumbers, checkRoot, rootNumbers}
 use Rattle.type_cache.specs.Append.{orNext}
-use Rattle.walks.specs.Scratch.{scratchFits, zeroed}
+use Rattle.resolve_walk.specs.Scratch.{scratchFits, zeroed}
 use Rattle.closure.specs.Calls.{Ours}
 use Rattle.plan_adds.specs.Adds.{ours}
 use Rattle.plan_save.specs.declared.Plan.{Plan}

@@ -4,12 +4,12 @@ use mathlib.Core.Bool.{Bool, true, false, cond}
 use mathlib.Core.List.{List, [], _∷_}
 use Prim.Native.Nat.{ℕ, zero, suc}
 use lib.Dec.{eqb, ltb}
-use Rattle.typebook.specs.Book.{blocks}
-use Rattle.walks.specs.Walk.{Walk}
-use Rattle.walks.specs.Reads.{count, listed, whole}
-use Rattle.read_modify_write.specs.declared.Rmw.{Rmw}
-use Rattle.read_modify_write.specs.declared.Rmw.the-variants as rmw
-use Rattle.read_modify_write.specs.Reads.{rmwOf}
+use Rattle.type_book.specs.Book.{blocks}
+use Rattle.resolve_walk.specs.Walk.{Walk}
+use Rattle.resolve_walk.specs.Reads.{count, listed, whole}
+use Rattle.resolve_read_modify_write.specs.declared.Rmw.{Rmw}
+use Rattle.resolve_read_modify_write.specs.declared.Rmw.the-variants as rmw
+use Rattle.resolve_read_modify_write.specs.Reads.{rmwOf}
 use Rattle.closure.specs.Calls.{Ours, bookOf, walkAt}
 use Rattle.plan_adds.specs.Adds.{Adding, on, lacks, room, addAll}
 

@@ -5,11 +5,11 @@ use mathlib.Core.Bool.{true, false}
 use mathlib.Core.List.{List}
 use Prim.Native.Nat.{ℕ}
 use lib.ListN.{length, take}
-use Rattle.typebook.specs.Book.{isType}
-use Rattle.walks.specs.Scratch.{zeroed}
-use Rattle.read_modify_write.specs.declared.Rmw.{Rmw}
-use Rattle.walks.specs.Walk.{Walk, walkOf}
-use Rattle.walks.specs.Reads.{listed, whole}
+use Rattle.type_book.specs.Book.{isType}
+use Rattle.resolve_walk.specs.Scratch.{zeroed}
+use Rattle.resolve_read_modify_write.specs.declared.Rmw.{Rmw}
+use Rattle.resolve_walk.specs.Walk.{Walk, walkOf}
+use Rattle.resolve_walk.specs.Reads.{listed, whole}
 use Rattle.closure.specs.Calls.{Ours}
 use Rattle.plan_adds.specs.declared.Added.{Added}
 use Rattle.plan_save.specs.declared.Plan.{Plan}

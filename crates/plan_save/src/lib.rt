@@ -4,31 +4,31 @@ ghost use mathlib.Core.Path.{_≡_};
 ghost use mathlib.Core.Bool.{true};
 ghost use Prim.Native.Nat.{_≤_, _<_, _-_};
 ghost use lib.ListN.{length, take};
-ghost use Rattle.typebook.specs.Book.{isType};
-ghost use Rattle.number.specs.Answer.{refusalOf};
-ghost use Rattle.book_check.specs.declared.BookCheck.the-variants.{Valid};
-ghost use Rattle.book_check.specs.Check.{ValidBook, checkBook, bookNumbers, checkRoot};
-ghost use Rattle.book_check.specs.declared.RootCheck.the-variants.{Root};
-ghost use Rattle.type_adds.specs.Knows.{Knows};
-ghost use Rattle.walks.specs.Walk.{walkOf};
-ghost use Rattle.read_modify_write.specs.Calls.{rmwAnswer};
+ghost use Rattle.type_book.specs.Book.{isType};
+ghost use Rattle.enc_number.specs.Answer.{refusalOf};
+ghost use Rattle.type_book_check.specs.declared.BookCheck.the-variants.{Valid};
+ghost use Rattle.type_book_check.specs.Check.{ValidBook, checkBook, bookNumbers, checkRoot};
+ghost use Rattle.type_book_check.specs.declared.RootCheck.the-variants.{Root};
+ghost use Rattle.plan_type_adds.specs.Knows.{Knows};
+ghost use Rattle.resolve_walk.specs.Walk.{walkOf};
+ghost use Rattle.resolve_read_modify_write.specs.Calls.{rmwAnswer};
 ghost use Rattle.plan_save.specs.Rounds.{sweptFrom, planFrom};
 ghost use Rattle.plan_adds.specs.Adds.{ours};
 ghost use Rattle.plan_adds.specs.State.{Ready};
 ghost use Rattle.plan_save.specs.Call.{planRefusal, PlanIs};
 ghost use Rattle.plan_save.specs.State.{AskedIs, DecidedIs, AfterAdds, AddedRound, RoundIs, PlannedIs, PlannedIn};
-use book_check::BookCheck;
-use book_check::RootCheck;
-use book_check::check_book;
-use book_check::check_root;
-use missing_types::Missing;
+use enc_zeros::clear_numbers;
 use plan_adds::Added;
 use plan_adds::add_all;
-use read_modify_write::Rmw;
-use type_adds::mark_known;
+use plan_type_adds::mark_known;
+use resolve_missing_types::Missing;
+use resolve_read_modify_write::Rmw;
+use type_book::block;
+use type_book_check::BookCheck;
+use type_book_check::RootCheck;
+use type_book_check::check_book;
+use type_book_check::check_root;
 use type_index::fill_names;
-use typebook::block;
-use zeros::clear_numbers;
 
 // The numbers that a walk needs of the scratch.
 const SCRATCH: usize = 16384;
@@ -78,7 +78,7 @@ fn ask(
     ensures { λ r. ⌜ AskedIs (walkOf (now (book .entry)) width root) r (now (list .exit)) ⌝ }
 {
     fill_names(book, index);
-    let missing = missing_types::missing_types_in(book, index, width, root, scratch, list);
+    let missing = resolve_missing_types::missing_types_in(book, index, width, root, scratch, list);
     match missing {
         Missing::Listed(n, whole, count) => {
             if whole {
@@ -98,7 +98,7 @@ fn decide(book: &[u8], index: &[u32], width: u8, root: u32, scratch: &mut [u32],
     requires { ⌜ ValidBook (now book) × (isType (now book) root ≡ true) × (16384 ≤ length (now scratch)) ⌝ }
     ensures { λ r. ⌜ DecidedIs (rmwAnswer true (now (book .entry)) width root) len r ⌝ }
 {
-    let answer = read_modify_write::requires_read_modify_write_in(
+    let answer = resolve_read_modify_write::requires_read_modify_write_in(
         book,
         index,
         width,

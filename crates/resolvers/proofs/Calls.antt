@@ -5,13 +5,13 @@ use mathlib.Core.List.{List}
 use Prim.Native.Nat.{ℕ, _≤_}
 use lib.ListN.{length, take}
 use lib.Seq.{length-take-le}
-use Rattle.number.specs.Answer.{refusalOf}
-use Rattle.typebook.specs.Book.{isType}
-use Rattle.book_check.specs.declared.RootCheck.{RootCheck}
-use Rattle.book_check.specs.declared.RootCheck.the-variants as checked
-use Rattle.book_check.specs.Check.{ValidBook, checkRoot}
-use Rattle.book_check.proofs.Valid.{root-valid}
-use Rattle.book_check.proofs.Roots.{at-refused, at-block}
+use Rattle.enc_number.specs.Answer.{refusalOf}
+use Rattle.type_book.specs.Book.{isType}
+use Rattle.type_book_check.specs.declared.RootCheck.{RootCheck}
+use Rattle.type_book_check.specs.declared.RootCheck.the-variants as checked
+use Rattle.type_book_check.specs.Check.{ValidBook, checkRoot}
+use Rattle.type_book_check.proofs.Valid.{root-valid}
+use Rattle.type_book_check.proofs.Roots.{at-refused, at-block}
 use Rattle.resolvers.specs.declared.Resolved.{Resolved}
 use Rattle.resolvers.specs.declared.Resolved.the-variants as resolved
 use Rattle.resolvers.specs.declared.Resolution.{Resolution}

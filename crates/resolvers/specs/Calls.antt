@@ -3,8 +3,8 @@ use mathlib.Core.Bool.{Bool, true, false}
 use mathlib.Core.List.{List, [], _∷_}
 use Prim.Native.Nat.{ℕ}
 use lib.ListN.{take}
-use Rattle.number.specs.Answer.{refusalOf}
-use Rattle.book_check.specs.Check.{checkRoot, atRoot}
+use Rattle.enc_number.specs.Answer.{refusalOf}
+use Rattle.type_book_check.specs.Check.{checkRoot, atRoot}
 use Rattle.resolvers.specs.declared.Resolved.{Resolved}
 use Rattle.resolvers.specs.declared.Resolved.the-variants as resolved
 use Rattle.resolvers.specs.declared.Resolution.{Resolution}

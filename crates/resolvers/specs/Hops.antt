@@ -4,7 +4,7 @@ use mathlib.Core.Bool.{Bool, true}
 use mathlib.Core.List.{List}
 use Prim.Native.Nat.{ℕ, suc}
 use Rattle.type_provider.specs.declared.Found.the-variants.{At}
-use Rattle.typebook.specs.Book.{typeNameOf}
+use Rattle.type_book.specs.Book.{typeNameOf}
 use Rattle.type_provider.specs.Find.{find}
 
 -- k hops lead from block t to block u: each goes on from a block, by its type name, to the block that it finds

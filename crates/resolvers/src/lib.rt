@@ -2,12 +2,12 @@
 // a book that was checked once; the others check it.
 ghost use mathlib.Core.Path.{_≡_};
 ghost use mathlib.Core.Bool.{true};
-ghost use Rattle.typebook.specs.Book.{isType, typeNameOf};
+ghost use Rattle.type_book.specs.Book.{isType, typeNameOf};
 ghost use Rattle.type_provider.specs.Find.{find, foundNumbers};
-ghost use Rattle.book_check.specs.Check.{ValidBook};
+ghost use Rattle.type_book_check.specs.Check.{ValidBook};
 ghost use Rattle.resolvers.specs.Resolve.{goesOn, isFollowed, resolveType, resolveAlias, resolveIndirection, ResolvedIs, LookedUp};
 ghost use Rattle.resolvers.specs.Calls.{resolutionNumbers, resolution, rootAlias, rootIndirection};
-use book_check::RootCheck;
+use type_book_check::RootCheck;
 use type_category::type_category::AdsTypeCategory;
 use type_provider::Found;
 
@@ -143,7 +143,7 @@ fn resolve_root(book: &[u8], width: u8, t: u32, references: bool) -> Resolution
 pub fn resolve_alias(buffer: &[u8], len: usize, width: u8, root: u64) -> Resolution
     ensures { λ r. ⌜ resolutionNumbers r ≡ resolutionNumbers (rootAlias (now (buffer .entry)) len width root) ⌝ }
 {
-    let check = book_check::check_root(buffer, len, root);
+    let check = type_book_check::check_root(buffer, len, root);
     match check {
         RootCheck::Root(t) => resolve_root(&buffer[..len], width, t, false),
         RootCheck::Refused(n) => Resolution::Refused(n),
@@ -154,7 +154,7 @@ pub fn resolve_alias(buffer: &[u8], len: usize, width: u8, root: u64) -> Resolut
 pub fn resolve_indirection(buffer: &[u8], len: usize, width: u8, root: u64) -> Resolution
     ensures { λ r. ⌜ resolutionNumbers r ≡ resolutionNumbers (rootIndirection (now (buffer .entry)) len width root) ⌝ }
 {
-    let check = book_check::check_root(buffer, len, root);
+    let check = type_book_check::check_root(buffer, len, root);
     match check {
         RootCheck::Root(t) => resolve_root(&buffer[..len], width, t, true),
         RootCheck::Refused(n) => Resolution::Refused(n),

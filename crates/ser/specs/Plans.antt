@@ -6,18 +6,18 @@ use mathlib.Core.List.{List}
 use Prim.Native.Nat.{ℕ, _+_}
 use lib.ListN.{length}
 use lib.Dec.{leb}
-use Rattle.typebook.specs.Book.{isType, countOf}
-use Rattle.book_check.specs.Check.{ValidBook}
+use Rattle.type_book.specs.Book.{isType, countOf}
+use Rattle.type_book_check.specs.Check.{ValidBook}
 use Rattle.type_category.specs.Category.{categoryOf}
-use Rattle.field_types.specs.Fields.{resolveField}
-use Rattle.field_plan.specs.Plan.{PlanServes}
-use Rattle.field_plan.specs.declared.PlannedField.{PlannedField}
-use Rattle.shape.specs.declared.Shape.the-variants as shape
-use Rattle.shape.specs.Value.{shapeOf}
-use Rattle.shape.specs.Array.{isLast, strideOf}
-use Rattle.array_elements.specs.Element.{whole, cut, elementItem}
+use Rattle.resolve_field_types.specs.Fields.{resolveField}
+use Rattle.resolve_field_plan.specs.Plan.{PlanServes}
+use Rattle.resolve_field_plan.specs.declared.PlannedField.{PlannedField}
+use Rattle.tape_shape.specs.declared.Shape.the-variants as shape
+use Rattle.tape_shape.specs.Value.{shapeOf}
+use Rattle.tape_shape.specs.Array.{isLast, strideOf}
+use Rattle.tape_array_elements.specs.Element.{whole, cut, elementItem}
 use Rattle.tape.specs.declared.cursor.Cursor.{Cursor}
-use Rattle.first_fields.specs.Firsts.{Firsts}
+use Rattle.ser_first_fields.specs.Firsts.{Firsts}
 use Rattle.ser.specs.declared.array_writer.Counted.{Counted}
 use Rattle.ser.specs.declared.array_writer.Counted.the-variants as counted
 use Rattle.ser.specs.declared.map_writer.Keyed.{Keyed}

@@ -10,15 +10,15 @@ use lib.Dec.{eqb, leb}
 use borrow.Author.Tests.{eqb-false}
 use Rattle.type_id.specs.declared.AdsTypeId.{AdsTypeId}
 use Rattle.type_id.specs.declared.AdsTypeId.the-variants.{UInt16, UInt32, UInt64}
-use Rattle.integer.specs.Integer.{writeInteger, integerBytes}
-use Rattle.integer.specs.declared.Integer.{Integer}
-use Rattle.integer.specs.declared.IntegerWrite.{IntegerWrite}
-use Rattle.integer.specs.declared.IntegerWrite.the-variants as write
-use Rattle.integer.proofs.Numbers.{write-range-number, write-size-number, write-unsupported-number}
-use Rattle.typebook.specs.Book.{sizeOf, typeIdOf}
+use Rattle.enc_integer.specs.Integer.{writeInteger, integerBytes}
+use Rattle.enc_integer.specs.declared.Integer.{Integer}
+use Rattle.enc_integer.specs.declared.IntegerWrite.{IntegerWrite}
+use Rattle.enc_integer.specs.declared.IntegerWrite.the-variants as write
+use Rattle.enc_integer.proofs.Numbers.{write-range-number, write-size-number, write-unsupported-number}
+use Rattle.type_book.specs.Book.{sizeOf, typeIdOf}
 use Rattle.type_provider.specs.declared.Found.{Found}
 use Rattle.type_provider.specs.declared.Found.the-variants.{At, Nothing}
-use Rattle.named_blocks.specs.Named.{entryNamed}
+use Rattle.ser_named_blocks.specs.Named.{entryNamed}
 use Rattle.tape.specs.declared.record.Record.{Record}
 use Rattle.tape.specs.Text.{recordText}
 use Rattle.ser_leaf.specs.declared.Target.{Target}

@@ -6,8 +6,8 @@ use Prim.Native.Nat.{ℕ, _+_, _-_, _≤_, _<_}
 use native.Mathlib.Omega.{arith}
 use lib.ListN.{length, getD, take, drop, set, length-set}
 use lib.Seq.{getD-set-same, getD-set-other, length-take-le}
-use Rattle.utf_8.specs.Utf8.{wellFormed, ValidTo, Stretch}
-use Rattle.utf_8.proofs.Cuts.{valid-none, stretch-none, valid-more, part-of-stretch, part-of-first}
+use Rattle.enc_utf_8.specs.Utf8.{wellFormed, ValidTo, Stretch}
+use Rattle.enc_utf_8.proofs.Cuts.{valid-none, stretch-none, valid-more, part-of-stretch, part-of-first}
 use Rattle.tape_form.specs.Known.{KnownTexts}
 use Rattle.tape_form.specs.Ranges.{textIn}
 use Rattle.tape_form.proofs.Tests.{text-inside}

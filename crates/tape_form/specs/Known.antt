@@ -3,7 +3,7 @@ use mathlib.Core.Path.{_≡_}
 use mathlib.Core.List.{List}
 use Prim.Native.Nat.{ℕ}
 use lib.ListN.{length, getD}
-use Rattle.utf_8.specs.Utf8.{ValidTo, Stretch}
+use Rattle.enc_utf_8.specs.Utf8.{ValidTo, Stretch}
 
 -- three numbers: so many bytes from the buffer's start on are UTF-8, and so are those from the second number up to the third
 pub record KnownTexts (text known : List ℕ) : Type 0 where

@@ -4,12 +4,12 @@
 ghost use mathlib.Core.Path.{_≡_};
 ghost use Prim.Native.Nat.{_-_, _≤_};
 ghost use lib.ListN.{length, take, drop};
-ghost use Rattle.utf_8.specs.Utf8.{wellFormed, Stretch};
+ghost use Rattle.enc_utf_8.specs.Utf8.{wellFormed, Stretch};
 ghost use Rattle.tape_form.specs.Known.{KnownTexts};
 ghost use Rattle.tape_form.specs.Ranges.{textIn};
-use utf_8_decoder::part_well_formed;
-use utf_8_decoder::valid_up_to;
-use utf_8_decoder::well_formed;
+use enc_utf_8_decoder::part_well_formed;
+use enc_utf_8_decoder::valid_up_to;
+use enc_utf_8_decoder::well_formed;
 
 // How far past a text the buffer is looked at.
 const AHEAD: usize = 4096;

@@ -7,16 +7,16 @@ use native.Mathlib.Omega.{arith}
 use borrow.Author.Tests.{eq-eqb, eqb-true}
 use lib.ListN.{length, take}
 use lib.Seq.{length-take-le, take-length, take-paste, length-paste}
-use Rattle.typebook.specs.Book.{blocks, blockOf, kindOf, isType, fieldsOf, entriesOf, nameOf}
+use Rattle.type_book.specs.Book.{blocks, blockOf, kindOf, isType, fieldsOf, entriesOf, nameOf}
 use Rattle.type_provider.specs.Find.{find}
 use Rattle.type_provider.specs.declared.Found.the-variants.{At, Nothing}
-use Rattle.typebook.proofs.Blocks.{same-byte}
-use Rattle.doubles.specs.Doubles.{allFrom, isFirst}
-use Rattle.book_check.specs.Check.{sumAt, placedFrom, checkBook, ValidBook}
-use Rattle.book_check.specs.declared.BookCheck.the-variants.{Valid}
-use Rattle.book_check.proofs.Valid.{Placed, Definition, field-is, entry-is, valid-size, valid-type, valid-names, valid-place, valid-passes, valid-book, valid-in}
-use Rattle.book_check.proofs.Append.{append-blocks}
-use Rattle.book_check.proofs.Numbers.{valid-number}
+use Rattle.type_book.proofs.Blocks.{same-byte}
+use Rattle.type_doubles.specs.Doubles.{allFrom, isFirst}
+use Rattle.type_book_check.specs.Check.{sumAt, placedFrom, checkBook, ValidBook}
+use Rattle.type_book_check.specs.declared.BookCheck.the-variants.{Valid}
+use Rattle.type_book_check.proofs.Valid.{Placed, Definition, field-is, entry-is, valid-size, valid-type, valid-names, valid-place, valid-passes, valid-book, valid-in}
+use Rattle.type_book_check.proofs.Append.{append-blocks}
+use Rattle.type_book_check.proofs.Numbers.{valid-number}
 use Rattle.type_cache.specs.Append.{isOneType, additionRefusal, isKnown, hasRoom, appendRefusal, joined, appendBuffer}
 use Rattle.type_cache.specs.Same.{blocksOf, definitionOf, Same}
 use Rattle.type_cache.proofs.Checked.{book-fits, valid-of}

@@ -9,17 +9,17 @@ use native.Mathlib.Numerals.{add-one}
 use lib.ListN.{length, getD, take, set}
 use lib.Seq.{length-take-le, take-length, paste, paste-zero, paste-suc}
 use lib.Dec.{eqb, leb}
-use Rattle.number.specs.Answer.{refusalOf}
-use Rattle.typebook.specs.Book.{blocks, fieldsOf, entriesOf, nameOf}
+use Rattle.enc_number.specs.Answer.{refusalOf}
+use Rattle.type_book.specs.Book.{blocks, fieldsOf, entriesOf, nameOf}
 use Rattle.type_provider.specs.Find.{find}
 use Rattle.type_provider.specs.declared.Found.{Found}
 use Rattle.type_provider.specs.declared.Found.the-variants.{At, Nothing}
-use Rattle.book_check.specs.Check.{checkBook, bookNumbers}
-use Rattle.book_check.specs.declared.BookCheck.{BookCheck}
-use Rattle.book_check.specs.declared.BookCheck.the-variants.{Valid, Size, Sum, Form, Doubled}
+use Rattle.type_book_check.specs.Check.{checkBook, bookNumbers}
+use Rattle.type_book_check.specs.declared.BookCheck.{BookCheck}
+use Rattle.type_book_check.specs.declared.BookCheck.the-variants.{Valid, Size, Sum, Form, Doubled}
 use Rattle.type_cache.specs.Append.{isOneType, additionCheck, additionRefusal, isFound, isKnown, hasRoom, orNext, appendRefusal, joined, CopyIs, appendCall, appendBuffer, AppendIs}
 use Rattle.type_cache.specs.declared.Appended.the-variants.{Done, Refused}
-use Rattle.book_check.proofs.Numbers.{zero-valid}
+use Rattle.type_book_check.proofs.Numbers.{zero-valid}
 use Rattle.type_cache.proofs.Checked.{and-left, and-right, book-fits}
 use Rattle.type_cache.proofs.Numbers.{appended-says}
 

@@ -8,10 +8,10 @@ use borrow.Author.Tests.{eq-eqb, le-leb, lt-ltb, leb-true}
 use lib.ListN.{length}
 use lib.Seq.{take-length}
 use lib.Dec.{leb}
-use Rattle.doubles.specs.Doubles.{distinct}
-use Rattle.book_check.specs.Check.{sizeRight, sums, allInPlace, checkBlocks, checkBook, ValidBook}
-use Rattle.book_check.specs.declared.BookCheck.{BookCheck}
-use Rattle.book_check.specs.declared.BookCheck.the-variants.{Valid, Size, Sum, Form, Doubled}
+use Rattle.type_doubles.specs.Doubles.{distinct}
+use Rattle.type_book_check.specs.Check.{sizeRight, sums, allInPlace, checkBlocks, checkBook, ValidBook}
+use Rattle.type_book_check.specs.declared.BookCheck.{BookCheck}
+use Rattle.type_book_check.specs.declared.BookCheck.the-variants.{Valid, Size, Sum, Form, Doubled}
 
 pub and-left : (a b : Bool) → a && b ≡ true → a ≡ true
 and-left true b e = refl

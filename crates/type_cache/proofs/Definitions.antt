@@ -6,12 +6,12 @@ use Prim.Native.Nat.{ℕ, zero, suc, _+_, _*_, _≤_, _<_}
 use native.Mathlib.Omega.{arith}
 use lib.ListN.{length, take, drop, length-drop}
 use lib.Seq.{take-take, drop-drop, length-take-le, take-append-le, drop-append-le, drop-append-seam}
-use Rattle.typebook.specs.Book.{blockOf, byteAt, kindOf, isType, dimensionsOf, typeIdOf, offsetOf, sizeOf, fieldsOf, entriesOf, countOf, valueOf, nameOf, typeNameOf}
-use Rattle.typebook.proofs.Blocks.{same-byte, same-u32, same-counted}
+use Rattle.type_book.specs.Book.{blockOf, byteAt, kindOf, isType, dimensionsOf, typeIdOf, offsetOf, sizeOf, fieldsOf, entriesOf, countOf, valueOf, nameOf, typeNameOf}
+use Rattle.type_book.proofs.Blocks.{same-byte, same-u32, same-counted}
 use Rattle.type_category.specs.Category.{categoryOf}
 use Rattle.type_category.proofs.Categories.{alike, category-alike}
-use Rattle.book_check.specs.Check.{ValidBook}
-use Rattle.book_check.proofs.Valid.{Names, IsEntry, Definition, valid-type}
+use Rattle.type_book_check.specs.Check.{ValidBook}
+use Rattle.type_book_check.proofs.Valid.{Names, IsEntry, Definition, valid-type}
 use Rattle.type_cache.specs.Same.{blocksOf, definitionOf, Same}
 
 -- ---- the bytes of a definition

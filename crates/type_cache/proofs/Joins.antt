@@ -8,14 +8,14 @@ use borrow.Author.Tests.{eq-eqb, eqb-true, ne-eqb, ltb-true, ltb-false}
 use lib.ListN.{length}
 use lib.Seq.{drop-append-add}
 use lib.Dec.{ltb}
-use Rattle.typebook.specs.Book.{blocks, blockOf, kindOf, isType, fieldsOf, entriesOf, nameOf, isNamed}
+use Rattle.type_book.specs.Book.{blocks, blockOf, kindOf, isType, fieldsOf, entriesOf, nameOf, isNamed}
 use Rattle.type_provider.specs.Find.{searched, find}
 use Rattle.type_provider.specs.declared.Found.the-variants.{At, Nothing}
-use Rattle.typebook.proofs.Blocks.{same-byte, block-append}
+use Rattle.type_book.proofs.Blocks.{same-byte, block-append}
 use Rattle.type_provider.proofs.Finds.{same-named, named-own, named-name, named-kind, find-nothing, find-is, find-lacks, find-append}
-use Rattle.book_check.specs.Check.{ValidBook}
-use Rattle.book_check.proofs.Valid.{Definition, valid-size, valid-some, valid-type, valid-names, valid-below, valid-passes, type-is}
-use Rattle.book_check.proofs.Append.{append-blocks, valid-append}
+use Rattle.type_book_check.specs.Check.{ValidBook}
+use Rattle.type_book_check.proofs.Valid.{Definition, valid-size, valid-some, valid-type, valid-names, valid-below, valid-passes, type-is}
+use Rattle.type_book_check.proofs.Append.{append-blocks, valid-append}
 use Rattle.type_cache.specs.Append.{isOneType}
 use Rattle.type_cache.specs.Same.{blocksOf, definitionOf, Same}
 use Rattle.type_cache.proofs.Runs.{placed-first}

@@ -6,12 +6,12 @@ use Prim.Native.Nat.{ℕ, zero, suc, _+_, _<_}
 use native.Mathlib.Omega.{arith}
 use borrow.Author.Tests.{eqb-true}
 use lib.Dec.{eqb}
-use Rattle.typebook.specs.Book.{blockOf, fieldsOf, entriesOf}
-use Rattle.typebook.proofs.Blocks.{same-u32}
-use Rattle.block_form.specs.Form.{typeForm, fieldForm, entryForm}
-use Rattle.doubles.specs.Doubles.{allFrom}
-use Rattle.book_check.specs.Check.{placeOf, placesOnward, placedFrom}
-use Rattle.book_check.proofs.Valid.{chosen, went}
+use Rattle.type_book.specs.Book.{blockOf, fieldsOf, entriesOf}
+use Rattle.type_book.proofs.Blocks.{same-u32}
+use Rattle.type_block_form.specs.Form.{typeForm, fieldForm, entryForm}
+use Rattle.type_doubles.specs.Doubles.{allFrom}
+use Rattle.type_book_check.specs.Check.{placeOf, placesOnward, placedFrom}
+use Rattle.type_book_check.proofs.Valid.{chosen, went}
 use Rattle.type_cache.proofs.Checked.{and-left, and-right}
 
 -- ---- a test of every block

@@ -6,14 +6,14 @@ use mathlib.Core.List.{List, [], _∷_, _++_}
 use Prim.Native.Nat.{ℕ, zero, suc, _+_, _/_}
 use lib.ListN.{length, take, drop}
 use lib.Dec.{eqb, leb}
-use Rattle.number.specs.Answer.{refusalOf}
-use Rattle.typebook.specs.Book.{blocks, fieldsOf, entriesOf, nameOf}
+use Rattle.enc_number.specs.Answer.{refusalOf}
+use Rattle.type_book.specs.Book.{blocks, fieldsOf, entriesOf, nameOf}
 use Rattle.type_provider.specs.Find.{find}
 use Rattle.type_provider.specs.declared.Found.{Found}
 use Rattle.type_provider.specs.declared.Found.the-variants.{At, Nothing}
-use Rattle.book_check.specs.Check.{checkBook, bookNumbers}
-use Rattle.book_check.specs.declared.BookCheck.{BookCheck}
-use Rattle.book_check.specs.declared.BookCheck.the-variants.{Valid, Size, Sum, Form, Doubled}
+use Rattle.type_book_check.specs.Check.{checkBook, bookNumbers}
+use Rattle.type_book_check.specs.declared.BookCheck.{BookCheck}
+use Rattle.type_book_check.specs.declared.BookCheck.the-variants.{Valid, Size, Sum, Form, Doubled}
 use Rattle.type_cache.specs.declared.Appended.{Appended}
 use Rattle.type_cache.specs.declared.Appended.the-variants.{Done, Refused}
 

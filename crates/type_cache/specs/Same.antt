@@ -3,7 +3,7 @@ use mathlib.Core.Path.{_≡_}
 use mathlib.Core.List.{List}
 use Prim.Native.Nat.{ℕ, _+_, _*_}
 use lib.ListN.{take, drop}
-use Rattle.typebook.specs.Book.{fieldsOf, entriesOf}
+use Rattle.type_book.specs.Book.{fieldsOf, entriesOf}
 
 -- the number of blocks of a type: its type block, its fields and its entries
 abbrev pub blocksOf : List ℕ → ℕ → ℕ

@@ -4,13 +4,13 @@ ghost use mathlib.Core.Path.{_≡_};
 ghost use Prim.Native.Nat.{_+_, _≤_};
 ghost use lib.ListN.{length};
 ghost use Rattle.type_cache.specs.Append.{isOneType, additionRefusal, isKnown, hasRoom, appendRefusal, CopyIs, AppendIs};
-use book_check::BookCheck;
-use book_check::check_book;
-use book_check::refusal_of;
+use type_book::block;
+use type_book::block::BLOCK;
+use type_book_check::BookCheck;
+use type_book_check::check_book;
+use type_book_check::refusal_of;
 use type_provider::Found;
 use type_provider::find;
-use typebook::block;
-use typebook::block::BLOCK;
 
 // The book's new length, or document 01's number of the refusal.
 pub enum Appended {

@@ -10,8 +10,8 @@ use borrow.Author.Tests.{ltb-true, ltb-false, not-true}
 use Rattle.type_id.specs.declared.AdsTypeId.{AdsTypeId}
 use Rattle.type_id.specs.declared.AdsTypeId.the-variants as id
 use Rattle.type_id.specs.TypeId.{idOf}
-use Rattle.typebook.specs.Book.{blockOf, byteAt, flagOf, dimensionsOf, typeIdOf, offsetOf, sizeOf, fieldsOf, nameOf, typeNameOf, sameName}
-use Rattle.typebook.proofs.Blocks.{same-byte, same-u32, same-counted}
+use Rattle.type_book.specs.Book.{blockOf, byteAt, flagOf, dimensionsOf, typeIdOf, offsetOf, sizeOf, fieldsOf, nameOf, typeNameOf, sameName}
+use Rattle.type_book.proofs.Blocks.{same-byte, same-u32, same-counted}
 use Rattle.type_names.specs.Text.{asciiBytes}
 use Rattle.type_names.specs.Names.{isSubRangeName, isPrimitiveName}
 use Rattle.type_category.specs.declared.type_category.AdsTypeCategory.{AdsTypeCategory}

@@ -9,7 +9,7 @@ use lib.Dec.{eqb, ltb}
 use borrow.Author.Tests.{eq-eqb, ne-eqb, lt-ltb, le-ltb}
 use Rattle.type_id.specs.declared.AdsTypeId.{AdsTypeId}
 use Rattle.type_id.specs.TypeId.{idOf}
-use Rattle.typebook.specs.Book.{u32At, flagOf, dimensionsOf, typeIdOf, offsetOf, sizeOf, fieldsOf, nameOf, typeNameOf, sameName}
+use Rattle.type_book.specs.Book.{u32At, flagOf, dimensionsOf, typeIdOf, offsetOf, sizeOf, fieldsOf, nameOf, typeNameOf, sameName}
 use Rattle.type_names.specs.Text.{asciiBytes, startsWith}
 use Rattle.type_names.specs.Names.{isPointerName, isSubRangeName, isPrimitiveName}
 use Rattle.type_names.proofs.Texts.{and-false}

@@ -8,7 +8,7 @@ use lib.Dec.{eqb, ltb}
 use Rattle.type_id.specs.declared.AdsTypeId.{AdsTypeId}
 use Rattle.type_id.specs.declared.AdsTypeId.the-variants as id
 use Rattle.type_id.specs.TypeId.{idOf}
-use Rattle.typebook.specs.Book.{flagOf, dimensionsOf, typeIdOf, offsetOf, sizeOf, fieldsOf, nameOf, typeNameOf, sameName}
+use Rattle.type_book.specs.Book.{flagOf, dimensionsOf, typeIdOf, offsetOf, sizeOf, fieldsOf, nameOf, typeNameOf, sameName}
 use Rattle.type_names.specs.Text.{asciiBytes, startsWith}
 use Rattle.type_names.specs.Names.{isPointerName, isSubRangeName, isPrimitiveName}
 use Rattle.type_category.specs.declared.type_category.AdsTypeCategory.{AdsTypeCategory}

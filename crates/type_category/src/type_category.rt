@@ -1,16 +1,16 @@
 // Category of a TwinCAT data type: a high-level classification of its memory layout.
 ghost use mathlib.Core.Path.{_≡_};
 ghost use Prim.Native.Nat.{_+_};
-ghost use Rattle.typebook.specs.Book.{offsetOf};
+ghost use Rattle.type_book.specs.Book.{offsetOf};
 ghost use Rattle.type_category.specs.Number.{categoryNumbers};
 ghost use Rattle.type_category.specs.Category.{isAlias, idStep, isUnion, isEmptyStruct, bareCategory, methodsCategory, fieldsCategory, sizeCategory, complexCategory, simpleCategory, categoryOf};
+use type_book::block;
+use type_book::block::same_name;
 use type_id::AdsTypeId;
 use type_names::is_pointer_name;
 use type_names::is_primitive_name;
 use type_names::is_sub_range_name;
 use type_names::text::starts_with;
-use typebook::block;
-use typebook::block::same_name;
 
 pub enum AdsTypeCategory {
     // Uninitialized or unknown data type.

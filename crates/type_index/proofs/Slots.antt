@@ -13,7 +13,7 @@ use lib.Dec.{eqb, ltb}
 use borrow.Author.Tests.{eq-eqb, eqb-true, eqb-false, ltb-true, ltb-false}
 use Rattle.type_provider.specs.declared.Found.{Found}
 use Rattle.type_provider.specs.declared.Found.the-variants.{At, Nothing}
-use Rattle.typebook.specs.Book.{blocks, typeNameOf, isNamed, kindOf}
+use Rattle.type_book.specs.Book.{blocks, typeNameOf, isNamed, kindOf}
 use Rattle.type_provider.specs.Find.{searched, find, TypeBlock}
 use Rattle.type_provider.proofs.Finds.{find-named, named-kind, unique-find}
 use Rattle.type_provider.proofs.Numbers.{found-is, found-says}

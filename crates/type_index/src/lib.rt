@@ -2,17 +2,17 @@
 // slots for the names of types and, where it is long enough, a hint for each block: the type that the block's type name finds. Both say
 // only where to look first: nothing is believed before the names are compared, so an index may hold any numbers.
 ghost use Prim.Native.Nat.{_<_};
-ghost use Rattle.typebook.specs.Book.{typeNameOf};
+ghost use Rattle.type_book.specs.Book.{typeNameOf};
 ghost use Rattle.type_provider.specs.Find.{searched as searchedOf};
 ghost use Rattle.type_index.specs.Index.{FoundBy, IndexOf};
 ghost use Rattle.type_index.specs.Probe.{HintsAt, Probed, Entered, IsHint};
-use number::le::le_value;
+use enc_number::le::le_value;
+use enc_zeros::clear_numbers;
+use type_book::block;
 use type_provider::Found;
 use type_provider::find;
 use type_provider::is_named;
 use type_provider::searched;
-use typebook::block;
-use zeros::clear_numbers;
 
 // How many slots of an index are tried for a name.
 const PROBES: usize = 64;

@@ -3,7 +3,7 @@ use mathlib.Core.Path.{_≡_, refl, sym, _∙_}
 use mathlib.Core.Bool.{Bool, true, false, _||_}
 use mathlib.Core.List.{List, [], _∷_}
 use Prim.Native.Nat.{ℕ}
-use Rattle.typebook.specs.Book.{sameName}
+use Rattle.type_book.specs.Book.{sameName}
 use Rattle.type_names.specs.Text.{asciiBytes, isOneOf, startsWith, contains}
 use Rattle.type_names.specs.Names.{isPointerName, isSubRangeName, timeNames, pointerSizedNames, isPrimitiveName}
 use Rattle.type_names.proofs.Texts.{and-true, and-false}

@@ -10,9 +10,9 @@ use lib.ListN.{length, getD, take, drop, drop-of-length-le, length-take, length-
 use lib.Seq.{drop-cons, take-all}
 use lib.Dec.{eqb}
 use borrow.Author.Tests.{eq-eqb, ne-eqb}
-use Rattle.typebook.specs.Book.{sameName}
+use Rattle.type_book.specs.Book.{sameName}
 use Rattle.type_names.specs.Text.{startsWith, contains}
-use Rattle.typebook.proofs.Names.{same-lengths}
+use Rattle.type_book.proofs.Names.{same-lengths}
 
 pub starts-short : (name start : List ℕ) → length name < length start → false ≡ startsWith name start
 unfolding startsWith

@@ -6,7 +6,7 @@ use Prim.Native.Char.{code}
 use Prim.Native.String.{String}
 use Prim.Native.String as string
 use lib.ListN.{length, take}
-use Rattle.typebook.specs.Book.{sameName}
+use Rattle.type_book.specs.Book.{sameName}
 
 -- the bytes of an ASCII text: the code of each of its characters
 abbrev pub asciiBytes : String → List ℕ

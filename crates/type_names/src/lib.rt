@@ -5,7 +5,7 @@ ghost use Rattle.type_names.specs.Names.{isPointerName, isSubRangeName, 
 use crate::text::contains;
 use crate::text::contains_byte;
 use crate::text::starts_with;
-use typebook::block::same_name;
+use type_book::block::same_name;
 
 pub mod text;
 

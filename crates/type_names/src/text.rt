@@ -2,7 +2,7 @@
 ghost use mathlib.Core.Path.{_≡_};
 ghost use mathlib.Core.List.{_∷_, []};
 ghost use Rattle.type_names.specs.Text.{startsWith, contains as containsIn};
-use typebook::block::same_name;
+use type_book::block::same_name;
 
 // Whether a name begins with these bytes.
 pub fn starts_with(name: &[u8], start: &[u8]) -> bool

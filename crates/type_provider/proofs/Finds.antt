@@ -8,10 +8,10 @@ use native.Mathlib.Omega.{arith}
 use native.Mathlib.Nat.{eq-or-lt-of-le}
 use lib.ListN.{length-append}
 use Rattle.type_provider.specs.declared.Found.the-variants.{At, Nothing}
-use Rattle.typebook.specs.Book.{blocks, blockOf, byteAt, isType, nameOf, sameName, isNamed}
+use Rattle.type_book.specs.Book.{blocks, blockOf, byteAt, isType, nameOf, sameName, isNamed}
 use Rattle.type_provider.specs.Find.{searched, findFrom, find, TypeBlock, NamedBlock, UniqueNames}
-use Rattle.typebook.proofs.Blocks.{same-byte, same-counted, block-append}
-use Rattle.typebook.proofs.Names.{same-eq, same-refl}
+use Rattle.type_book.proofs.Blocks.{same-byte, same-counted, block-append}
+use Rattle.type_book.proofs.Names.{same-eq, same-refl}
 
 -- ---- a type block of that name
 

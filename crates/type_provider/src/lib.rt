@@ -1,8 +1,8 @@
 // The look-up of a type by its name (the Rust's `TypeProvider::get_type_info`): a search of the whole book.
 ghost use mathlib.Core.Path.{_≡_};
-ghost use Rattle.typebook.specs.Book.{isNamed};
+ghost use Rattle.type_book.specs.Book.{isNamed};
 ghost use Rattle.type_provider.specs.Find.{searched as searchedOf, find as findIn, foundNumbers};
-use typebook::block;
+use type_book::block;
 
 // A type block's number, or that the book has no type of that name.
 pub enum Found {

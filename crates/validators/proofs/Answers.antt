@@ -11,7 +11,7 @@ use mir.Syntax.{w16}
 use mir.Val.{Fits}
 use Rattle.type_id.specs.declared.AdsTypeId.{AdsTypeId}
 use Rattle.type_id.specs.TypeId.{idOf, numberOf}
-use Rattle.typebook.specs.Book.{typeIdOf}
+use Rattle.type_book.specs.Book.{typeIdOf}
 use Rattle.type_category.specs.declared.type_category.AdsTypeCategory.{AdsTypeCategory}
 use Rattle.type_category.specs.Category.{categoryOf}
 use Rattle.type_category.specs.Number.{categoryNumber}

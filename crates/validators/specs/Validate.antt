@@ -7,7 +7,7 @@ use lib.Dec.{eqb}
 use Rattle.type_id.specs.declared.AdsTypeId.{AdsTypeId}
 use Rattle.type_id.specs.declared.AdsTypeId.the-variants as id
 use Rattle.type_id.specs.TypeId.{idOf, numberOf}
-use Rattle.typebook.specs.Book.{typeIdOf}
+use Rattle.type_book.specs.Book.{typeIdOf}
 use Rattle.type_category.specs.declared.type_category.AdsTypeCategory.{AdsTypeCategory}
 use Rattle.type_category.specs.declared.type_category.AdsTypeCategory.the-variants.{Pointer, Reference, Interface}
 use Rattle.validators.specs.declared.Validity.{Validity}

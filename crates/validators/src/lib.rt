@@ -1,10 +1,10 @@
 // Tests on a type before its bytes are read or written.
 ghost use mathlib.Core.Path.{_≡_};
 ghost use Rattle.validators.specs.Validate.{validityRefusal, unknownOf, sameId, isIn, typeIdRefusal, integerRefusal, categoryRefusal, sizeRefusal};
-use category_number::number;
+use type_book::block;
 use type_category::type_category::AdsTypeCategory;
+use type_category_number::number;
 use type_id::AdsTypeId;
-use typebook::block;
 
 // Pointers, references and interfaces, as a set of categories.
 const INDIRECT: u16 = 0xd000;

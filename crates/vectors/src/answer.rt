@@ -1,6 +1,6 @@
 // What an operation answers, as bytes at the start of a buffer. Each `put` function writes at a place and returns the next.
 // What does not fit is left out, and the answer then differs from the recorded one.
-use case_file::input::first;
+use cases_file::input::first;
 
 // At most two numbers, each in as many bytes as its length says, low byte first.
 pub struct Reply {
@@ -77,7 +77,7 @@ pub(crate) fn put_zeros(answer: &mut [u8], at: usize, n: usize) -> usize {
 // The low bytes of a number, at most eight of them, low byte first.
 pub(crate) fn put_number(answer: &mut [u8], at: usize, value: u64, len: usize) -> usize {
     let mut bytes = [0u8; 8];
-    number::le::le_store(value, &mut bytes);
+    enc_number::le::le_store(value, &mut bytes);
     put_bytes(answer, at, first(&bytes, len))
 }
 

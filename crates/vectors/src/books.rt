@@ -10,22 +10,22 @@ use crate::answer::put_number;
 use crate::packing::unpack;
 use crate::sums::SUM;
 use crate::sums::put_sum;
-use book_check::RootCheck;
-use case_file::input::byte_at;
-use case_file::input::first;
-use case_file::input::from;
-use case_file::input::u32_at;
-use case_file::input::u64_at;
+use cases_file::input::byte_at;
+use cases_file::input::first;
+use cases_file::input::from;
+use cases_file::input::u32_at;
+use cases_file::input::u64_at;
 use resolvers::Resolution;
+use type_book_check::RootCheck;
 use type_category::type_category::AdsTypeCategory;
 
 pub(crate) fn run(operation: u8, input: &[u8], book: &mut [u8], len: usize) -> Reply {
     match operation {
         64 => keep(input, book),
-        65 => byte(refusal_of_root(book_check::check_root(book, len, u64_at(input, 0)))),
+        65 => byte(refusal_of_root(type_book_check::check_root(book, len, u64_at(input, 0)))),
         66 => byte(changed(input, book, len)),
         67 => number(
-            category_number::number(category(input, first(book, len))) as u64,
+            type_category_number::number(category(input, first(book, len))) as u64,
             1,
         ),
         68 => resolution(resolvers::resolve_alias(
@@ -73,10 +73,10 @@ fn changed(input: &[u8], book: &mut [u8], len: usize) -> u8 {
     let sum = u32_at(book, sum_at);
     put_byte(book, place, byte_at(input, 4));
     mend(book, block, byte_at(input, 5) == 1);
-    let check = book_check::check_book(book, len);
+    let check = type_book_check::check_book(book, len);
     put_number(book, sum_at, sum as u64, 4);
     put_byte(book, place, old);
-    book_check::refusal_of(check)
+    type_book_check::refusal_of(check)
 }
 
 fn category(input: &[u8], book: &[u8]) -> AdsTypeCategory {

@@ -1,19 +1,19 @@
-// The operations of the crates utf_8, windows_1252 and utf_16, by their numbers. Each takes a case's input and a lent buffer
+// The operations of the crates `enc_utf_8`, `enc_windows_1252` and `enc_utf_16`, by their numbers. Each takes a case's input and a lent buffer
 // `out`, which stands in the answer after the reply.
 use crate::answer::Reply;
 use crate::answer::byte;
 use crate::answer::byte_and;
 use crate::answer::number;
 use crate::answer::put_number;
-use case_file::input::byte_at;
-use case_file::input::from;
-use case_file::input::u16_at;
-use case_file::input::u32_at;
-use utf_8::Char;
-use utf_8::Put;
-use utf_8::Room;
-use utf_8::TextEnd;
-use windows_1252::Byte;
+use cases_file::input::byte_at;
+use cases_file::input::from;
+use cases_file::input::u16_at;
+use cases_file::input::u32_at;
+use enc_utf_8::Char;
+use enc_utf_8::Put;
+use enc_utf_8::Room;
+use enc_utf_8::TextEnd;
+use enc_windows_1252::Byte;
 
 // Document 01's number where a buffer is too short.
 const SHORT: u8 = 15;
@@ -48,33 +48,33 @@ fn encoded(found: Byte) -> Reply {
 
 pub(crate) fn run_windows_1252(operation: u8, input: &[u8], out: &mut [u8]) -> Reply {
     match operation {
-        1 => number(windows_1252::code_point(byte_at(input, 0)) as u64, 4),
-        2 => encoded(windows_1252::byte_of(u32_at(input, 0))),
-        3 => end(windows_1252::string_end(input)),
-        4 => room(windows_1252_decoder::decoded_len(from(input, 2), u16_at(input, 0))),
-        5 => written(windows_1252_decoder::decode(from(input, 2), out, u16_at(input, 0))),
-        6 => room(windows_1252_encoder::encoded_len(from(input, 2), u16_at(input, 0))),
-        7 => written(windows_1252_encoder::encode(input, out)),
+        1 => number(enc_windows_1252::code_point(byte_at(input, 0)) as u64, 4),
+        2 => encoded(enc_windows_1252::byte_of(u32_at(input, 0))),
+        3 => end(enc_windows_1252::string_end(input)),
+        4 => room(enc_windows_1252_decoder::decoded_len(from(input, 2), u16_at(input, 0))),
+        5 => written(enc_windows_1252_decoder::decode(from(input, 2), out, u16_at(input, 0))),
+        6 => room(enc_windows_1252_encoder::encoded_len(from(input, 2), u16_at(input, 0))),
+        7 => written(enc_windows_1252_encoder::encode(input, out)),
         _ => number(0, 0),
     }
 }
 
 pub(crate) fn run_utf_16(operation: u8, input: &[u8], out: &mut [u8]) -> Reply {
     match operation {
-        8 => end(utf_16::wstring_end(input)),
-        9 => room(utf_16_decoder::decoded_len(from(input, 2), u16_at(input, 0))),
-        10 => written(utf_16_decoder::decode(from(input, 2), out, u16_at(input, 0))),
-        11 => room(utf_16_encoder::encoded_len(from(input, 2), u16_at(input, 0))),
-        12 => written(utf_16_encoder::encode(input, out)),
+        8 => end(enc_utf_16::wstring_end(input)),
+        9 => room(enc_utf_16_decoder::decoded_len(from(input, 2), u16_at(input, 0))),
+        10 => written(enc_utf_16_decoder::decode(from(input, 2), out, u16_at(input, 0))),
+        11 => room(enc_utf_16_encoder::encoded_len(from(input, 2), u16_at(input, 0))),
+        12 => written(enc_utf_16_encoder::encode(input, out)),
         _ => number(0, 0),
     }
 }
 
 pub(crate) fn run_utf_8(operation: u8, input: &[u8], out: &mut [u8]) -> Reply {
     match operation {
-        13 => byte(utf_8_decoder::well_formed(input) as u8),
-        15 => written(utf_8_encoder::put(out, u16_at(input, 0), u32_at(input, 2))),
-        16 => number(utf_8_encoder::utf8_len(u32_at(input, 0)) as u64, 1),
+        13 => byte(enc_utf_8_decoder::well_formed(input) as u8),
+        15 => written(enc_utf_8_encoder::put(out, u16_at(input, 0), u32_at(input, 2))),
+        16 => number(enc_utf_8_encoder::utf8_len(u32_at(input, 0)) as u64, 1),
         _ => number(0, 0),
     }
 }
@@ -96,7 +96,7 @@ fn put_item(answer: &mut [u8], to: usize, code: u32, next: usize) -> Place {
 
 // The code point at a place or FFFFFFFFh for an ill-formed part, with the place after it.
 fn item(text: &[u8], at: usize, answer: &mut [u8], to: usize) -> Place {
-    match utf_8_decoder::next(text, at) {
+    match enc_utf_8_decoder::next(text, at) {
         Char::Code(code, next) => put_item(answer, to, code, next),
         Char::Error(next) => put_item(answer, to, 0xffff_ffff, next),
         Char::End => Place { at, to },

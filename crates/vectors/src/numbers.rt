@@ -1,19 +1,19 @@
-// The operations of the crates number, type_id, integer and float, by their numbers. Each takes a case's input and a lent
+// The operations of the crates `enc_number`, `type_id`, `enc_integer` and `enc_float`, by their numbers. Each takes a case's input and a lent
 // buffer `out`, which stands in the answer after the reply.
 use crate::answer::Reply;
 use crate::answer::byte;
 use crate::answer::byte_and;
 use crate::answer::number;
-use case_file::input::byte_at;
-use case_file::input::from;
-use case_file::input::u32_at;
-use case_file::input::u64_at;
-use float::Real;
-use float::RealRead;
-use float::RealWrite;
-use integer::Integer;
-use integer::IntegerRead;
-use integer::IntegerWrite;
+use cases_file::input::byte_at;
+use cases_file::input::from;
+use cases_file::input::u32_at;
+use cases_file::input::u64_at;
+use enc_float::Real;
+use enc_float::RealRead;
+use enc_float::RealWrite;
+use enc_integer::Integer;
+use enc_integer::IntegerRead;
+use enc_integer::IntegerWrite;
 use type_id::AdsTypeId;
 
 // Document 01's refusals.
@@ -37,8 +37,8 @@ const DOUBLE: u8 = 10;
 pub(crate) fn run(operation: u8, input: &[u8], out: &mut [u8]) -> Reply {
     match operation {
         32 => type_id(u32_at(input, 0)),
-        33 => number(number::le::le_value(input), 8),
-        34 => number(number::le::le_u32(input) as u64, 4),
+        33 => number(enc_number::le::le_value(input), 8),
+        34 => number(enc_number::le::le_u32(input) as u64, 4),
         35 => le_store(input, out),
         36 => integer_read(input),
         37 => integer_write(input, out),
@@ -78,7 +78,7 @@ fn type_id(n: u32) -> Reply {
 }
 
 fn le_store(input: &[u8], out: &mut [u8]) -> Reply {
-    number::le::le_store(u64_at(input, 0), out);
+    enc_number::le::le_store(u64_at(input, 0), out);
     number(0, 0)
 }
 
@@ -101,7 +101,7 @@ fn integer(read: Integer) -> Reply {
 
 fn integer_read(input: &[u8]) -> Reply {
     let id = AdsTypeId::from_u32(u32_at(input, 0));
-    match integer::try_from_le_slice(from(input, 4), id) {
+    match enc_integer::try_from_le_slice(from(input, 4), id) {
         IntegerRead::Value(read) => integer(read),
         IntegerRead::Size => byte(SIZE),
         IntegerRead::Unsupported => byte(UNREADABLE),
@@ -127,7 +127,7 @@ fn refusal_of(write: IntegerWrite) -> u8 {
 fn integer_write(input: &[u8], out: &mut [u8]) -> Reply {
     let id = AdsTypeId::from_u32(u32_at(input, 0));
     let value = integer_of(byte_at(input, 4), byte_at(input, 5), u64_at(input, 6));
-    byte(refusal_of(integer::to_le_slice(value, id, out)))
+    byte(refusal_of(enc_integer::to_le_slice(value, id, out)))
 }
 
 fn kind_of(value: Real) -> u8 {
@@ -141,7 +141,7 @@ fn kind_of(value: Real) -> u8 {
 
 fn real_read(input: &[u8]) -> Reply {
     let id = AdsTypeId::from_u32(u32_at(input, 0));
-    match float::real_from_le_slice(from(input, 4), id) {
+    match enc_float::real_from_le_slice(from(input, 4), id) {
         RealRead::Value(read) => value(kind_of(read), 0, read.bits()),
         RealRead::Size => byte(SIZE),
         RealRead::Unsupported => byte(UNREADABLE),
@@ -156,6 +156,6 @@ fn refusal_of_real(write: RealWrite) -> u8 {
 }
 
 fn real_write(input: &[u8], out: &mut [u8]) -> Reply {
-    let value = float::real_from_bits(byte_at(input, 0) == DOUBLE, u64_at(input, 1));
-    byte(refusal_of_real(float::real_to_le_slice(value, out)))
+    let value = enc_float::real_from_bits(byte_at(input, 0) == DOUBLE, u64_at(input, 1));
+    byte(refusal_of_real(enc_float::real_to_le_slice(value, out)))
 }

@@ -8,7 +8,7 @@ use crate::numbers;
 use crate::reads;
 use crate::resolving;
 use crate::writes;
-use case_file::input::u32_at;
+use cases_file::input::u32_at;
 
 // The operation that answers with as many numbers as its text has code points.
 const ITEMS: u8 = 14;

@@ -5,7 +5,7 @@ use crate::answer::put_byte;
 use crate::answer::put_zeros;
 use crate::sums::SUM;
 use crate::sums::put_sum;
-use case_file::input::byte_at;
+use cases_file::input::byte_at;
 
 const BLOCK: usize = 512;
 

@@ -8,12 +8,12 @@ use crate::lent;
 use crate::lent::FILL;
 use crate::lent::put_bytes_are;
 use crate::packing::put_packed;
-use case_file::input::byte_at;
-use case_file::input::first;
-use case_file::input::from;
-use case_file::input::u16_at;
-use case_file::input::u32_at;
-use steps::ReadAnswer;
+use cases_file::input::byte_at;
+use cases_file::input::first;
+use cases_file::input::from;
+use cases_file::input::u16_at;
+use cases_file::input::u32_at;
+use de_output::ReadAnswer;
 
 // The bytes of n records, of which a tape has at most 2,730.
 fn bytes_of(n: usize) -> usize {

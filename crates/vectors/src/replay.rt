@@ -5,14 +5,14 @@ use crate::lent::FILL;
 use crate::operation;
 use crate::report;
 use crate::report::Tally;
-use case_file::case::HEAD;
-use case_file::case::case_of;
-use case_file::case::length_of;
-use case_file::case::recorded_of;
-use case_file::input::byte_at;
-use case_file::input::first;
-use case_file::input::from;
-use case_file::input::u16_at;
+use cases_file::case::HEAD;
+use cases_file::case::case_of;
+use cases_file::case::length_of;
+use cases_file::case::recorded_of;
+use cases_file::input::byte_at;
+use cases_file::input::first;
+use cases_file::input::from;
+use cases_file::input::u16_at;
 
 // Room for the longest recorded book, of 9,216 blocks.
 const BOOK: usize = 4718592;
@@ -24,7 +24,7 @@ fn read_page(fd: i32, page: &mut [u8]) -> usize {
     if io::read_full(fd, &mut head) < 4 {
         return 0;
     }
-    let n = number::le::le_u32(&head) as usize;
+    let n = enc_number::le::le_u32(&head) as usize;
     if n <= page.len() {
         if io::read_full(fd, &mut page[0..n]) == n {
             return n;

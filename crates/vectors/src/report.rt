@@ -1,7 +1,7 @@
 // What the program writes: a line for each file, and above it the file's first difference.
-use case_file::input::byte_at;
-use case_file::input::first;
-use case_file::input::from;
+use cases_file::input::byte_at;
+use cases_file::input::first;
+use cases_file::input::from;
 use libc::STDOUT_FILENO;
 
 // How many cases were replayed and how many of them differ.

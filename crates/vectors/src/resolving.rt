@@ -1,4 +1,5 @@
-// The operations of the crates field_types, field_records, read_modify_write and missing_types, on the book that is kept and with lent numbers.
+// The operations of the crates `resolve_field_types`, `resolve_field_records`, `resolve_read_modify_write` and `resolve_missing_types`, on the
+// book that is kept and with lent numbers.
 use crate::answer::Reply;
 use crate::answer::byte;
 use crate::answer::byte_and;
@@ -8,13 +9,13 @@ use crate::lent;
 use crate::lent::FILL_NUMBER;
 use crate::lent::put_numbers;
 use crate::lent::put_numbers_are;
-use case_file::input::byte_at;
-use case_file::input::u16_at;
-use case_file::input::u32_at;
-use field_cases::code_of;
-use field_types::FieldsAnswer;
-use missing_types::Missing;
-use read_modify_write::Rmw;
+use cases_fields::code_of;
+use cases_file::input::byte_at;
+use cases_file::input::u16_at;
+use cases_file::input::u32_at;
+use resolve_field_types::FieldsAnswer;
+use resolve_missing_types::Missing;
+use resolve_read_modify_write::Rmw;
 
 pub(crate) fn run(
     operation: u8,
@@ -94,7 +95,7 @@ fn rmw_reply(rmw: Rmw) -> Reply {
 
 fn rmw(input: &[u8], book: &[u8], len: usize, scratch: &mut [u32], answer: &mut [u8]) -> usize {
     let root = u32_at(input, 1) as u64;
-    let rmw = read_modify_write::requires_read_modify_write(
+    let rmw = resolve_read_modify_write::requires_read_modify_write(
         book,
         len,
         byte_at(input, 0),
@@ -143,7 +144,14 @@ fn missing(
     answer: &mut [u8],
 ) -> usize {
     let root = u32_at(input, 1) as u64;
-    let missing = missing_types::missing_types(book, len, byte_at(input, 0), root, scratch, list);
+    let missing = resolve_missing_types::missing_types(
+        book,
+        len,
+        byte_at(input, 0),
+        root,
+        scratch,
+        list,
+    );
     let at = put(answer, missing_reply(missing));
     let at = put_numbers(answer, at, list, listed(missing));
     put_scratch(answer, at, scratch)
@@ -181,11 +189,11 @@ const ALL: usize = 16384;
 fn fields(input: &[u8], book: &[u8], len: usize, records: &mut [u32], answer: &mut [u8]) -> usize {
     let width = byte_at(input, 0);
     let root = u32_at(input, 1) as u64;
-    let fields = field_types::resolve_fields(book, len, width, root, records);
+    let fields = resolve_field_types::resolve_fields(book, len, width, root, records);
     let at = put(answer, fields_reply(fields));
     let end = put_numbers(answer, at, records, recorded(fields));
     if records.len() == ALL {
-        if !field_cases::agrees(book, len, width, root, code_of(fields), records) {
+        if !cases_fields::agrees(book, len, width, root, code_of(fields), records) {
             return 0;
         }
     }

@@ -1,8 +1,8 @@
 // The sum that ends each block of a book.
 ghost use Prim.Native.Nat.{_<_};
 use crate::answer::put_number;
-use case_file::input::first;
-use case_file::input::from;
+use cases_file::input::first;
+use cases_file::input::from;
 
 // Where a block has its sum.
 pub(crate) const SUM: usize = 508;

@@ -6,11 +6,11 @@ use crate::answer::put;
 use crate::answer::put_bytes;
 use crate::lent;
 use crate::packing::unpack;
-use case_file::input::byte_at;
-use case_file::input::first;
-use case_file::input::from;
-use case_file::input::u16_at;
-use case_file::input::u32_at;
+use cases_file::input::byte_at;
+use cases_file::input::first;
+use cases_file::input::from;
+use cases_file::input::u16_at;
+use cases_file::input::u32_at;
 use ser::WriteAnswer;
 
 fn reply_of(write: WriteAnswer) -> Reply {

@@ -3,12 +3,12 @@ use mathlib.Core.Path.{_≡_, refl}
 use Prim.Native.Nat.{ℕ, _+_, _*_, _-_, _≤_, _<_}
 use lib.ListN.{length}
 use Rattle.de.specs.Walk.{ctx, walk, membersFrom, elementsFrom}
-use Rattle.array_elements.specs.Element.{elementItem}
-use Rattle.steps.proofs.Runs.{Rest}
-use Rattle.shape.proofs.Strides.{Along, along-start, along-again, along-end, along-fits, element-fills, next-dimension, fills-first, fills-further}
-use Rattle.shape.specs.Array.{strideOf}
+use Rattle.tape_array_elements.specs.Element.{elementItem}
+use Rattle.de_output.proofs.Runs.{Rest}
+use Rattle.tape_shape.proofs.Strides.{Along, along-start, along-again, along-end, along-fits, element-fills, next-dimension, fills-first, fills-further}
+use Rattle.tape_shape.specs.Array.{strideOf}
 use Rattle.de.proofs.Exits.{value-deep, value-map, value-array, value-leaf, member-stop, member-value, part-typed, part-category, part-inside, part-order, members-start, members-again, members-end, members-stop, map-odd, map-fine, map-lacks, map-endless, array-odd, array-nothing, array-lacks, array-endless, array-other, array-base, dimension-fine, dimension-lacks, dimension-endless, elements-start, elements-again, elements-end, elements-stop, element-last, element-deep, element-further, field-number, field-first, typed-base, typed-found, leaf-inside, map-ready, given-none, map-given, own-entries, own-elements, last-given}
-use Rattle.field_plan.proofs.Plans.{entry-of}
+use Rattle.resolve_field_plan.proofs.Plans.{entry-of}
 use Rattle.type_category.proofs.Numbers.{category-is}
 use Rattle.validators.proofs.Validities.{size-is, size-other}
 use borrow.Fn.Kinds.{In}
@@ -37,23 +37,23 @@ use Rattle.de.proofs.+array_access-array+array_access-dimension+array_a
 use Rattle.de.proofs.map_access.members.Reads as map-access·members
 use Rattle.de.proofs.map_access.members.Kinds as map-access·members-kinds
 use Rattle.de.proofs.+array_access-array+array_access-dimension+array_access-element+array_access-elements+deserializer-value+map_access-map+map_access-member+map_access-members.Lts-map_access-members as map-access·members-lts
-use Rattle.array_elements.proofs.element_check.Reads as element-check-reads
+use Rattle.tape_array_elements.proofs.element_check.Reads as element-check-reads
 use Rattle.de.proofs.map_access.part_of.Reads as part-of-reads
-use Rattle.field_plan.proofs.entry_at.Reads as entry-at-reads
-use Rattle.field_plan.proofs.plan_fields_in.Reads as plan-fields-in-reads
-use Rattle.leaf_steps.proofs.leaf.Reads as leaf-reads
+use Rattle.resolve_field_plan.proofs.entry_at.Reads as entry-at-reads
+use Rattle.resolve_field_plan.proofs.plan_fields_in.Reads as plan-fields-in-reads
+use Rattle.de_leaf_output.proofs.leaf.Reads as leaf-reads
 use Rattle.resolvers.proofs.named_in.Reads as named-in-reads
 use Rattle.resolvers.proofs.resolve_alias_in.Reads as resolve-alias-in-reads
-use Rattle.shape.proofs.array.is_last.Reads as is-last-reads
-use Rattle.shape.proofs.array.product_is.Reads as product-is-reads
-use Rattle.shape.proofs.array.stride_of.Reads as stride-of-reads
-use Rattle.shape.proofs.shape_of.Reads as shape-of-reads
-use Rattle.steps.proofs.put_frame.Reads as put-frame-reads
-use Rattle.steps.proofs.stop.Reads as stop-reads
+use Rattle.tape_shape.proofs.array.is_last.Reads as is-last-reads
+use Rattle.tape_shape.proofs.array.product_is.Reads as product-is-reads
+use Rattle.tape_shape.proofs.array.stride_of.Reads as stride-of-reads
+use Rattle.tape_shape.proofs.shape_of.Reads as tape-shape-of-reads
+use Rattle.de_output.proofs.put_frame.Reads as put-frame-reads
+use Rattle.de_output.proofs.stop.Reads as stop-reads
 use Rattle.type_category.proofs.type_category.AdsTypeCategory.determine.Reads as determine-reads
-use Rattle.typebook.proofs.block.count.Reads as count-reads
-use Rattle.typebook.proofs.block.fields.Reads as fields-reads
-use Rattle.typebook.proofs.block.size.Reads as size-reads
+use Rattle.type_book.proofs.block.count.Reads as count-reads
+use Rattle.type_book.proofs.block.fields.Reads as fields-reads
+use Rattle.type_book.proofs.block.size.Reads as size-reads
 use Rattle.validators.proofs.validate_exact_size.Reads as validate-exact-size-reads
 use Rattle.de.proofs.+array_access-array+array_access-dimension+array_access-element+array_access-elements+deserializer-value+map_access-map+map_access-member+map_access-members.{
   statement,
@@ -239,7 +239,7 @@ abbrev array-access·elements-calls : ℕ → array-access·elements-lts.Claims
 array-access·elements-calls t = (count-reads.Asked, count-reads.Learnt, put-frame-reads.Asked, put-frame-reads.Learnt, stride-of-reads.Asked, stride-of-reads.Learnt, array-access·element-below t, array-access·element.Post)
 
 abbrev deserializer·value-calls : ℕ → deserializer·value-lts.Claims
-deserializer·value-calls t = (stop-reads.Asked, stop-reads.Learnt, shape-of-reads.Asked, shape-of-reads.Learnt, map-access·map-below t, map-access·map.Post, array-access·array-below t, array-access·array.Post, leaf-reads.Asked, leaf-reads.Learnt)
+deserializer·value-calls t = (stop-reads.Asked, stop-reads.Learnt, tape-shape-of-reads.Asked, tape-shape-of-reads.Learnt, map-access·map-below t, map-access·map.Post, array-access·array-below t, array-access·array.Post, leaf-reads.Asked, leaf-reads.Learnt)
 
 abbrev map-access·map-calls : ℕ → map-access·map-lts.Claims
 map-access·map-calls t = (size-reads.Asked, size-reads.Learnt, validate-exact-size-reads.Asked, validate-exact-size-reads.Learnt, stop-reads.Asked, stop-reads.Learnt, map-access·members-below t, map-access·members.Post, plan-fields-in-reads.Asked, plan-fields-in-reads.Learnt)

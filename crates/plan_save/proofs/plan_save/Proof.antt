@@ -1,5 +1,5 @@
 use Rattle.plan_save.proofs.Ends.{save-refused, save-checked, save-root}
-use Rattle.book_check.proofs.Numbers.{root-is}
+use Rattle.type_book_check.proofs.Numbers.{root-is}
 use borrow.Author.Needs.{needs}
 use Rattle.plan_save.proofs.plan_save.Statement.{statement}
 use Rattle.plan_save.proofs.plan_save.Tie as tie

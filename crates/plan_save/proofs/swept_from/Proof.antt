@@ -4,7 +4,7 @@ use Rattle.plan_save.proofs.swept_from.Statement.{statement}
 use Rattle.plan_save.proofs.swept_from.Tie as tie
 use Rattle.plan_save.proofs.swept_from.Reads as reads
 use Rattle.plan_save.proofs.swept_from.Lts as lts
-use Rattle.typebook.proofs.block.blocks.Reads as blocks-reads
+use Rattle.type_book.proofs.block.blocks.Reads as blocks-reads
 
 ruleset exits = (from-first, from-new)
 

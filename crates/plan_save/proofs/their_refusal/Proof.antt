@@ -1,5 +1,5 @@
 use Rattle.plan_save.proofs.Asks.{their-valid, their-size, their-sum, their-form, their-names}
-use Rattle.book_check.proofs.Numbers.{book-is}
+use Rattle.type_book_check.proofs.Numbers.{book-is}
 use borrow.Author.Needs.{needs}
 use Rattle.plan_save.proofs.their_refusal.Statement.{statement}
 use Rattle.plan_save.proofs.their_refusal.Tie as tie

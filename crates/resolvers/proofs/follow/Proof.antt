@@ -2,7 +2,7 @@
 use borrow.Author.Needs.{needs}
 use mathlib.Core.Path.{_≡_, refl}
 use mathlib.Core.Bool.{true}
-use Rattle.typebook.specs.Book.{isType}
+use Rattle.type_book.specs.Book.{isType}
 use Rattle.resolvers.specs.Resolve.{isFollowed, follow as followIn, resolveType}
 use Rattle.resolvers.proofs.Chains.{chain-end, chain-base, chain-lacks, chain-again, found-typed}
 use Rattle.type_provider.proofs.Numbers.{found-is}

@@ -4,9 +4,9 @@ use Prim.Native.Nat.{ℕ, _+_, _*_, _-_, _≤_, _<_}
 use lib.ListN.{length}
 use Rattle.ser.specs.Write.{ctx, outcomeOf, _then_, walk, keysFrom, elementsFrom, elementItem}
 use Rattle.type_category.proofs.Numbers.{category-is}
-use Rattle.field_types.proofs.Numbers.{check-is}
-use Rattle.shape.proofs.Strides.{Along, along-start, along-again, along-fits, next-dimension, fills-further}
-use Rattle.shape.specs.Array.{strideOf}
+use Rattle.resolve_field_types.proofs.Numbers.{check-is}
+use Rattle.tape_shape.proofs.Strides.{Along, along-start, along-again, along-fits, next-dimension, fills-further}
+use Rattle.tape_shape.specs.Array.{strideOf}
 use Rattle.ser.proofs.Exits.{walk-deep, value-end, value-array, value-map, value-leaf, map-array, map-leaf, map-odd, map-given, map-own, own-fine, own-lacks, own-endless, keys-start, keys-stop, keys-end, keys-turn, keyed-stop, keyed-over, keyed-value, key-all, keyed-valid, keyed-typed, keyed-category, map-ready, given-none, firsts-empty, own-entries, last-given, element-none, array-stop, array-element, counted-stop, counted-elements, counted-given, counted-firsts, elements-start, elements-again, elements-stop, elements-over, elements-under, elements-end, element-last, element-further, leaf-inside, entered-typed, entered-fills, part-end, part-fills}
 use borrow.Fn.Kinds.{In}
 use borrow.Fn.PlainCycle.{Measures, is, falls, and}
@@ -43,22 +43,22 @@ use Rattle.ser.proofs.+array_writer-array+array_writer-dimension+array_
 use Rattle.ser.proofs.serializer.value.Reads as serializer·value
 use Rattle.ser.proofs.serializer.value.Kinds as serializer·value-kinds
 use Rattle.ser.proofs.+array_writer-array+array_writer-dimension+array_writer-each_element+array_writer-element+array_writer-elements+map_writer-each_key+map_writer-keyed_value+map_writer-keys+map_writer-map+map_writer-own_keys+serializer-value.Lts-serializer-value as serializer·value-lts
-use Rattle.field_plan.proofs.plan_fields_in.Reads as plan-fields-in-reads
-use Rattle.first_fields.proofs.note_firsts.Reads as note-firsts-reads
+use Rattle.resolve_field_plan.proofs.plan_fields_in.Reads as plan-fields-in-reads
+use Rattle.ser_first_fields.proofs.note_firsts.Reads as note-firsts-reads
 use Rattle.ser.proofs.array_writer.dimension_in.Reads as dimension-in-reads
 use Rattle.ser.proofs.array_writer.enter.Reads as enter-reads
 use Rattle.ser.proofs.map_writer.key_in.Reads as key-in-reads
 use Rattle.ser.proofs.map_writer.note_long.Reads as note-long-reads
 use Rattle.ser.proofs.serializer.end.Reads as end-reads
 use Rattle.ser.proofs.serializer.leaf.Reads as leaf-reads
-use Rattle.shape.proofs.array.is_last.Reads as is-last-reads
-use Rattle.shape.proofs.array.stride_of.Reads as stride-of-reads
-use Rattle.shape.proofs.shape_of.Reads as shape-of-reads
+use Rattle.tape_shape.proofs.array.is_last.Reads as is-last-reads
+use Rattle.tape_shape.proofs.array.stride_of.Reads as stride-of-reads
+use Rattle.tape_shape.proofs.shape_of.Reads as tape-shape-of-reads
 use Rattle.tape.proofs.cursor.Cursor.next.Reads as next-reads
 use Rattle.type_category.proofs.type_category.AdsTypeCategory.determine.Reads as determine-reads
-use Rattle.typebook.proofs.block.count.Reads as count-reads
-use Rattle.typebook.proofs.block.fields.Reads as fields-reads
-use Rattle.typebook.proofs.block.size.Reads as size-reads
+use Rattle.type_book.proofs.block.count.Reads as count-reads
+use Rattle.type_book.proofs.block.fields.Reads as fields-reads
+use Rattle.type_book.proofs.block.size.Reads as size-reads
 use Rattle.ser.proofs.+array_writer-array+array_writer-dimension+array_writer-each_element+array_writer-element+array_writer-elements+map_writer-each_key+map_writer-keyed_value+map_writer-keys+map_writer-map+map_writer-own_keys+serializer-value.{
   statement,
 }
@@ -327,7 +327,7 @@ abbrev map-writer·keys-calls : ℕ → map-writer·keys-lts.Claims
 map-writer·keys-calls t = (fields-reads.Asked, fields-reads.Learnt, map-writer·each-key-below t, map-writer·each-key.Post, note-long-reads.Asked, note-long-reads.Learnt)
 
 abbrev map-writer·map-calls : ℕ → map-writer·map-lts.Claims
-map-writer·map-calls t = (shape-of-reads.Asked, shape-of-reads.Learnt, size-reads.Asked, size-reads.Learnt, map-writer·each-key-below t, map-writer·each-key.Post, map-writer·own-keys-below t, map-writer·own-keys.Post)
+map-writer·map-calls t = (tape-shape-of-reads.Asked, tape-shape-of-reads.Learnt, size-reads.Asked, size-reads.Learnt, map-writer·each-key-below t, map-writer·each-key.Post, map-writer·own-keys-below t, map-writer·own-keys.Post)
 
 abbrev map-writer·own-keys-calls : ℕ → map-writer·own-keys-lts.Claims
 map-writer·own-keys-calls t = (plan-fields-in-reads.Asked, plan-fields-in-reads.Learnt, note-firsts-reads.Asked, note-firsts-reads.Learnt, map-writer·keys-below t, map-writer·keys.Post)

@@ -1,6 +1,6 @@
 use Rattle.type_cache.proofs.Appends.{addition-one, addition-more, addition-size, addition-sum, addition-form, addition-doubled}
 use borrow.Author.Needs.{needs}
-use Rattle.book_check.proofs.Numbers.{book-is}
+use Rattle.type_book_check.proofs.Numbers.{book-is}
 use Rattle.type_cache.proofs.addition_refusal.Statement.{statement}
 use Rattle.type_cache.proofs.addition_refusal.Tie as tie
 

@@ -1,6 +1,6 @@
 use Rattle.type_cache.proofs.Appends.{refused-book, refused-cut, refused-addition, refused-known, refused-none, refused-room}
 use borrow.Author.Needs.{needs}
-use Rattle.book_check.proofs.Numbers.{book-is}
+use Rattle.type_book_check.proofs.Numbers.{book-is}
 use Rattle.type_cache.proofs.append_refusal.Statement.{statement}
 use Rattle.type_cache.proofs.append_refusal.Tie as tie
 

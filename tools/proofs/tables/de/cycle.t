@@ -3,12 +3,12 @@ use mathlib.Core.Path.{_≡_, refl}
 use Prim.Native.Nat.{ℕ, _+_, _*_, _-_, _≤_, _<_}
 use lib.ListN.{length}
 use Rattle.de.specs.Walk.{ctx, walk, membersFrom, elementsFrom}
-use Rattle.array_elements.specs.Element.{elementItem}
-use Rattle.steps.proofs.Runs.{Rest}
-use Rattle.shape.proofs.Strides.{Along, along-start, along-again, along-end, along-fits, element-fills, next-dimension, fills-first, fills-further}
-use Rattle.shape.specs.Array.{strideOf}
+use Rattle.tape_array_elements.specs.Element.{elementItem}
+use Rattle.de_output.proofs.Runs.{Rest}
+use Rattle.tape_shape.proofs.Strides.{Along, along-start, along-again, along-end, along-fits, element-fills, next-dimension, fills-first, fills-further}
+use Rattle.tape_shape.specs.Array.{strideOf}
 use Rattle.de.proofs.Exits.{value-deep, value-map, value-array, value-leaf, member-stop, member-value, part-typed, part-category, part-inside, part-order, members-start, members-again, members-end, members-stop, map-odd, map-fine, map-lacks, map-endless, array-odd, array-nothing, array-lacks, array-endless, array-other, array-base, dimension-fine, dimension-lacks, dimension-endless, elements-start, elements-again, elements-end, elements-stop, element-last, element-deep, element-further, field-number, field-first, typed-base, typed-found, leaf-inside, map-ready, given-none, map-given, own-entries, own-elements, last-given}
-use Rattle.field_plan.proofs.Plans.{entry-of}
+use Rattle.resolve_field_plan.proofs.Plans.{entry-of}
 use Rattle.type_category.proofs.Numbers.{category-is}
 use Rattle.validators.proofs.Validities.{size-is, size-other}
 ruleset array-exits = (array-odd, array-nothing, array-lacks, array-endless, array-other, array-base, category-is, size-is, size-other)

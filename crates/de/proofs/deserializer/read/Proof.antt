@@ -1,15 +1,15 @@
 use Rattle.de.proofs.Wholes.{call-room, call-book, call-type, call-root, call-refused}
 use borrow.Author.Needs.{needs}
-use Rattle.book_check.proofs.Numbers.{root-is}
+use Rattle.type_book_check.proofs.Numbers.{root-is}
 use Rattle.de.proofs.deserializer.read.Statement.{statement}
 use Rattle.de.proofs.deserializer.read.Tie as tie
 use Rattle.de.proofs.deserializer.read.Reads as reads
 use Rattle.de.proofs.deserializer.read.Lts as lts
-use Rattle.book_check.proofs.check_root.Reads as check-root-reads
+use Rattle.type_book_check.proofs.check_root.Reads as check-root-reads
 use Rattle.de.proofs.deserializer.read_large.Reads as read-large-reads
 use Rattle.de.proofs.deserializer.read_small.Reads as read-small-reads
-use Rattle.steps.proofs.finish.Reads as finish-reads
-use Rattle.typebook.proofs.block.blocks.Reads as blocks-reads
+use Rattle.de_output.proofs.finish.Reads as finish-reads
+use Rattle.type_book.proofs.block.blocks.Reads as blocks-reads
 
 -- src/deserializer.rt:138:9
 check-root-requires : tie.Need-check-root-requires

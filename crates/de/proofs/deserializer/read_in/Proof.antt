@@ -8,7 +8,7 @@ use Rattle.de.proofs.deserializer.read_in.Reads as reads
 use Rattle.de.proofs.deserializer.read_in.Lts as lts
 use Rattle.de.proofs.deserializer.value.Reads as value-reads
 use Rattle.resolvers.proofs.resolve_alias_in.Reads as resolve-alias-in-reads
-use Rattle.steps.proofs.finish.Reads as finish-reads
+use Rattle.de_output.proofs.finish.Reads as finish-reads
 use Rattle.type_category.proofs.type_category.AdsTypeCategory.determine.Reads as determine-reads
 
 -- src/deserializer.rt:81:9

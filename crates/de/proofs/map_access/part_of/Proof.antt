@@ -4,7 +4,7 @@ use Rattle.de.proofs.map_access.part_of.Statement.{statement}
 use Rattle.de.proofs.map_access.part_of.Tie as tie
 use Rattle.de.proofs.map_access.part_of.Reads as reads
 use Rattle.de.proofs.map_access.part_of.Lts as lts
-use Rattle.field_plan.proofs.planned_field.Reads as planned-field-reads
+use Rattle.resolve_field_plan.proofs.planned_field.Reads as planned-field-reads
 
 ruleset exits = (part-lacks, part-endless, part-over, part-value)
 

@@ -4,7 +4,7 @@ use Rattle.ser.proofs.array_writer.dimension_in.Statement.{statement}
 use Rattle.ser.proofs.array_writer.dimension_in.Tie as tie
 use Rattle.ser.proofs.array_writer.dimension_in.Reads as reads
 use Rattle.ser.proofs.array_writer.dimension_in.Lts as lts
-use Rattle.array_elements.proofs.element_check.Reads as element-check-reads
+use Rattle.tape_array_elements.proofs.element_check.Reads as element-check-reads
 use Rattle.ser.proofs.array_writer.element_firsts.Reads as element-firsts-reads
 use Rattle.tape.proofs.cursor.Cursor.next.Reads as next-reads
 

@@ -1,13 +1,13 @@
-use Rattle.first_fields.proofs.Laws.{firsts-none}
+use Rattle.ser_first_fields.proofs.Laws.{firsts-none}
 use Rattle.ser.proofs.Exits.{leaf-inside}
 use borrow.Author.Needs.{needs}
 use Rattle.ser.proofs.array_writer.element_firsts.Statement.{statement}
 use Rattle.ser.proofs.array_writer.element_firsts.Tie as tie
 use Rattle.ser.proofs.array_writer.element_firsts.Reads as reads
 use Rattle.ser.proofs.array_writer.element_firsts.Lts as lts
-use Rattle.first_fields.proofs.note_firsts.Reads as note-firsts-reads
-use Rattle.shape.proofs.array.is_last.Reads as is-last-reads
-use Rattle.zeros.proofs.clear_numbers.Reads as clear-numbers-reads
+use Rattle.ser_first_fields.proofs.note_firsts.Reads as note-firsts-reads
+use Rattle.tape_shape.proofs.array.is_last.Reads as is-last-reads
+use Rattle.enc_zeros.proofs.clear_numbers.Reads as clear-numbers-reads
 
 -- src/array_writer.rt:139:8
 is-last-requires : tie.Need-is-last-requires

@@ -4,7 +4,7 @@ use Rattle.ser.proofs.map_writer.field_in.Statement.{statement}
 use Rattle.ser.proofs.map_writer.field_in.Tie as tie
 use Rattle.ser.proofs.map_writer.field_in.Reads as reads
 use Rattle.ser.proofs.map_writer.field_in.Lts as lts
-use Rattle.field_plan.proofs.planned_field.Reads as planned-field-reads
+use Rattle.resolve_field_plan.proofs.planned_field.Reads as planned-field-reads
 
 ruleset exits = (field-found, field-lacks, field-endless)
 

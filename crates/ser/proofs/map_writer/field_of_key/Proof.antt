@@ -4,8 +4,8 @@ use Rattle.ser.proofs.map_writer.field_of_key.Statement.{statement}
 use Rattle.ser.proofs.map_writer.field_of_key.Tie as tie
 use Rattle.ser.proofs.map_writer.field_of_key.Reads as reads
 use Rattle.ser.proofs.map_writer.field_of_key.Lts as lts
-use Rattle.first_fields.proofs.field_block.Reads as field-block-reads
-use Rattle.first_fields.proofs.field_named_as.Reads as field-named-as-reads
+use Rattle.ser_first_fields.proofs.field_block.Reads as field-block-reads
+use Rattle.ser_first_fields.proofs.field_named_as.Reads as field-named-as-reads
 
 ruleset exits = (key-near, key-far)
 

@@ -4,7 +4,7 @@ use Rattle.ser.proofs.map_writer.key_in.Statement.{statement}
 use Rattle.ser.proofs.map_writer.key_in.Tie as tie
 use Rattle.ser.proofs.map_writer.key_in.Reads as reads
 use Rattle.ser.proofs.map_writer.key_in.Lts as lts
-use Rattle.field_plan.proofs.entry_at.Reads as entry-at-reads
+use Rattle.resolve_field_plan.proofs.entry_at.Reads as entry-at-reads
 use Rattle.ser.proofs.map_writer.field_in.Reads as field-in-reads
 use Rattle.ser.proofs.map_writer.field_of_key.Reads as field-of-key-reads
 use Rattle.tape.proofs.cursor.Cursor.next.Reads as next-reads

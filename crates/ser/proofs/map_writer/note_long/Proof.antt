@@ -1,12 +1,12 @@
-use Rattle.first_fields.proofs.Laws.{firsts-none}
+use Rattle.ser_first_fields.proofs.Laws.{firsts-none}
 use Rattle.ser.proofs.Exits.{leaf-inside}
 use borrow.Author.Needs.{needs}
 use Rattle.ser.proofs.map_writer.note_long.Statement.{statement}
 use Rattle.ser.proofs.map_writer.note_long.Tie as tie
 use Rattle.ser.proofs.map_writer.note_long.Reads as reads
 use Rattle.ser.proofs.map_writer.note_long.Lts as lts
-use Rattle.first_fields.proofs.note_firsts.Reads as note-firsts-reads
-use Rattle.zeros.proofs.clear_numbers.Reads as clear-numbers-reads
+use Rattle.ser_first_fields.proofs.note_firsts.Reads as note-firsts-reads
+use Rattle.enc_zeros.proofs.clear_numbers.Reads as clear-numbers-reads
 
 -- src/map_writer.rt:114:9
 note-firsts-requires : tie.Need-note-firsts-requires

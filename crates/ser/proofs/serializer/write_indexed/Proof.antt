@@ -8,7 +8,7 @@ use Rattle.ser.proofs.serializer.finish.Reads as finish-reads
 use Rattle.ser.proofs.serializer.refused_before.Reads as refused-before-reads
 use Rattle.ser.proofs.serializer.write_large.Reads as write-large-reads
 use Rattle.ser.proofs.serializer.write_small.Reads as write-small-reads
-use Rattle.typebook.proofs.block.blocks.Reads as blocks-reads
+use Rattle.type_book.proofs.block.blocks.Reads as blocks-reads
 
 ruleset exits = (book-written, book-refused)
 

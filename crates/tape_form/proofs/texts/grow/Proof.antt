@@ -5,7 +5,7 @@ use Rattle.tape_form.proofs.texts.grow.Tie as tie
 use Rattle.tape_form.proofs.texts.grow.Reads as reads
 use Rattle.tape_form.proofs.texts.grow.Lts as lts
 use Rattle.tape_form.proofs.texts.ahead.Reads as ahead-reads
-use Rattle.utf_8_decoder.proofs.valid_up_to.Reads as valid-up-to-reads
+use Rattle.enc_utf_8_decoder.proofs.valid_up_to.Reads as valid-up-to-reads
 
 -- src/texts.rt:34:13
 element-copy-out-v : tie.Need-element-copy-out-v

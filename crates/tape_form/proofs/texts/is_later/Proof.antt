@@ -5,8 +5,8 @@ use Rattle.tape_form.proofs.texts.is_later.Tie as tie
 use Rattle.tape_form.proofs.texts.is_later.Reads as reads
 use Rattle.tape_form.proofs.texts.is_later.Lts as lts
 use Rattle.tape_form.proofs.texts.keep.Reads as keep-reads
-use Rattle.utf_8_decoder.proofs.part_well_formed.Reads as part-well-formed-reads
-use Rattle.utf_8_decoder.proofs.well_formed.Reads as well-formed-reads
+use Rattle.enc_utf_8_decoder.proofs.part_well_formed.Reads as part-well-formed-reads
+use Rattle.enc_utf_8_decoder.proofs.well_formed.Reads as well-formed-reads
 
 ruleset exits = (later-part, later-fine, later-broken)
 

@@ -7,7 +7,7 @@ use Rattle.tape_form.proofs.texts.is_text.Reads as reads
 use Rattle.tape_form.proofs.texts.is_text.Lts as lts
 use Rattle.tape_form.proofs.texts.grow.Reads as grow-reads
 use Rattle.tape_form.proofs.texts.is_later.Reads as is-later-reads
-use Rattle.utf_8_decoder.proofs.part_well_formed.Reads as part-well-formed-reads
+use Rattle.enc_utf_8_decoder.proofs.part_well_formed.Reads as part-well-formed-reads
 
 ruleset exits = (text-past, text-over, text-inside, text-first)
 

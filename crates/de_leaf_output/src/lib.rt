@@ -1,0 +1,117 @@
+// What a leaf puts on the tape: one record, one text, or a refusal.
+ghost use mathlib.Core.Path.{_≡_};
+ghost use mathlib.Core.Bool.{cond};
+ghost use Prim.Native.Nat.{_+_, _<_};
+ghost use lib.ListN.{take};
+ghost use Rattle.type_book.specs.Book.{fieldsOf, entriesOf};
+ghost use Rattle.type_category.specs.Category.{categoryOf};
+ghost use Rattle.de_leaves.specs.Leaf.{leafAt};
+ghost use Rattle.de_output.specs.Trace.{From};
+ghost use Rattle.de_leaf_output.specs.Leaves.{endsAt, formOf, traceOf};
+use de_leaves::leaf::LeafValue;
+use de_output::Step;
+use de_output::put;
+use de_output::put_text;
+use de_output::stop;
+use enc_float::Real;
+use enc_text_decoder::Decoder;
+use enc_utf_8::TextEnd;
+use tape::record::BOOL;
+use tape::record::ENUM;
+use tape::record::REAL32;
+use tape::record::REAL64;
+use tape::record::Record;
+use tape::record::SIGNED;
+use tape::record::UNIT;
+use tape::record::UNSIGNED;
+use type_category::type_category::AdsTypeCategory;
+
+// The first n bytes, or all where there are fewer.
+fn first(bytes: &[u8], n: usize) -> &[u8]
+    ensures { λ r. ⌜ now r ≡ take n (now (bytes .entry)) ⌝ }
+{
+    if n <= bytes.len() {
+        return &bytes[0..n];
+    }
+    bytes
+}
+
+fn bit(b: bool) -> u64
+    ensures { λ r. ⌜ r ≡ cond b 1 0 ⌝ }
+{
+    if b {
+        return 1;
+    }
+    0
+}
+
+// The number of bytes before a text's end, whether or not a terminator was found.
+fn before(end: TextEnd) -> usize
+    ensures { λ r. ⌜ r ≡ endsAt end ⌝ }
+{
+    match end {
+        TextEnd::Terminated(n) => n,
+        TextEnd::Unterminated(n) => n,
+    }
+}
+
+// How a leaf's value goes on the tape: as one record, as a text (byte 1 of its record, its decoder, the number of its bytes), or not at all.
+pub enum LeafForm {
+    Record(Record),
+    Text(u8, Decoder, usize),
+    Refused(u8),
+}
+
+// The form of a leaf's value.
+fn form_of(value: LeafValue) -> LeafForm
+    ensures { λ r. ⌜ r ≡ formOf value ⌝ }
+{
+    match value {
+        LeafValue::Signed(w, b) => LeafForm::Record(Record::new(SIGNED, w, 0, b)),
+        LeafValue::Unsigned(w, n) => LeafForm::Record(Record::new(UNSIGNED, w, 0, n)),
+        LeafValue::Bool(b) => LeafForm::Record(Record::new(BOOL, 0, 0, bit(b))),
+        LeafValue::Single(x) => LeafForm::Record(Record::new(REAL32, 0, 0, Real::Single(x).bits())),
+        LeafValue::Double(x) => LeafForm::Record(Record::new(REAL64, 0, 0, Real::Double(x).bits())),
+        LeafValue::NanSingle(n) => LeafForm::Record(Record::new(REAL32, 0, 0, n as u64)),
+        LeafValue::NanDouble(n) => LeafForm::Record(Record::new(REAL64, 0, 0, n)),
+        LeafValue::Text(decoder, end) => LeafForm::Text(0, decoder, before(end)),
+        LeafValue::Entry(n) => LeafForm::Record(Record::new(ENUM, 0, n as u64, 0)),
+        LeafValue::Unit => LeafForm::Record(Record::new(UNIT, 0, 0, 0)),
+        LeafValue::Refused(k) => LeafForm::Refused(k),
+    }
+}
+
+// Writes what a leaf's bytes stand for, after a step.
+pub fn put_leaf(s: Step, value: LeafValue, bytes: &[u8], tape: &mut [u8], text: &mut [u8]) -> Step
+    ensures { λ r. ⌜ From (traceOf value (now (bytes .entry))) (now (tape .entry)) (now (text .entry)) s r (now (tape .exit)) (now (text .exit)) ⌝ }
+{
+    let form = form_of(value);
+    match form {
+        LeafForm::Record(r) => put(s, tape, text, r),
+        LeafForm::Text(w, decoder, n) => put_text(s, w, 0, decoder, first(bytes, n), tape, text),
+        LeafForm::Refused(k) => stop(s, k, 0),
+    }
+}
+
+// The value of a type that is neither struct nor array.
+pub fn leaf(
+    s: Step,
+    book: &[u8],
+    width: u8,
+    t: u32,
+    category: AdsTypeCategory,
+    bytes: &[u8],
+    tape: &mut [u8],
+    text: &mut [u8],
+) -> Step
+    requires { ⌜ (t + fieldsOf (now book) t + entriesOf (now book) t < 65536) × (category ≡ categoryOf (now book) width t) ⌝ }
+    ensures { λ r. ⌜ From (traceOf (leafAt (now (book .entry)) width t (now (bytes .entry))) (now (bytes .entry))) (now (tape .entry)) (now (text .entry)) s r (now (tape .exit)) (now (text .exit)) ⌝ }
+{
+    put_leaf(
+        s,
+        de_leaves::leaf::leaf_by(book, width, t, category, bytes),
+        bytes,
+        tape,
+        text,
+    )
+}

@@ -1,0 +1,124 @@
+-- The exits and the loops of the decoder's functions, a law for each. Assumes nothing.
+use mathlib.Core.Path.{_≡_, sym, ap, _∙_}
+use mathlib.Core.Bool.{Bool, true, false}
+use mathlib.Core.List.{List}
+use Prim.Native.Nat.{ℕ, _+_, _-_, _≤_, _<_}
+use native.Mathlib.Omega.{arith}
+use lib.ListN.{length, getD, take, drop, set}
+use lib.Dec.{leb}
+use borrow.Author.Tests.{leb-true, leb-false, le-leb, lt-leb}
+use Rattle.enc_utf_8.specs.declared.Put.{Put}
+use Rattle.enc_utf_8.specs.declared.Put.the-variants.{Next, Full}
+use Rattle.enc_utf_8.specs.declared.Room.{Room}
+use Rattle.enc_utf_8.specs.declared.Room.the-variants.{Fits, Over}
+use Rattle.enc_utf_8.specs.Buffer.{Wrote, Laid, roomFor}
+use Rattle.enc_utf_8.specs.Utf8.{utf8Of}
+use Rattle.enc_utf_8.proofs.Splices.{wrote-as, wrote-none}
+use Rattle.enc_ascii.specs.Ascii.{isAscii}
+use Rattle.enc_windows_1252.specs.Index.{codePoints}
+use Rattle.enc_windows_1252.specs.Text.{decodeByte, decodeText}
+use Rattle.enc_windows_1252.proofs.Indexes.{point-is}
+use Rattle.enc_windows_1252_decoder.proofs.Texts.{ascii-byte, ascii-text, ascii-length, decode-next, decode-end, decode-cut, decode-some}
+use Rattle.enc_utf_8.proofs.Lays.{laid-one, laid-as, Rest, rest-room, rest-next, rest-end, put-went, put-never, room-fits, room-over, count-part, count-over, count-all, count-fits, wrote-laid, wrote-over}
+
+-- ---- block_len, decoded_len
+
+module _ (bytes : List ℕ) (i n all : ℕ) (inv : n + length (decodeText (drop i bytes)) ≡ all) where
+  pub length-byte : (k : ℕ) → i < length bytes → k ≡ length (decodeByte (getD bytes i 0)) → n + k + length (decodeText (drop (i + 1) bytes)) ≡ all
+  length-byte k h q = count-part n all _ inv (decodeByte (getD bytes i 0)) (decodeText (drop (i + 1) bytes)) (decode-next bytes i h) k q
+
+  pub length-end : length bytes ≤ i → n ≡ all
+  length-end h = count-all n all _ inv (decode-end bytes i h)
+
+  module _ (e k : ℕ) (h : i < e) (q : k ≡ length (decodeText (take (e - i) (drop i bytes)))) where
+    pub length-part : n + k + length (decodeText (drop e bytes)) ≡ all
+    length-part = count-part n all _ inv (decodeText (take (e - i) (drop i bytes))) (decodeText (drop e bytes)) (decode-cut bytes i e (omega arith)) k q
+
+    pub length-over : (room : ℕ) → n ≤ room → room - n < k → Over ≡ roomFor all room
+    length-over room l s = count-over n all _ inv (decodeText (take (e - i) (drop i bytes))) (decodeText (drop e bytes)) (decode-cut bytes i e (omega arith)) k q room l s
+
+  pub length-fits : (room : ℕ) → n ≤ room → length bytes ≤ i → Fits n ≡ roomFor all room
+  length-fits room l h = count-fits n all _ inv (decode-end bytes i h) room l
+
+-- ---- put_byte
+
+module _ (b at : ℕ) (out : List ℕ) (h : at + length (decodeByte b) ≤ length out) where
+  pub byte-room : b < 0x80 → at < length out
+  byte-room l = omega (arith, ap length (ascii-byte b l))
+
+  pub byte-ascii : b < 0x80 → Laid (decodeByte b) out at (at + 1) (set out at b)
+  byte-ascii l = laid-as (ascii-byte b l) (laid-one out at b (byte-room l))
+
+  module _ (points : List ℕ) (e : points ≡ codePoints) (l : b < 256) (r : Put) (out₁ : List ℕ) (w : Wrote (utf8Of (getD points b 0)) out at r out₁) where
+    same-bytes : Wrote (decodeByte b) out at r out₁
+    same-bytes = wrote-as (ap utf8Of (sym (point-is points b e l))) w
+
+    pub byte-next : (n : ℕ) → r ≡ Next n → Laid (decodeByte b) out at n out₁
+    byte-next n q = put-went n same-bytes q
+
+    pub byte-never : r ≡ Full → Laid (decodeByte b) out at at out₁
+    byte-never q = put-never h same-bytes q
+
+-- ---- put_each, put_text
+
+module _ (xs out bytes out₁ : List ℕ) (at i n : ℕ) (q : Rest xs out at (decodeText (drop i bytes)) out₁ n) where
+  module _ (h : i < length bytes) where
+    pub each-room : n + length (decodeByte (getD bytes i 0)) ≤ length out₁
+    each-room = rest-room (decodeByte (getD bytes i 0)) (decodeText (drop (i + 1) bytes)) q (decode-next bytes i h)
+
+    pub each-again : (n₁ : ℕ) (out₂ : List ℕ) → Laid (decodeByte (getD bytes i 0)) out₁ n n₁ out₂ → Rest xs out at (decodeText (drop (i + 1) bytes)) out₂ n₁
+    each-again n₁ out₂ l = rest-next q (decode-next bytes i h) l
+
+  module _ (e : ℕ) (h : i < e) where
+    pub part-room : n + length (decodeText (take (e - i) (drop i bytes))) ≤ length out₁
+    part-room = rest-room (decodeText (take (e - i) (drop i bytes))) (decodeText (drop e bytes)) q (decode-cut bytes i e (omega arith))
+
+    pub part-again : (n₁ : ℕ) (out₂ : List ℕ) → Laid (decodeText (take (e - i) (drop i bytes))) out₁ n n₁ out₂ → Rest xs out at (decodeText (drop e bytes)) out₂ n₁
+    part-again n₁ out₂ l = rest-next q (decode-cut bytes i e (omega arith)) l
+
+  pub text-end : length bytes ≤ i → Laid xs out at n out₁
+  text-end h = rest-end q (decode-end bytes i h)
+
+-- ---- put_block
+
+module _ (block : List ℕ) (t : Bool) (e : t ≡ isAscii block) (y : t ≡ true) where
+  block-room : (out : List ℕ) (at : ℕ) → at + length (decodeText block) ≤ length out → at + length block ≤ length out
+  block-room out at h = omega (arith, ascii-length block t e y)
+
+  module _ (out out₁ : List ℕ) (at : ℕ) (h : at + length (decodeText block) ≤ length out) (r : Put) (w : Wrote block out at r out₁) where
+    pub block-copied : (n : ℕ) → r ≡ Next n → Laid (decodeText block) out at n out₁
+    block-copied n q = laid-as (ascii-text block (sym e ∙ y)) (put-went n w q)
+
+    pub block-never : r ≡ Full → Laid (decodeText block) out at at out₁
+    block-never q = put-never (block-room out at h) w q
+
+-- ---- fits_in
+
+module _ (len room : ℕ) (r : Room) (e : r ≡ roomFor len room) where
+  pub measured-fits : (n : ℕ) → r ≡ Fits n → true ≡ leb len room
+  measured-fits n q = sym (le-leb len room (room-fits n len room e q .fits))
+
+  pub measured-over : r ≡ Over → false ≡ leb len room
+  measured-over q = sym (lt-leb len room (room-over len room e q))
+
+-- ---- decode
+
+module _ (bytes out : List ℕ) (at : ℕ) where
+  pub decode-none : length bytes ≡ 0 → Wrote (decodeText bytes) out at (Next at) out
+  decode-none h = wrote-as (decode-end bytes 0 (omega arith)) (wrote-none out at)
+
+  pub decode-past : (length bytes ≡ 0 → ⊥) → length out < at → Wrote (decodeText bytes) out at Full out
+  decode-past n h = wrote-over (decodeText bytes) out at (omega arith) (decode-some bytes n)
+
+  module _ (t : Bool) (h : at ≤ length out) (e : t ≡ leb (length (decodeText bytes)) (length out - at)) where
+    pub decode-over : t ≡ false → Wrote (decodeText bytes) out at Full out
+    decode-over q =
+        let o = leb-false (length (decodeText bytes)) (length out - at) (sym e ∙ q) in
+        wrote-over (decodeText bytes) out at (omega arith) (omega arith)
+
+    module _ (q : t ≡ true) where
+      pub decode-room : at + length (decodeText bytes) ≤ length out
+      decode-room = omega (arith, leb-true (length (decodeText bytes)) (length out - at) (sym e ∙ q))
+
+      pub decode-done : (k : ℕ) (out₁ : List ℕ) → Laid (decodeText bytes) out at k out₁ → Wrote (decodeText bytes) out at (Next k) out₁
+      decode-done k out₁ l = wrote-laid (decodeText bytes) out at decode-room l

@@ -1,0 +1,98 @@
+-- Laws of the decoding of a text: the only place that opens `decodeText` and `utf8Lengths`. Assumes nothing.
+use mathlib.Core.Path.{_≡_, refl, sym, ap, _∙_}
+use mathlib.Core.Bool.{Bool, true}
+use mathlib.Core.List.{List, [], _∷_, _++_, append-assoc, flatMap}
+use Prim.Native.Nat.{ℕ, suc, _+_, _*_, _-_, _/_, _≤_, _<_}
+use native.Mathlib.Omega.{arith}
+use native.Mathlib.Numerals.{add-one}
+use lib.ListN.{length, getD, take, drop, length-append, take-append-drop, drop-of-length-le}
+use lib.Seq.{drop-cons, drop-drop}
+use lib.Dec.{leb}
+use mir.Syntax.{w8}
+use mir.Val.{Fits}
+use borrow.Author.Tests.{le-leb, leb-true}
+use Rattle.enc_utf_8.specs.Utf8.{utf8Of, encoded, decodeFrom, noError, wellFormed}
+use Rattle.enc_utf_8.proofs.Encodes.{Bytes, utf8-one, utf8-short}
+use Rattle.enc_utf_8.proofs.Trips.{formed-utf8}
+use Rattle.enc_ascii.specs.Ascii.{isAscii}
+use Rattle.enc_ascii.proofs.Ascii.{ascii-first}
+use Rattle.enc_windows_1252.specs.Index.{listedPoints, codePoint}
+use Rattle.enc_windows_1252.specs.Text.{decodeByte, decodeText}
+use Rattle.enc_windows_1252.proofs.Indexes.{own-low}
+use Rattle.enc_windows_1252.proofs.Table.{at, same}
+use Rattle.enc_windows_1252_decoder.specs.Lengths.{utf8Lengths}
+
+-- ---- a byte's code point takes 1 to 3 bytes
+
+pub byte-short : (b : ℕ) → b < 256 → length (decodeByte b) ≤ 3
+unfolding listedPoints codePoint utf8Of encoded
+byte-short b h = leb-true (length (decodeByte b)) 3 (same (λ (k : ℕ). leb (length (decodeByte k)) 3) (λ k. true) 256 b true refl h)
+
+module _ (l : List ℕ) (b : ℕ) (e : l ≡ utf8Lengths) (h : b < 256) where
+  pub length-is : getD l b 0 ≡ length (decodeByte b)
+  unfolding utf8Lengths
+  length-is = rw e (at (λ (k : ℕ). length (decodeByte k)) 256 b 0 h)
+
+  pub length-short : getD l b 0 ≤ 3
+  length-short = omega (arith, length-is, byte-short b h)
+
+-- ---- the text of bytes in parts
+
+decode-append : (xs ys : List ℕ) → decodeText (xs ++ ys) ≡ decodeText xs ++ decodeText ys
+unfolding decodeText flatMap
+decode-append [] ys = refl
+decode-append (x ∷ xs) ys = rw (decode-append xs ys, append-assoc)
+
+module _ (bytes : List ℕ) (i : ℕ) where
+  pub decode-next : i < length bytes → decodeText (drop i bytes) ≡ decodeByte (getD bytes i 0) ++ decodeText (drop (i + 1) bytes)
+  unfolding decodeText flatMap
+  decode-next h = rw (add-one, drop-cons bytes i 0 h)
+
+  pub decode-end : length bytes ≤ i → decodeText (drop i bytes) ≡ []
+  unfolding decodeText flatMap
+  decode-end h = rw (drop-of-length-le bytes h)
+
+  pub decode-cut : (e : ℕ) → i ≤ e → decodeText (drop i bytes) ≡ decodeText (take (e - i) (drop i bytes)) ++ decodeText (drop e bytes)
+  decode-cut e h =
+      let k : i + (e - i) ≡ e = omega arith in
+      ap decodeText (sym (take-append-drop (e - i) (drop i bytes)))
+      ∙ decode-append (take (e - i) (drop i bytes)) (drop (e - i) (drop i bytes))
+      ∙ ap (λ (l : List ℕ). decodeText (take (e - i) (drop i bytes)) ++ decodeText l) (drop-drop (e - i) i bytes ∙ ap (λ (n : ℕ). drop n bytes) k)
+
+-- no byte gives more than three
+text-three : (bytes : List ℕ) → ((i : ℕ) → getD bytes i 0 < 256) → length (decodeText bytes) ≤ 3 * length bytes
+unfolding decodeText flatMap
+text-three [] h = omega arith
+text-three (b ∷ bs) h = rw length-append (omega (arith, byte-short b (h 0), text-three bs (λ i. h (suc i))))
+
+pub fits-short : (bytes : List ℕ) (room : ℕ) → ((i : ℕ) → Fits w8 (getD bytes i 0)) → length bytes ≤ room / 3 → true ≡ leb (length (decodeText bytes)) room
+fits-short bytes room f h = sym (le-leb _ room (omega (arith, text-three bytes (λ i. f i .fits))))
+
+pub decode-some : (bytes : List ℕ) → (length bytes ≡ 0 → ⊥) → 0 < length (decodeText bytes)
+unfolding decodeText flatMap
+decode-some [] n = absurd (n refl)
+decode-some (b ∷ bs) n = rw length-append (omega (arith, utf8-short (codePoint b) .some))
+
+-- ---- ASCII
+
+pub ascii-byte : (b : ℕ) → b < 0x80 → decodeByte b ≡ b ∷ []
+ascii-byte b h = rw (own-low b h, utf8-one b h)
+
+pub ascii-text : (bytes : List ℕ) → isAscii bytes ≡ true → decodeText bytes ≡ bytes
+unfolding decodeText flatMap
+ascii-text [] h = refl
+ascii-text (b ∷ bs) h = let f = ascii-first b bs h in rw (ascii-byte b (f .low), ascii-text bs (f .rest))
+
+pub ascii-length : (block : List ℕ) (t : Bool) → t ≡ isAscii block → t ≡ true → length block ≡ length (decodeText block)
+ascii-length block t e h = ap length (sym (ascii-text block (sym e ∙ h)))
+
+-- ---- the decoded text
+
+-- at most three bytes for each byte
+pub decode-long : (bytes : List ℕ) → Bytes bytes → length (decodeText bytes) ≤ 3 * length bytes
+decode-long bytes k = text-three bytes (k .each)
+
+pub decode-formed : (bytes : List ℕ) → wellFormed (decodeText bytes) ≡ true
+unfolding decodeText flatMap decodeFrom noError
+decode-formed [] = refl
+decode-formed (b ∷ bs) = formed-utf8 (codePoint b) (decodeText bs) ∙ decode-formed bs

@@ -1,0 +1,23 @@
+-- `put` meets its contract. Assumes nothing.
+use Rattle.gateway_lent_values.proofs.Lays.{put-past}
+use borrow.Author.Needs.{needs}
+use Rattle.gateway_lent_values.proofs.put.Statement.{statement}
+use Rattle.gateway_lent_values.proofs.put.Tie as tie
+
+mul-values : tie.Need-mul-values
+mul-values c = search needs
+
+slice-write-values : tie.Need-slice-write-values
+slice-write-values c = search needs
+
+same-length : tie.Need-same-length
+same-length c = search needs
+
+returns : tie.Need-returns
+returns c = search needs
+
+returns-2 : tie.Need-returns-2
+returns-2 c = search put-past
+
+pub put-spec : {M : Type 1} → statement M
+put-spec = tie.close (tie.spec mul-values slice-write-values same-length returns returns-2)

@@ -1,0 +1,140 @@
+// The fields of a type, resolved once: a plan keeps one number for each field, the block of its type as named and as resolved, and that
+// type's category, so that a type that is read many times is looked up once.
+ghost use mathlib.Core.Path.{_≡_};
+ghost use mathlib.Core.Bool.{true};
+ghost use Prim.Native.Nat.{_<_};
+ghost use lib.ListN.{getD, set};
+ghost use Rattle.type_book.specs.Book.{isType, typeNameOf};
+ghost use Rattle.type_provider.specs.Find.{find};
+ghost use Rattle.type_book_check.specs.Check.{ValidBook};
+ghost use Rattle.resolve_field_plan.specs.Plan.{planEntryOf, PlanEntry, PlannedFieldIs, FieldPlanIs};
+use resolve_field_types::FieldsCheck;
+use resolvers::Resolved;
+use type_book::block;
+use type_category::type_category::AdsTypeCategory;
+use type_category_number::category_at;
+use type_category_number::number;
+use type_provider::Found;
+
+// A field whose type is resolved: offset and size as its block says, its type's block as named and with aliases resolved, the
+// category of that.
+pub struct PlannedField {
+    pub offset: u32,
+    pub size: u32,
+    pub named: u32,
+    pub resolved: u32,
+    pub category: AdsTypeCategory,
+}
+
+pub enum Planned {
+    Field(PlannedField),
+    // The block whose type name is not in the book.
+    Lacks(u32),
+    // More look-ups than allowed.
+    TooLong,
+}
+
+// Field block f, whose type name finds the alias at block `named`.
+fn plan_alias(book: &[u8], index: &[u32], width: u8, f: u32, named: u32) -> Planned
+    requires { ⌜ ValidBook (now book) × (find (now book) (typeNameOf (now book) f) ≡ Found.At named) ⌝ }
+    ensures { λ r. ⌜ PlannedFieldIs (now (book .entry)) width f r ⌝ }
+{
+    let answer = resolvers::resolve_alias_in(book, index, width, named);
+    match answer {
+        Resolved::Base(resolved) => Planned::Field(PlannedField {
+            offset: block::offset(book, f),
+            size: block::size(book, f),
+            named,
+            resolved,
+            category: AdsTypeCategory::determine(book, width, resolved),
+        }),
+        Resolved::Lacks(b) => Planned::Lacks(b),
+        Resolved::TooLong => Planned::TooLong,
+    }
+}
+
+// Resolves the type of field block f, and says its category. Most types are no alias: their category is determined once.
+fn plan_field(book: &[u8], index: &[u32], width: u8, f: u32) -> Planned
+    requires { ⌜ ValidBook (now book) ⌝ }
+    ensures { λ r. ⌜ PlannedFieldIs (now (book .entry)) width f r ⌝ }
+{
+    let found = resolvers::named_in(book, index, f);
+    let Found::At(named) = found else {
+        return Planned::Lacks(f);
+    };
+    let category = AdsTypeCategory::determine(book, width, named);
+    if resolvers::goes_on(category, false) {
+        return plan_alias(book, index, width, f, named);
+    }
+    Planned::Field(PlannedField {
+        offset: block::offset(book, f),
+        size: block::size(book, f),
+        named,
+        resolved: named,
+        category,
+    })
+}
+
+// Field block f, by its entry of a plan; without an entry (0) it is resolved here.
+pub fn planned_field(book: &[u8], index: &[u32], width: u8, f: u32, entry: u64) -> Planned
+    requires { ⌜ ValidBook (now book) × PlanEntry (now book) width f entry ⌝ }
+    ensures { λ r. ⌜ PlannedFieldIs (now (book .entry)) width f r ⌝ }
+{
+    if entry == 0 {
+        return plan_field(book, index, width, f);
+    }
+    Planned::Field(PlannedField {
+        offset: block::offset(book, f),
+        size: block::size(book, f),
+        named: ((entry - 1) / 1048576) as u32,
+        resolved: ((entry - 1) / 16 % 65536) as u32,
+        category: category_at(((entry - 1) % 16) as u32),
+    })
+}
+
+// A field's entry. Past the plan's end there is none.
+pub fn entry_at(plan: &[u64], i: u32) -> u64
+    ensures { λ r. ⌜ r ≡ getD (now (plan .entry)) i 0 ⌝ }
+{
+    if (i as usize) < plan.len() {
+        return plan[i as usize];
+    }
+    0
+}
+
+// Stores the i-th field's entry, if the plan is long enough.
+fn note(plan: &mut [u64], i: u32, field: PlannedField)
+    requires { ⌜ (field .named < 65536) × (field .resolved < 65536) ⌝ }
+    ensures { λ _. ⌜ now (plan .exit) ≡ set (now (plan .entry)) i (planEntryOf field) ⌝ }
+{
+    let category = field.category;
+    if (i as usize) < plan.len() {
+        let blocks = field.named as u64 * 65536 + field.resolved as u64;
+        plan[i as usize] = 1 + blocks * 16 + number(category) as u64;
+    }
+}
+
+// Resolves all fields of type block t in order, up to the first that is refused, and stores their entries.
+pub fn plan_fields_in(
+    book: &[u8],
+    index: &[u32],
+    width: u8,
+    t: u32,
+    plan: &mut [u64],
+) -> FieldsCheck
+    requires { ⌜ ValidBook (now book) × (isType (now book) t ≡ true) ⌝ }
+    ensures { λ r. ⌜ FieldPlanIs (now (book .entry)) width t (now (plan .entry)) r (now (plan .exit)) ⌝ }
+{
+    let n = block::fields(book, t);
+    let mut i: u32 = 0;
+    while i < n {
+        let found = plan_field(book, index, width, t + 1 + i);
+        match found {
+            Planned::Field(x) => note(plan, i, x),
+            Planned::Lacks(b) => return FieldsCheck::Lacks(b),
+            Planned::TooLong => return FieldsCheck::TooLong,
+        }
+        i += 1;
+    }
+    FieldsCheck::Fine
+}

@@ -1,0 +1,73 @@
+-- What is known of the missing list in the midst of the walk `all`, of which w is left. No contract of a public function cites this.
+-- Assumes nothing.
+use mathlib.Core.Path.{_≡_}
+use mathlib.Core.Bool.{Bool, false, _&&_}
+use mathlib.Core.List.{List, _++_}
+use Prim.Native.Nat.{ℕ, _+_, _-_, _≤_, _<_}
+use lib.ListN.{length, take, drop, set}
+use Rattle.resolve_walk_events.specs.declared.Event.{Event}
+use Rattle.resolve_walk_events.specs.declared.Event.the-variants.{Old, Lacking, New, Long, Full}
+use Rattle.resolve_walk.specs.Walk.{Walk}
+use Rattle.resolve_walk.specs.Reads.{count, listed, whole}
+use Rattle.resolve_walk.specs.State.{LeftToWalk, After, work, Falls, IsDue}
+use Rattle.resolve_missing_types.specs.declared.Turn.{Turn}
+use Rattle.resolve_missing_types.specs.declared.Turn.the-variants as turn
+
+-- what was read of the walk stands in the count, the list and the mark; what is left to read is w
+pub record Reading (all : Walk) (list₀ list : List ℕ) (left n : ℕ) (ok : Bool) (w : Walk) : Type 0 where
+  pub counts : count all + left ≡ 4096 + count w
+  pub lists : listed all ≡ take n list ++ listed w
+  pub ends : whole all ≡ ok && whole w
+  pub kept : drop n list ≡ drop n list₀
+  pub long : length list ≡ length list₀
+  pub room : n + left ≤ 4096
+
+-- the state between two turns
+pub record Now (book : List ℕ) (width : ℕ) (all : Walk) (list₀ sc list : List ℕ) (left depth n : ℕ) (ok : Bool) : Type 0 where
+  pub rest : Walk
+  pub left-over : LeftToWalk book width sc (take n list) left depth rest
+  pub reading : Reading all list₀ list left n ok rest
+
+-- the walk ended at a name too many
+pub record Stopped (all : Walk) (list₀ list : List ℕ) (n : ℕ) : Type 0 where
+  pub counts : count all ≡ 4097
+  pub lists : listed all ≡ take n list
+  pub ends : whole all ≡ false
+  pub kept : drop n list ≡ drop n list₀
+  pub long : length list ≡ length list₀
+  pub room : n ≤ 4096
+
+-- block b is listed after n others
+pub record OneMore (list : List ℕ) (n b r : ℕ) (list′ : List ℕ) : Type 0 where
+  pub count : r ≡ n + 1
+  pub blocks : list′ ≡ set list n b
+
+-- what the state is after an event was applied
+abbrev pub Then : List ℕ → ℕ → Walk → List ℕ → List ℕ → List ℕ → ℕ → Turn → Type 0
+Then book width all list₀ sc list n (turn.More l d k o) = Now book width all list₀ sc list l d k o
+Then book width all list₀ sc list n turn.Full = Stopped all list₀ list n
+
+-- less than m is left to do then
+abbrev pub Less : List ℕ → ℕ → Turn → Type 0
+Less sc m (turn.More l d k o) = work sc l d < m
+Less sc m turn.Full = Unit {0}
+
+-- an event is applied to list, mark and count
+pub record Applied (e : Event) (list : List ℕ) (left n : ℕ) (ok : Bool) (r : Turn) (list′ : List ℕ) : Type 0 where
+  pub goes : (book : List ℕ) (width : ℕ) (all : Walk) (list₀ sc : List ℕ) (w : Walk) → Reading all list₀ list left n ok w → After book width sc (take n list) left w e → Then book width all list₀ sc list′ n r
+  pub falls : (sc : List ℕ) (m : ℕ) → Falls sc left m e → Less sc m r
+
+-- an event that is still to be applied
+pub record Pending (book : List ℕ) (width : ℕ) (all : Walk) (list₀ sc list : List ℕ) (left n : ℕ) (ok : Bool) (e : Event) : Type 0 where
+  pub rest : Walk
+  pub reading : Reading all list₀ list left n ok rest
+  pub after : After book width sc (take n list) left rest e
+  pub due : IsDue left e
+
+-- the measure of the loop: the event, and what is left to do after it
+unfoldable pub pend : List ℕ → ℕ → Event → ℕ
+pend sc left (Old d) = 1 + work sc left d
+pend sc left (Lacking c d) = 1 + work sc (left - 1) d
+pend sc left (New t d c) = 1 + work sc (left - 1) d
+pend sc left (Long d) = 1 + work sc (left - 1) d
+pend sc left Full = 0

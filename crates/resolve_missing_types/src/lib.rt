@@ -1,0 +1,151 @@
+// Which types the book lacks, of those that a type is made of (the Rust's resolvers.rs): the walk of crate `resolve_walk`, read to its end.
+// `missing_types_in` takes a book that was checked once; `missing_types` checks it.
+ghost use mathlib.Core.Path.{_≡_};
+ghost use mathlib.Core.Bool.{true, _&&_};
+ghost use Prim.Native.Nat.{_≤_, _<_, _+_};
+ghost use lib.ListN.{length, replicate};
+ghost use Rattle.type_book.specs.Book.{isType};
+ghost use Rattle.type_book_check.specs.Check.{ValidBook};
+ghost use Rattle.resolve_walk.specs.Scratch.{scratchFits, listFits};
+ghost use Rattle.resolve_walk.specs.State.{IsDue};
+ghost use Rattle.resolve_missing_types.specs.Calls.{Walked, MissingIn, MissingIs};
+ghost use Rattle.resolve_missing_types.specs.State.{OneMore, Applied};
+use enc_zeros::clear_numbers;
+use resolve_walk::MAX_TYPES_VISITED;
+use resolve_walk::list_fits;
+use resolve_walk::scratch_fits;
+use resolve_walk::start;
+use resolve_walk::step;
+use resolve_walk_events::Event;
+use type_book_check::RootCheck;
+
+// What `missing_types` answers.
+pub enum Missing {
+    // How many blocks are listed; whether the walk is whole: no chain was too long, and no name was one too many; how many distinct
+    // names were met.
+    Listed(usize, bool, usize),
+    // A refusal, by document 01's number.
+    Refused(u8),
+}
+
+// The state of `missing_walk` after an event: names left, entries on the stack, blocks listed, whether still whole.
+enum Turn {
+    More(usize, usize, usize, bool),
+    Full,
+}
+
+// Lists block b after n others, also where one of them names the same type: how many are listed then.
+fn list_block(list: &mut [u32], n: usize, b: u32) -> usize
+    requires { ⌜ n < length (now list) ⌝ }
+    ensures { λ r. ⌜ OneMore (now (list .entry)) n b r (now (list .exit)) ⌝ }
+{
+    list[n] = b;
+    n + 1
+}
+
+// What an event is for the missing list.
+fn apply(e: Event, list: &mut [u32], left: usize, n: usize, ok: bool) -> Turn
+    requires { ⌜ IsDue left e × (4096 ≤ length (now list)) × (n + left ≤ 4096) ⌝ }
+    ensures { λ r. ⌜ Applied e (now (list .entry)) left n ok r (now (list .exit)) ⌝ }
+{
+    match e {
+        Event::Old(d) => Turn::More(left, d, n, ok),
+        Event::New(_, d, _) => {
+            let rest = left - 1;
+            Turn::More(rest, d, n, ok)
+        }
+        Event::Lacking(b, d) => {
+            let rest = left - 1;
+            Turn::More(rest, d, list_block(list, n, b), ok)
+        }
+        Event::Long(d) => {
+            let rest = left - 1;
+            Turn::More(rest, d, n, false)
+        }
+        Event::Full => Turn::Full,
+    }
+}
+
+// The walk for the missing list, over a scratch of zeros.
+fn missing_walk(
+    book: &[u8],
+    index: &[u32],
+    width: u8,
+    root: u32,
+    scratch: &mut [u32],
+    list: &mut [u32],
+) -> Missing
+    requires { ⌜ ValidBook (now book) × (isType (now book) root ≡ true) × (6144 ≤ length (now scratch)) × (4096 ≤ length (now list)) × (now scratch ≡ replicate (length (now scratch)) 0) ⌝ }
+    ensures { λ r. ⌜ Walked (now (book .entry)) width root (now (list .entry)) r (now (list .exit)) ⌝ }
+{
+    let mut e = start(book, index, width, root, scratch);
+    let mut left = MAX_TYPES_VISITED;
+    let mut n: usize = 0;
+    let mut ok = true;
+    loop {
+        let turn = apply(e, list, left, n, ok);
+        let Turn::More(l, d, k, o) = turn else {
+            return Missing::Listed(n, false, MAX_TYPES_VISITED + 1);
+        };
+        if d == 0 {
+            return Missing::Listed(k, o, MAX_TYPES_VISITED - l);
+        }
+        left = l;
+        n = k;
+        ok = o;
+        e = step(book, index, width, scratch, list, n, left, d);
+    }
+}
+
+// `missing_types` for a book that was checked, with an index.
+pub fn missing_types_in(
+    book: &[u8],
+    index: &[u32],
+    width: u8,
+    root: u32,
+    scratch: &mut [u32],
+    list: &mut [u32],
+) -> Missing
+    requires { ⌜ ValidBook (now book) × (isType (now book) root ≡ true) × (6144 ≤ length (now scratch)) × (4096 ≤ length (now list)) ⌝ }
+    ensures { λ r. ⌜ MissingIn true (now (book .entry)) width root (now (scratch .entry)) (now (list .entry)) r (now (scratch .exit)) (now (list .exit)) ⌝ }
+{
+    clear_numbers(scratch);
+    let answer = missing_walk(book, index, width, root, scratch, list);
+    clear_numbers(scratch);
+    answer
+}
+
+// `missing_types` for type block `root` of a valid book: 6 where scratch or list is too short.
+fn missing_at(book: &[u8], width: u8, root: u32, scratch: &mut [u32], list: &mut [u32]) -> Missing
+    requires { ⌜ ValidBook (now book) × (isType (now book) root ≡ true) ⌝ }
+    ensures { λ r. ⌜ MissingIn (scratchFits (now (scratch .entry)) && listFits (now (list .entry))) (now (book .entry)) width root (now (scratch .entry)) (now (list .entry)) r (now (scratch .exit)) (now (list .exit)) ⌝ }
+{
+    if !scratch_fits(scratch) {
+        return Missing::Refused(6);
+    }
+    if !list_fits(list) {
+        return Missing::Refused(6);
+    }
+    let mut index = [0u32; 16384];
+    type_index::fill_names(book, &mut index);
+    missing_types_in(book, &index, width, root, scratch, list)
+}
+
+// Lists every type that the root is made of and the book lacks, each by the block that names it, in the order found: without an
+// error at the first, so that all can be fetched in one request. The book fills the first `len` bytes of the buffer.
+pub fn missing_types(
+    buffer: &[u8],
+    len: usize,
+    width: u8,
+    root: u64,
+    scratch: &mut [u32],
+    list: &mut [u32],
+) -> Missing
+    ensures { λ r. ⌜ MissingIs (now (buffer .entry)) len width root (now (scratch .entry)) (now (list .entry)) r (now (scratch .exit)) (now (list .exit)) ⌝ }
+{
+    let check = type_book_check::check_root(buffer, len, root);
+    match check {
+        RootCheck::Root(t) => missing_at(&buffer[..len], width, t, scratch, list),
+        RootCheck::Refused(n) => Missing::Refused(n),
+    }
+}

@@ -1,0 +1,154 @@
+// Whether the memory of a value must be read before it is written (the Rust's resolvers.rs): the walk of crate `resolve_walk`, read up to the
+// first event that answers. `requires_read_modify_write_in` takes a book that was checked once; `requires_read_modify_write` checks
+// it.
+ghost use mathlib.Core.Path.{_≡_};
+ghost use mathlib.Core.Bool.{true};
+ghost use Prim.Native.Nat.{_≤_};
+ghost use lib.ListN.{length, replicate};
+ghost use Rattle.type_book.specs.Book.{isType};
+ghost use Rattle.type_book_check.specs.Check.{ValidBook};
+ghost use Rattle.resolve_walk.specs.Scratch.{scratchFits};
+ghost use Rattle.resolve_walk.specs.State.{IsDue};
+ghost use Rattle.resolve_read_modify_write.specs.Reads.{keepsState};
+ghost use Rattle.resolve_read_modify_write.specs.Calls.{rmwAnswer, RmwIn, RmwIs};
+ghost use Rattle.resolve_read_modify_write.specs.State.{Decided};
+use enc_zeros::clear_numbers;
+use resolve_walk::MAX_TYPES_VISITED;
+use resolve_walk::scratch_fits;
+use resolve_walk::start;
+use resolve_walk::step;
+use resolve_walk_events::Event;
+use type_book_check::RootCheck;
+use type_category::type_category::AdsTypeCategory;
+
+// What `requires_read_modify_write` answers.
+pub enum Rmw {
+    Yes,
+    No,
+    // 7, with the block whose type name is not in the book.
+    NotFound(u32),
+    // Any other refusal, by document 01's number.
+    Refused(u8),
+}
+
+// The state of `rmw_walk` after an event: names left and entries on the stack, or the answer.
+enum Turn {
+    More(usize, usize),
+    Is(Rmw),
+}
+
+// Function blocks and programs keep state that no field shows, as the pointer to their methods: to write zeros there would destroy
+// it.
+fn keeps_state(category: AdsTypeCategory) -> bool
+    ensures { λ r. ⌜ r ≡ keepsState category ⌝ }
+{
+    match category {
+        AdsTypeCategory::FunctionBlock => true,
+        AdsTypeCategory::Program => true,
+        AdsTypeCategory::None => false,
+        AdsTypeCategory::Primitive => false,
+        AdsTypeCategory::Alias => false,
+        AdsTypeCategory::Enum => false,
+        AdsTypeCategory::Array => false,
+        AdsTypeCategory::Struct => false,
+        AdsTypeCategory::Function => false,
+        AdsTypeCategory::SubRange => false,
+        AdsTypeCategory::String => false,
+        AdsTypeCategory::Bitset => false,
+        AdsTypeCategory::Pointer => false,
+        AdsTypeCategory::Union => false,
+        AdsTypeCategory::Reference => false,
+        AdsTypeCategory::Interface => false,
+    }
+}
+
+// What an event is for read-modify-write.
+fn decide(e: Event, left: usize) -> Turn
+    requires { ⌜ IsDue left e ⌝ }
+    ensures { λ r. ⌜ Decided e left r ⌝ }
+{
+    match e {
+        Event::Old(d) => Turn::More(left, d),
+        Event::New(_, d, category) => {
+            if keeps_state(category) {
+                return Turn::Is(Rmw::Yes);
+            }
+            Turn::More(left - 1, d)
+        }
+        Event::Lacking(b, _) => Turn::Is(Rmw::NotFound(b)),
+        Event::Long(_) => Turn::Is(Rmw::Refused(8)),
+        Event::Full => Turn::Is(Rmw::Refused(9)),
+    }
+}
+
+// The walk for read-modify-write, over a scratch of zeros. It ends at the first name that the book lacks, so it keeps no list.
+fn rmw_walk(book: &[u8], index: &[u32], width: u8, root: u32, scratch: &mut [u32]) -> Rmw
+    requires { ⌜ ValidBook (now book) × (isType (now book) root ≡ true) × (6144 ≤ length (now scratch)) × (now scratch ≡ replicate (length (now scratch)) 0) ⌝ }
+    ensures { λ r. ⌜ r ≡ rmwAnswer true (now (book .entry)) width root ⌝ }
+{
+    let none: [u32; 1] = [0];
+    let e = start(book, index, width, root, scratch);
+    let mut here = decide(e, MAX_TYPES_VISITED);
+    loop {
+        match here {
+            Turn::Is(answer) => {
+                return answer;
+            }
+            Turn::More(left, depth) => {
+                if depth == 0 {
+                    return Rmw::No;
+                }
+                let e = step(book, index, width, scratch, &none, 0, left, depth);
+                here = decide(e, left);
+            }
+        }
+    }
+}
+
+// `requires_read_modify_write` for a book that was checked, with an index.
+pub fn requires_read_modify_write_in(
+    book: &[u8],
+    index: &[u32],
+    width: u8,
+    root: u32,
+    scratch: &mut [u32],
+) -> Rmw
+    requires { ⌜ ValidBook (now book) × (isType (now book) root ≡ true) × (6144 ≤ length (now scratch)) ⌝ }
+    ensures { λ r. ⌜ RmwIn true (now (book .entry)) width root (now (scratch .entry)) r (now (scratch .exit)) ⌝ }
+{
+    clear_numbers(scratch);
+    let answer = rmw_walk(book, index, width, root, scratch);
+    clear_numbers(scratch);
+    answer
+}
+
+// `requires_read_modify_write` for type block `root` of a valid book: 6 where the scratch is too short.
+fn rmw_at(book: &[u8], width: u8, root: u32, scratch: &mut [u32]) -> Rmw
+    requires { ⌜ ValidBook (now book) × (isType (now book) root ≡ true) ⌝ }
+    ensures { λ r. ⌜ RmwIn (scratchFits (now (scratch .entry))) (now (book .entry)) width root (now (scratch .entry)) r (now (scratch .exit)) ⌝ }
+{
+    if !scratch_fits(scratch) {
+        return Rmw::Refused(6);
+    }
+    let mut index = [0u32; 16384];
+    type_index::fill_names(book, &mut index);
+    requires_read_modify_write_in(book, &index, width, root, scratch)
+}
+
+// Whether the memory of a value of the root's type must be read, changed and written back: it is, or is made of, a function block.
+// The book fills the first `len` bytes of the buffer.
+pub fn requires_read_modify_write(
+    buffer: &[u8],
+    len: usize,
+    width: u8,
+    root: u64,
+    scratch: &mut [u32],
+) -> Rmw
+    ensures { λ r. ⌜ RmwIs (now (buffer .entry)) len width root (now (scratch .entry)) r (now (scratch .exit)) ⌝ }
+{
+    let check = type_book_check::check_root(buffer, len, root);
+    match check {
+        RootCheck::Root(t) => rmw_at(&buffer[..len], width, t, scratch),
+        RootCheck::Refused(n) => Rmw::Refused(n),
+    }
+}

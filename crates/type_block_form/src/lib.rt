@@ -1,0 +1,176 @@
+// One block of a type book: its sum (refusal 2) and the bytes that its kind allows (refusal 3). These functions are for the check of a
+// whole book, which knows that a block has 512 bytes.
+ghost use mathlib.Core.Path.{_≡_};
+ghost use Prim.Native.Nat.{_≤_, _<_};
+ghost use lib.ListN.{length};
+ghost use Rattle.type_block_form.specs.Form.{sumOf, sumRight, every, isZero, isPrintable, unusedZero, nameForm, namesForm, flagsForm, typeForm, fieldForm, entryForm};
+use enc_ascii::higher;
+use enc_number::le::le_u32;
+
+fn wide(x: u8) -> usize
+    ensures { λ r. ⌜ (r ≡ x) × (r < 256) ⌝ }
+{
+    x as usize
+}
+
+// ---- its sum
+
+// The sum of the bytes of a part of a block.
+fn sum(part: &[u8]) -> u32
+    requires { ⌜ length (now part) ≤ 512 ⌝ }
+    ensures { λ r. ⌜ r ≡ sumOf (now (part .entry)) ⌝ }
+{
+    let mut total: u32 = 0;
+    let mut i = 0;
+    while i < part.len() {
+        total += part[i] as u32;
+        i += 1;
+    }
+    total
+}
+
+// Bytes 508 to 511 hold the sum of the block's other 508 bytes.
+pub fn sum_right(block: &[u8]) -> bool
+    requires { ⌜ length (now block) ≡ 512 ⌝ }
+    ensures { λ r. ⌜ r ≡ sumRight (now (block .entry)) ⌝ }
+{
+    le_u32(&block[508..512]) == sum(&block[..508])
+}
+
+// ---- its form
+
+// Whether all bytes of a part are 0. It looks for the highest of them, which needs no branch: most of a block is zeros.
+fn all_zero(part: &[u8]) -> bool
+    ensures { λ r. ⌜ r ≡ every isZero (now (part .entry)) ⌝ }
+{
+    let mut highest: u8 = 0;
+    let mut i = 0;
+    while i < part.len() {
+        highest = higher(highest, part[i]);
+        i += 1;
+    }
+    highest == 0
+}
+
+fn is_printable(byte: u8) -> bool
+    ensures { λ r. ⌜ r ≡ isPrintable byte ⌝ }
+{
+    if byte < 32 {
+        return false;
+    }
+    byte <= 126
+}
+
+fn all_printable(part: &[u8]) -> bool
+    ensures { λ r. ⌜ r ≡ every isPrintable (now (part .entry)) ⌝ }
+{
+    let mut i = 0;
+    while i < part.len() {
+        if !is_printable(part[i]) {
+            return false;
+        }
+        i += 1;
+    }
+    true
+}
+
+// The first `used` bytes of a part are free, and the others are 0.
+fn unused_zero(part: &[u8], used: usize) -> bool
+    ensures { λ r. ⌜ r ≡ unusedZero used (now (part .entry)) ⌝ }
+{
+    if used > part.len() {
+        return false;
+    }
+    all_zero(&part[used..])
+}
+
+// A name fills the first `len` bytes of its part, and zeros the rest.
+fn name_form(part: &[u8], len: usize) -> bool
+    ensures { λ r. ⌜ r ≡ nameForm len (now (part .entry)) ⌝ }
+{
+    if !unused_zero(part, len) {
+        return false;
+    }
+    all_printable(&part[..len])
+}
+
+// Bytes 52 to 507, which the three kinds share.
+fn names_form(block: &[u8]) -> bool
+    requires { ⌜ length (now block) ≡ 512 ⌝ }
+    ensures { λ r. ⌜ r ≡ namesForm (now (block .entry)) ⌝ }
+{
+    if !name_form(&block[54..254], wide(block[52])) {
+        return false;
+    }
+    if !name_form(&block[254..454], wide(block[53])) {
+        return false;
+    }
+    all_zero(&block[454..508])
+}
+
+// The flags of a type block: five bits, whatever its type id is.
+fn flags_form(flags: u8, id: u32) -> bool
+    ensures { λ r. ⌜ r ≡ flagsForm flags id ⌝ }
+{
+    flags < 32
+}
+
+pub fn type_form(block: &[u8]) -> bool
+    requires { ⌜ length (now block) ≡ 512 ⌝ }
+    ensures { λ r. ⌜ r ≡ typeForm (now (block .entry)) ⌝ }
+{
+    if block[0] != 1 {
+        return false;
+    }
+    if !flags_form(block[1], le_u32(&block[4..8])) {
+        return false;
+    }
+    if block[2] > 8 {
+        return false;
+    }
+    if block[3] != 0 {
+        return false;
+    }
+    if !unused_zero(&block[20..52], wide(block[2]) * 4) {
+        return false;
+    }
+    names_form(block)
+}
+
+pub fn field_form(block: &[u8]) -> bool
+    requires { ⌜ length (now block) ≡ 512 ⌝ }
+    ensures { λ r. ⌜ r ≡ fieldForm (now (block .entry)) ⌝ }
+{
+    if block[0] != 2 {
+        return false;
+    }
+    if !all_zero(&block[1..4]) {
+        return false;
+    }
+    if !all_zero(&block[12..52]) {
+        return false;
+    }
+    names_form(block)
+}
+
+pub fn entry_form(block: &[u8]) -> bool
+    requires { ⌜ length (now block) ≡ 512 ⌝ }
+    ensures { λ r. ⌜ r ≡ entryForm (now (block .entry)) ⌝ }
+{
+    if block[0] != 3 {
+        return false;
+    }
+    if block[1] > 8 {
+        return false;
+    }
+    if !all_zero(&block[2..20]) {
+        return false;
+    }
+    if !unused_zero(&block[20..52], wide(block[1])) {
+        return false;
+    }
+    if block[53] != 0 {
+        return false;
+    }
+    names_form(block)
+}

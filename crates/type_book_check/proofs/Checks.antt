@@ -1,0 +1,186 @@
+-- The two calls: one law for each way out. Assumes nothing.
+use mathlib.Core.Path.{_≡_, refl, sym, _∙_}
+use mathlib.Core.Bool.{Bool, true, false, cond, not, _&&_}
+use mathlib.Core.List.{List}
+use Prim.Native.Nat.{ℕ, _/_, _%_, _≤_, _<_}
+use native.Mathlib.Omega.{arith}
+use borrow.Author.Tests.{eq-eqb, ne-eqb, le-leb, lt-leb, lt-ltb, le-ltb, leb-true, ltb-true, eqb-true, not-true, not-false}
+use lib.ListN.{length, take}
+use lib.Seq.{length-take-le}
+use lib.Dec.{eqb, leb, ltb}
+use Rattle.enc_number.specs.Answer.{refusalOf}
+use Rattle.type_book.specs.Book.{blocks, isType}
+use Rattle.type_doubles.specs.Doubles.{distinct}
+use Rattle.type_book_check.specs.Check.{sizeRight, sums, allInPlace, checkBlocks, checkBook, bookNumbers, rootOf, checkRoot}
+use Rattle.type_book_check.specs.declared.BookCheck.{BookCheck}
+use Rattle.type_book_check.specs.declared.BookCheck.the-variants.{Valid, Size, Sum, Form, Doubled}
+use Rattle.type_book_check.specs.declared.RootCheck.{RootCheck}
+use Rattle.type_book_check.specs.declared.RootCheck.the-variants.{Root, Refused}
+use Rattle.type_book_check.proofs.Numbers.{zero-valid}
+use Rattle.type_block_form.proofs.Bytes.{and-left, and-right}
+
+-- ---- refusal 1
+module _ (room len : ℕ) where
+  pub size-past : room < len → false ≡ sizeRight room len
+  unfolding sizeRight
+  size-past h = rw (lt-leb len room h)
+
+  module _ (l : len ≤ room) where
+    pub size-empty : len ≡ 0 → false ≡ sizeRight room len
+    unfolding sizeRight
+    size-empty h = let z : len ≤ 0 = omega arith in rw (le-leb len room l, le-ltb 0 len z)
+
+    module _ (n : len ≡ 0 → ⊥) where
+      some : 0 < len
+      some = omega (arith, n)
+
+      pub size-part : (len % 512 ≡ 0 → ⊥) → false ≡ sizeRight room len
+      unfolding sizeRight
+      size-part h = rw (le-leb len room l, lt-ltb 0 len some, ne-eqb (len % 512) 0 h)
+
+      pub size-blocks : len % 512 ≡ 0 → leb (len / 512) 65536 ≡ sizeRight room len
+      unfolding sizeRight
+      size-blocks h = rw (le-leb len room l, lt-ltb 0 len some, eq-eqb (len % 512) 0 h)
+
+-- what 1 leaves
+pub record Sized (room len : ℕ) : Type 0 where
+  pub fits : len ≤ room
+  pub some : 0 < len
+  pub whole : len % 512 ≡ 0
+  pub few : len / 512 ≤ 65536
+
+pub sized : (room len : ℕ) → sizeRight room len ≡ true → Sized room len
+unfolding sizeRight
+sized room len h =
+    let a : ltb 0 len && (eqb (len % 512) 0 && leb (len / 512) 65536) ≡ true = and-right (leb len room) _ h in
+    let b : eqb (len % 512) 0 && leb (len / 512) 65536 ≡ true = and-right (ltb 0 len) _ a in
+    record {
+      fits = leb-true _ _ (and-left (leb len room) _ h);
+      some = ltb-true _ _ (and-left (ltb 0 len) _ a);
+      whole = eqb-true _ _ (and-left (eqb (len % 512) 0) _ b);
+      few = leb-true _ _ (and-right (eqb (len % 512) 0) _ b);
+    }
+
+module _ (buffer : List ℕ) (len : ℕ) where
+  module _ (z : Sized (length buffer) len) where
+    pub book-length : length (take len buffer) ≡ len
+    book-length = length-take-le len buffer (z .fits)
+
+    pub book-blocks : blocks (take len buffer) ≤ 65536
+    book-blocks = rw book-length (z .few)
+
+  module _ (t : Bool) (e : t ≡ sizeRight (length buffer) len) where
+    pub book-size : not t ≡ true → Size ≡ checkBook buffer len
+    unfolding checkBook
+    book-size h = rw (← e, not-true t h)
+
+    module _ (h : not t ≡ false) where
+      fine : Sized (length buffer) len
+      fine = sized _ _ (sym e ∙ not-false t h)
+
+      pub book-cut : len ≡ length (take len buffer)
+      book-cut = sym (book-length fine)
+
+      pub book-few : blocks (take len buffer) ≤ 65536
+      book-few = book-blocks fine
+
+      module _ (u : Bool) (o : u ≡ sums (take len buffer)) where
+        pub book-sum : not u ≡ true → Sum ≡ checkBook buffer len
+        unfolding checkBook checkBlocks
+        book-sum g = rw (← e, not-false t h, ← o, not-true u g)
+
+        module _ (g : not u ≡ false) (v : Bool) (p : v ≡ allInPlace (take len buffer)) where
+          pub book-form : not v ≡ true → Form ≡ checkBook buffer len
+          unfolding checkBook checkBlocks
+          book-form k = rw (← e, not-false t h, ← o, not-false u g, ← p, not-true v k)
+
+          module _ (k : not v ≡ false) (w : Bool) (q : w ≡ distinct (take len buffer)) where
+            pub book-doubled : not w ≡ true → Doubled ≡ checkBook buffer len
+            unfolding checkBook checkBlocks
+            book-doubled d = rw (← e, not-false t h, ← o, not-false u g, ← p, not-false v k, ← q, not-true w d)
+
+            pub book-valid : not w ≡ false → Valid ≡ checkBook buffer len
+            unfolding checkBook checkBlocks
+            book-valid d = rw (← e, not-false t h, ← o, not-false u g, ← p, not-false v k, ← q, not-false w d)
+
+-- ---- what a valid book passed
+passed : (t : Bool) (a b : BookCheck) → (b ≡ Valid → ⊥) → cond t a b ≡ Valid → t ≡ true
+passed true a b n e = refl
+passed false a b n e = absurd (n e)
+
+then : (t : Bool) (a b : BookCheck) → t ≡ true → cond t a b ≡ Valid → a ≡ Valid
+then t a b h e = rw h at e
+
+pub record Passed (room len : ℕ) (book : List ℕ) : Type 0 where
+  pub size : Sized room len
+  pub sum : sums book ≡ true
+  pub place : allInPlace book ≡ true
+  pub name : distinct book ≡ true
+
+pub passes : (buffer : List ℕ) (len : ℕ) → checkBook buffer len ≡ Valid → Passed (length buffer) len (take len buffer)
+unfolding checkBook checkBlocks
+passes buffer len e =
+    let book : List ℕ = take len buffer in
+    let s : sizeRight (length buffer) len ≡ true = passed _ _ _ (λ q. let z : _≡_ {A = ℕ} 0 1 = cc in omega arith) e in
+    let a : cond (sums book) (cond (allInPlace book) (cond (distinct book) Valid Doubled) Form) Sum ≡ Valid = then _ _ _ s e in
+    let u : sums book ≡ true = passed _ _ _ (λ q. let z : _≡_ {A = ℕ} 0 1 = cc in omega arith) a in
+    let b : cond (allInPlace book) (cond (distinct book) Valid Doubled) Form ≡ Valid = then _ _ _ u a in
+    let v : allInPlace book ≡ true = passed _ _ _ (λ q. let z : _≡_ {A = ℕ} 0 1 = cc in omega arith) b in
+    let d : cond (distinct book) Valid Doubled ≡ Valid = then _ _ _ v b in
+    record {
+      size = sized _ _ s;
+      sum = u;
+      place = v;
+      name = passed _ _ _ (λ q. let z : _≡_ {A = ℕ} 0 1 = cc in omega arith) d;
+    }
+
+pub passed-size : (buffer : List ℕ) (len : ℕ) → checkBook buffer len ≡ Valid → sizeRight (length buffer) len ≡ true
+unfolding checkBook
+passed-size buffer len e = passed _ _ _ (λ q. let z : _≡_ {A = ℕ} 0 1 = cc in omega arith) e
+
+pub size-in : (room len : ℕ) → len ≤ room → Sized len len → sizeRight room len ≡ true
+size-in room len l z =
+    sym (size-blocks room len l (λ e. omega (arith, z .some)) (z .whole)) ∙ le-leb (len / 512) 65536 (z .few)
+
+pub size-again : (room len : ℕ) → sizeRight room len ≡ true → sizeRight len len ≡ true
+size-again room len h =
+    let z : Sized room len = sized room len h in
+    size-in len len (omega arith) (record { fits = omega arith; some = z .some; whole = z .whole; few = z .few })
+
+pub passes-again : (buffer : List ℕ) (len : ℕ) → sizeRight (length buffer) len ≡ true → sums (take len buffer) ≡ true → allInPlace (take len buffer) ≡ true → distinct (take len buffer) ≡ true → checkBook buffer len ≡ Valid
+unfolding checkBook checkBlocks
+passes-again buffer len z s p d = rw (z, s, p, d)
+
+-- ---- the root
+module _ (book : List ℕ) (root : ℕ) where
+  pub root-past : (n : ℕ) → n ≡ blocks book → n ≤ root → Refused 5 ≡ rootOf book root
+  unfolding rootOf
+  root-past n e l = let h : blocks book ≤ root = omega arith in rw (le-ltb root (blocks book) h)
+
+  module _ (n : ℕ) (e : n ≡ blocks book) (l : root < n) (t : Bool) (q : t ≡ isType book root) where
+    pub root-type : t ≡ true → Root root ≡ rootOf book root
+    unfolding rootOf
+    root-type h = let k : root < blocks book = omega arith in rw (lt-ltb root (blocks book) k, ← q, h)
+
+    pub root-other : t ≡ false → Refused 5 ≡ rootOf book root
+    unfolding rootOf
+    root-other h = let k : root < blocks book = omega arith in rw (lt-ltb root (blocks book) k, ← q, h)
+
+module _ (buffer : List ℕ) (len root : ℕ) (c : BookCheck) (e : c ≡ checkBook buffer len) (k : ℕ) (q : k ≡ refusalOf (bookNumbers c)) where
+  pub root-refused : (k ≡ 0 → ⊥) → Refused k ≡ checkRoot buffer len root
+  unfolding checkRoot
+  root-refused h = rw (← e, ← q, ne-eqb k 0 h)
+
+  module _ (z : k ≡ 0) where
+    pub root-answer : (r : RootCheck) → r ≡ rootOf (take len buffer) root → r ≡ checkRoot buffer len root
+    unfolding checkRoot
+    root-answer r o = rw (← e, ← q, eq-eqb k 0 z) o
+
+    sizes : Sized (length buffer) len
+    sizes = passes buffer len (sym e ∙ zero-valid c (sym q ∙ z)) .size
+
+    pub root-cut : len ≡ length (take len buffer)
+    root-cut = sym (book-length buffer len sizes)
+
+    pub root-few : blocks (take len buffer) ≤ 65536
+    root-few = book-blocks buffer len sizes

@@ -1,0 +1,50 @@
+use Rattle.type_book_check.proofs.Checks.{book-size, book-cut, book-few, book-sum, book-form, book-doubled, book-valid}
+use borrow.Author.Needs.{needs}
+use Rattle.type_book_check.proofs.Numbers.{book-says}
+use Rattle.type_book_check.proofs.check_book.Statement.{statement}
+use Rattle.type_book_check.proofs.check_book.Tie as tie
+
+size-right-requires : tie.Need-size-right-requires
+size-right-requires c κs = search needs
+
+returns : tie.Need-returns
+returns c = book-says _ _ (search book-size)
+
+slice-aggregate-book : tie.Need-slice-aggregate-book
+slice-aggregate-book c = search book-cut
+
+sums-right-requires : tie.Need-sums-right-requires
+sums-right-requires c κs = search book-few
+
+returns-2 : tie.Need-returns-2
+returns-2 c = book-says _ _ (search book-sum)
+
+placed-requires : tie.Need-placed-requires
+placed-requires c κs = search book-few
+
+returns-3 : tie.Need-returns-3
+returns-3 c = book-says _ _ (search book-form)
+
+names-distinct-requires : tie.Need-names-distinct-requires
+names-distinct-requires c κs = search book-few
+
+returns-4 : tie.Need-returns-4
+returns-4 c = book-says _ _ (search book-doubled)
+
+returns-5 : tie.Need-returns-5
+returns-5 c = book-says _ _ (search book-valid)
+
+pub check-book-spec : {M : Type 1} → statement M
+check-book-spec =
+    tie.close
+    (tie.spec
+    size-right-requires
+    returns
+    slice-aggregate-book
+    sums-right-requires
+    returns-2
+    placed-requires
+    returns-3
+    names-distinct-requires
+    returns-4
+    returns-5)

@@ -1,2 +1,0 @@
--- Laws that the functions' proofs cite beside those of `utf_8`. Blocks: ASCII in a text that is tested.
-pub mod Blocks

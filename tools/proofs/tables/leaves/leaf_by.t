@@ -1,5 +1,0 @@
-use mathlib.Core.Path.{refl}
-use Rattle.leaves.proofs.Leaves.{leaf-number, leaf-text, leaf-enum, leaf-pointer, leaf-unit, leaf-none}
-use Rattle.leaves.proofs.Numbers.{leaf-says}
-ruleset exits = (leaf-number, leaf-text, leaf-enum, leaf-pointer, leaf-unit, leaf-none, refl)
-returns.* => leaf-says _ _ (search exits)

@@ -1,2 +1,0 @@
-use Rattle.lines.proofs.Prints.{head-put}
-returns => search head-put

@@ -1,3 +1,0 @@
-use Rattle.marks.proofs.Laws.{part-bit-is}
-returns => search part-bit-is
-.* => search needs

@@ -1,4 +1,0 @@
-use Rattle.steps.proofs.Puts.{room-past, room-after}
-returns => search room-past
-returns-2 => search room-after
-.* => search needs

@@ -1,2 +1,0 @@
-use Rattle.steps.proofs.Puts.{put-made}
-returns => search put-made
