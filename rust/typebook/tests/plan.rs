@@ -296,3 +296,47 @@ fn random_books_against_the_twin() {
     }
     assert!(grown > 300, "{grown}");
 }
+
+/// Types of ours, each with a field of a type that only the controller has, whose own field is our next type; and a type of ours that the root
+/// doesn't reach, which names one of the controller's.
+fn alternating(pairs: usize, end: Type) -> (Vec<u8>, Vec<u8>) {
+    let (ours, theirs) = (|n: usize| format!("OURS_{n}"), |n: usize| format!("THEIRS_{n}"));
+    let holds = |name: &str, of: &str| Type::new(name).size(4).field("inner", of, 0, 2);
+    let mut mine: Vec<Type> = (0..pairs).map(|n| holds(&ours(n), &theirs(n))).collect();
+    mine.push(holds("ASIDE", "UNREACHED"));
+    let mut all = mine.clone();
+    all.extend((0..pairs - 1).map(|n| holds(&theirs(n), &ours(n + 1))));
+    all.extend([
+        holds(&theirs(pairs - 1), "END"),
+        Type::new("UNREACHED").id(2).size(2),
+        end,
+    ]);
+    (book(&mine), book(&all))
+}
+
+#[test]
+fn types_of_ours_alternate_with_lacking_ones() {
+    for (pairs, end) in [(15, 12), (16, 12), (17, 12), (18, 8), (40, 12), (40, 2)] {
+        let (ours, all) = alternating(pairs, Type::new("END").size(end));
+        // All room, just enough, and a block too little for the sweep of the whole book or for what is needed.
+        for room in [
+            all.len(),
+            all.len() - ours.len(),
+            all.len() - ours.len() - 512,
+            all.len() - ours.len() - 1024,
+        ] {
+            let lent = Lent {
+                room,
+                ..Lent::new(&ours, &all, 0)
+            };
+            let told = lent.ask(calls::plan_save);
+            assert!(told == lent.ask(twin::calls::plan_save), "{pairs} {end} {room}");
+            if room >= all.len() - ours.len() {
+                assert_eq!((told.0, told.1[0]), (0, u64::from(end == 12)));
+                // Only from the seventeenth round on is anything added that the root doesn't need.
+                let unneeded = if pairs > 16 { 0 } else { 512 };
+                assert_eq!(told.1[1] as usize, all.len() - unneeded);
+            }
+        }
+    }
+}
