@@ -2,9 +2,9 @@
 use mathlib.Core.Path.{_≡_, sym, ap, _∙_}
 use mathlib.Core.Bool.{Bool, true, false}
 use mathlib.Core.List.{List}
-use Prim.Native.Nat.{ℕ, _+_, _-_, _≤_, _<_}
+use Prim.Native.Nat.{ℕ, _+_, _-_, _/_, _%_, _≤_, _<_}
 use native.Mathlib.Omega.{arith}
-use lib.ListN.{length, getD, take, drop, set}
+use lib.ListN.{length, getD, take, drop, set, length-append, length-take, length-set}
 use lib.Dec.{leb}
 use borrow.Author.Tests.{leb-true, leb-false, le-leb, lt-leb}
 use Rattle.enc_utf_8.specs.declared.Put.{Put}
@@ -18,8 +18,8 @@ use Rattle.enc_ascii.specs.Ascii.{isAscii}
 use Rattle.enc_windows_1252.specs.Index.{codePoints}
 use Rattle.enc_windows_1252.specs.Text.{decodeByte, decodeText}
 use Rattle.enc_windows_1252.proofs.Indexes.{point-is}
-use Rattle.enc_windows_1252_decoder.proofs.Texts.{ascii-byte, ascii-text, ascii-length, decode-next, decode-end, decode-cut, decode-some}
-use Rattle.enc_utf_8.proofs.Lays.{laid-one, laid-as, Rest, rest-room, rest-next, rest-end, put-went, put-never, room-fits, room-over, count-part, count-over, count-all, count-fits, wrote-laid, wrote-over}
+use Rattle.enc_windows_1252_decoder.proofs.Texts.{ascii-byte, high-byte, ascii-text, ascii-length, decode-next, decode-end, decode-cut, decode-some}
+use Rattle.enc_utf_8.proofs.Lays.{laid-one, laid-two, laid-as, Rest, rest-room, rest-next, rest-end, put-went, put-never, room-fits, room-over, count-part, count-over, count-all, count-fits, wrote-laid, wrote-over}
 
 -- ---- block_len, decoded_len
 
@@ -48,6 +48,19 @@ module _ (b at : ℕ) (out : List ℕ) (h : at + length (decodeByte b) ≤ lengt
 
   pub byte-ascii : b < 0x80 → Laid (decodeByte b) out at (at + 1) (set out at b)
   byte-ascii l = laid-as (ascii-byte b l) (laid-one out at b (byte-room l))
+
+  module _ (g : 0xa0 ≤ b) (l : b < 256) where
+    pub first-room : at < length out
+    first-room = omega (arith, ap length (high-byte b g l))
+
+    two-room : at + 2 ≤ length out
+    two-room = omega (arith, ap length (high-byte b g l))
+
+    pub high-room : (x : ℕ) → at + 1 < length (set out at x)
+    high-room x = rw length-set (omega (arith, two-room))
+
+    pub byte-high : Laid (decodeByte b) out at (at + 2) (set (set out at (0xc0 + b / 64)) (at + 1) (0x80 + b % 64))
+    byte-high = laid-as (high-byte b g l) (laid-two out at (0xc0 + b / 64) (0x80 + b % 64) two-room)
 
   module _ (points : List ℕ) (e : points ≡ codePoints) (l : b < 256) (r : Put) (out₁ : List ℕ) (w : Wrote (utf8Of (getD points b 0)) out at r out₁) where
     same-bytes : Wrote (decodeByte b) out at r out₁
@@ -92,7 +105,31 @@ module _ (block : List ℕ) (t : Bool) (e : t ≡ isAscii block) (y : t ≡ true
     pub block-never : r ≡ Full → Laid (decodeText block) out at at out₁
     block-never q = put-never (block-room out at h) w q
 
+-- ---- block_more, surely_fits
+
+module _ (block : List ℕ) (i more all : ℕ) (inv : all ≤ i + more + length (decodeText (drop i block))) where
+  pub more-byte : (r : ℕ) → i < length block → length (decodeByte (getD block i 0)) ≤ 1 + r → all ≤ i + 1 + (more + r) + length (decodeText (drop (i + 1) block))
+  more-byte r h q = omega (arith, ap length (decode-next block i h) ∙ length-append (decodeByte (getD block i 0)) (decodeText (drop (i + 1) block)))
+
+  pub more-end : i ≤ length block → length block ≤ i → all ≤ length block + more
+  more-end l h = omega (arith, ap length (decode-end block i h))
+
+module _ (bytes : List ℕ) (i n all : ℕ) (inv : all ≤ n + length (decodeText (drop i bytes))) where
+  pub sure-part : (e r : ℕ) → i < e → length (decodeText (take (e - i) (drop i bytes))) ≤ length (take (e - i) (drop i bytes)) + r → all ≤ n + (e - i + r) + length (decodeText (drop e bytes))
+  sure-part e r h q =
+      let k : length (take (e - i) (drop i bytes)) ≤ e - i = rw length-take (omega arith) in
+      omega (arith, ap length (decode-cut bytes i e (omega arith)) ∙ length-append (decodeText (take (e - i) (drop i bytes))) (decodeText (drop e bytes)))
+
+  pub sure-end : (room : ℕ) → n ≤ room → length bytes ≤ i → true ≡ true → all ≤ room
+  sure-end room l h t = omega (arith, ap length (decode-end bytes i h))
+
+pub not-sure : (all room : ℕ) → false ≡ true → all ≤ room
+not-sure all room e = absurd (let z : _≡_ {A = ℕ} 0 1 = cc in omega arith)
+
 -- ---- fits_in
+
+pub fits-surely : (len room : ℕ) (t : Bool) → (t ≡ true → len ≤ room) → t ≡ true → true ≡ leb len room
+fits-surely len room t e q = sym (le-leb len room (e q))
 
 module _ (len room : ℕ) (r : Room) (e : r ≡ roomFor len room) where
   pub measured-fits : (n : ℕ) → r ≡ Fits n → true ≡ leb len room
@@ -106,6 +143,9 @@ module _ (len room : ℕ) (r : Room) (e : r ≡ roomFor len room) where
 module _ (bytes out : List ℕ) (at : ℕ) where
   pub decode-none : length bytes ≡ 0 → Wrote (decodeText bytes) out at (Next at) out
   decode-none h = wrote-as (decode-end bytes 0 (omega arith)) (wrote-none out at)
+
+  pub decode-ascii : (t : Bool) (r : Put) (out₁ : List ℕ) → t ≡ isAscii bytes → t ≡ true → Wrote bytes out at r out₁ → Wrote (decodeText bytes) out at r out₁
+  decode-ascii t r out₁ e q w = wrote-as (ascii-text bytes (sym e ∙ q)) w
 
   pub decode-past : (length bytes ≡ 0 → ⊥) → length out < at → Wrote (decodeText bytes) out at Full out
   decode-past n h = wrote-over (decodeText bytes) out at (omega arith) (decode-some bytes n)

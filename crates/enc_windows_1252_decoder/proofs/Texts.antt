@@ -1,8 +1,8 @@
--- Laws of the decoding of a text: the only place that opens `decodeText` and `utf8Lengths`. Assumes nothing.
+-- Laws of the decoding of a text: the only place that opens `decodeText` and `lengthBy`. Assumes nothing.
 use mathlib.Core.Path.{_≡_, refl, sym, ap, _∙_}
 use mathlib.Core.Bool.{Bool, true}
 use mathlib.Core.List.{List, [], _∷_, _++_, append-assoc, flatMap}
-use Prim.Native.Nat.{ℕ, suc, _+_, _*_, _-_, _/_, _≤_, _<_}
+use Prim.Native.Nat.{ℕ, suc, _+_, _*_, _-_, _/_, _%_, _≤_, _<_}
 use native.Mathlib.Omega.{arith}
 use native.Mathlib.Numerals.{add-one}
 use lib.ListN.{length, getD, take, drop, length-append, take-append-drop, drop-of-length-le}
@@ -10,17 +10,25 @@ use lib.Seq.{drop-cons, drop-drop}
 use lib.Dec.{leb}
 use mir.Syntax.{w8}
 use mir.Val.{Fits}
-use borrow.Author.Tests.{le-leb, leb-true}
+use borrow.Author.Tests.{le-leb, leb-true, lt-ltb, le-ltb}
 use Rattle.enc_utf_8.specs.Utf8.{utf8Of, encoded, decodeFrom, noError, wellFormed}
-use Rattle.enc_utf_8.proofs.Encodes.{Bytes, utf8-one, utf8-short}
+use Rattle.enc_utf_8.proofs.Encodes.{Bytes, utf8-one, utf8-two, utf8-short}
 use Rattle.enc_utf_8.proofs.Trips.{formed-utf8}
 use Rattle.enc_ascii.specs.Ascii.{isAscii}
 use Rattle.enc_ascii.proofs.Ascii.{ascii-first}
-use Rattle.enc_windows_1252.specs.Index.{listedPoints, codePoint}
+use Rattle.enc_windows_1252.specs.Index.{listedPoints, codePoint, codePoints, table}
 use Rattle.enc_windows_1252.specs.Text.{decodeByte, decodeText}
-use Rattle.enc_windows_1252.proofs.Indexes.{own-low}
-use Rattle.enc_windows_1252.proofs.Table.{at, same}
-use Rattle.enc_windows_1252_decoder.specs.Lengths.{utf8Lengths}
+use Rattle.enc_windows_1252.proofs.Indexes.{own-low, own-high, point-is}
+use Rattle.enc_windows_1252.proofs.Table.{same}
+use Rattle.enc_windows_1252_decoder.specs.Lengths.{lengthBy}
+
+-- ---- the bytes whose code points are their own numbers
+
+pub ascii-byte : (b : ℕ) → b < 0x80 → decodeByte b ≡ b ∷ []
+ascii-byte b h = rw (own-low b h, utf8-one b h)
+
+pub high-byte : (b : ℕ) → 0xa0 ≤ b → b < 256 → decodeByte b ≡ (0xc0 + b / 64) ∷ (0x80 + b % 64) ∷ []
+high-byte b h l = rw (own-high b h, utf8-two b (omega arith) (omega arith))
 
 -- ---- a byte's code point takes 1 to 3 bytes
 
@@ -28,13 +36,40 @@ pub byte-short : (b : ℕ) → b < 256 → length (decodeByte b) ≤ 3
 unfolding listedPoints codePoint utf8Of encoded
 byte-short b h = leb-true (length (decodeByte b)) 3 (same (λ (k : ℕ). leb (length (decodeByte k)) 3) (λ k. true) 256 b true refl h)
 
-module _ (l : List ℕ) (b : ℕ) (e : l ≡ utf8Lengths) (h : b < 256) where
-  pub length-is : getD l b 0 ≡ length (decodeByte b)
-  unfolding utf8Lengths
-  length-is = rw e (at (λ (k : ℕ). length (decodeByte k)) 256 b 0 h)
+-- the rule gives the length of the code point's UTF-8: one test over all 256 bytes, and the law of each
+all-lengths : table (λ (k : ℕ). lengthBy (codePoint k)) 0 256 ≡ table (λ (k : ℕ). length (decodeByte k)) 0 256
+unfolding listedPoints codePoint utf8Of encoded lengthBy
+all-lengths = refl
 
-  pub length-short : getD l b 0 ≤ 3
-  length-short = omega (arith, length-is, byte-short b h)
+pub rule-is : (b : ℕ) → b < 256 → lengthBy (codePoint b) ≡ length (decodeByte b)
+rule-is b h = same (λ (k : ℕ). lengthBy (codePoint k)) (λ (k : ℕ). length (decodeByte k)) 256 b 0 all-lengths h
+
+-- ---- utf8_length_of: the entry of the table of code points tells the length
+
+module _ (l : List ℕ) (b : ℕ) (e : l ≡ codePoints) (h : b < 256) where
+  by-entry : lengthBy (getD l b 0) ≡ length (decodeByte b)
+  by-entry = ap lengthBy (point-is l b e h) ∙ rule-is b h
+
+  pub length-one : getD l b 0 < 0x80 → 1 ≡ length (decodeByte b)
+  unfolding lengthBy
+  length-one s = rw (lt-ltb (getD l b 0) 0x80 s) at by-entry
+
+  module _ (o : 0x80 ≤ getD l b 0) where
+    pub length-two : getD l b 0 < 0x800 → 2 ≡ length (decodeByte b)
+    unfolding lengthBy
+    length-two s = rw (le-ltb (getD l b 0) 0x80 o, lt-ltb (getD l b 0) 0x800 s) at by-entry
+
+    pub length-three : 0x800 ≤ getD l b 0 → 3 ≡ length (decodeByte b)
+    unfolding lengthBy
+    length-three s = rw (le-ltb (getD l b 0) 0x80 o, le-ltb (getD l b 0) 0x800 s) at by-entry
+
+-- ---- most_more: ASCII takes one byte, 80h to 9Fh three at most, all others two
+
+pub more-none : (b : ℕ) → b < 0x80 → length (decodeByte b) ≤ 1 + 0
+more-none b h = omega (arith, ap length (ascii-byte b h))
+
+pub more-one : (b : ℕ) → 0xa0 ≤ b → b < 256 → length (decodeByte b) ≤ 1 + 1
+more-one b h l = omega (arith, ap length (high-byte b h l))
 
 -- ---- the text of bytes in parts
 
@@ -74,9 +109,6 @@ decode-some [] n = absurd (n refl)
 decode-some (b ∷ bs) n = rw length-append (omega (arith, utf8-short (codePoint b) .some))
 
 -- ---- ASCII
-
-pub ascii-byte : (b : ℕ) → b < 0x80 → decodeByte b ≡ b ∷ []
-ascii-byte b h = rw (own-low b h, utf8-one b h)
 
 pub ascii-text : (bytes : List ℕ) → isAscii bytes ≡ true → decodeText bytes ≡ bytes
 unfolding decodeText flatMap

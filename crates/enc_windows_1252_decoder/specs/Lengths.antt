@@ -1,10 +1,8 @@
--- The table by which the length of a decoded text is counted. Assumes nothing.
-use mathlib.Core.List.{List}
+-- The rule by which the length of a decoded text is counted. Assumes nothing.
+use mathlib.Core.Bool.{cond}
 use Prim.Native.Nat.{ℕ}
-use lib.ListN.{length}
-use Rattle.enc_windows_1252.specs.Index.{table}
-use Rattle.enc_windows_1252.specs.Text.{decodeByte}
+use lib.Dec.{ltb}
 
--- how many bytes of UTF-8 the code points of all bytes take, in their order
-unfoldable pub utf8Lengths : List ℕ
-utf8Lengths = table (λ (b : ℕ). length (decodeByte b)) 0 256
+-- how many bytes of UTF-8 a code point below 10000h takes: 1 below 80h, 2 below 800h, else 3
+unfoldable pub lengthBy : ℕ → ℕ
+lengthBy c = cond (ltb c 0x80) 1 (cond (ltb c 0x800) 2 3)

@@ -1,12 +1,12 @@
 // The Windows-1252 decoder: bytes to UTF-8. It goes by blocks of at most 64 bytes, of which one that is ASCII throughout is only copied.
 ghost use mathlib.Core.Path.{_≡_};
+ghost use mathlib.Core.Bool.{true};
 ghost use Prim.Native.Nat.{_+_, _≤_};
 ghost use lib.ListN.{length};
 ghost use lib.Dec.{leb};
 ghost use Rattle.enc_utf_8.specs.Buffer.{Wrote, Laid, roomFor};
 ghost use Rattle.enc_windows_1252.specs.Index.{codePoints};
 ghost use Rattle.enc_windows_1252.specs.Text.{decodeByte, decodeText};
-ghost use Rattle.enc_windows_1252_decoder.specs.Lengths.{utf8Lengths};
 use enc_ascii::block_end;
 use enc_ascii::copy;
 use enc_ascii::is_ascii;
@@ -15,21 +15,19 @@ use enc_utf_8::Room;
 use enc_utf_8_encoder::put;
 use enc_windows_1252::code_points;
 
-mod data;
-
-// The table of the lengths of all bytes' code points in UTF-8. Whoever reads more than one of them takes it once.
-fn utf8_lengths() -> [u8; 256]
-    ensures { λ r. ⌜ r ≡ utf8Lengths ⌝ }
-{
-    data::UTF_8_LENGTHS
-}
-
-// How many bytes a byte's code point takes in UTF-8: 1 to 3.
-fn utf8_length_of(lengths: &[u8; 256], byte: u8) -> usize
-    requires { ⌜ now lengths ≡ utf8Lengths ⌝ }
+// How many bytes a byte's code point takes in UTF-8. It follows from the code point: 1 below 80h, 2 below 800h, else 3.
+fn utf8_length_of(points: &[u32; 256], byte: u8) -> usize
+    requires { ⌜ now points ≡ codePoints ⌝ }
     ensures { λ r. ⌜ (r ≡ length (decodeByte byte)) × (r ≤ 3) ⌝ }
 {
-    lengths[byte as usize] as usize
+    let code = points[byte as usize];
+    if code < 0x80 {
+        return 1;
+    }
+    if code < 0x800 {
+        return 2;
+    }
+    3
 }
 
 // The length of a block's text.
@@ -40,11 +38,11 @@ fn block_len(block: &[u8]) -> usize
     if is_ascii(block) {
         return block.len();
     }
-    let lengths = utf8_lengths();
+    let points = code_points();
     let mut n: usize = 0;
     let mut i = 0;
     while i < block.len() {
-        n += utf8_length_of(&lengths, block[i]);
+        n += utf8_length_of(&points, block[i]);
         i += 1;
     }
     n
@@ -68,7 +66,7 @@ pub fn decoded_len(bytes: &[u8], room: usize) -> Room
     Room::Fits(n)
 }
 
-// Writes one byte's text. ASCII is told first.
+// Writes one byte's text. ASCII is told first, and then the bytes from A0h on, whose code points are their own numbers.
 fn put_byte(points: &[u32; 256], byte: u8, out: &mut [u8], at: usize) -> usize
     requires { ⌜ now points ≡ codePoints ⌝ }
     requires { ⌜ at + length (decodeByte byte) ≤ length (now out) ⌝ }
@@ -78,6 +76,11 @@ fn put_byte(points: &[u32; 256], byte: u8, out: &mut [u8], at: usize) -> usize
         out[at] = byte;
         return at + 1;
     }
+    if 0xa0 <= byte {
+        out[at] = 0xc0 + byte / 64;
+        out[at + 1] = 0x80 + byte % 64;
+        return at + 2;
+    }
     match put(out, at, points[byte as usize]) {
         Put::Next(next) => next,
         // never: the text fits
@@ -86,22 +89,23 @@ fn put_byte(points: &[u32; 256], byte: u8, out: &mut [u8], at: usize) -> usize
 }
 
 // Writes the text of a block, byte by byte.
-fn put_each(block: &[u8], out: &mut [u8], at: usize) -> usize
+fn put_each(points: &[u32; 256], block: &[u8], out: &mut [u8], at: usize) -> usize
+    requires { ⌜ now points ≡ codePoints ⌝ }
     requires { ⌜ at + length (decodeText (now block)) ≤ length (now out) ⌝ }
     ensures { λ r. ⌜ Laid (decodeText (now (block .entry))) (now (out .entry)) at r (now (out .exit)) ⌝ }
 {
-    let points = code_points();
     let mut next = at;
     let mut i = 0;
     while i < block.len() {
-        next = put_byte(&points, block[i], out, next);
+        next = put_byte(points, block[i], out, next);
         i += 1;
     }
     next
 }
 
 // Writes the text of a block.
-fn put_block(block: &[u8], out: &mut [u8], at: usize) -> usize
+fn put_block(points: &[u32; 256], block: &[u8], out: &mut [u8], at: usize) -> usize
+    requires { ⌜ now points ≡ codePoints ⌝ }
     requires { ⌜ at + length (decodeText (now block)) ≤ length (now out) ⌝ }
     ensures { λ r. ⌜ Laid (decodeText (now (block .entry))) (now (out .entry)) at r (now (out .exit)) ⌝ }
 {
@@ -112,22 +116,68 @@ fn put_block(block: &[u8], out: &mut [u8], at: usize) -> usize
             Put::Full => at,
         };
     }
-    put_each(block, out, at)
+    put_each(points, block, out, at)
 }
 
-// Writes the text of some bytes, which fits.
+// Writes the text of some bytes, which fits. The table of code points is taken once for all blocks.
 fn put_text(bytes: &[u8], out: &mut [u8], at: usize) -> usize
     requires { ⌜ at + length (decodeText (now bytes)) ≤ length (now out) ⌝ }
     ensures { λ r. ⌜ Laid (decodeText (now (bytes .entry))) (now (out .entry)) at r (now (out .exit)) ⌝ }
 {
+    let points = code_points();
     let mut next = at;
     let mut i = 0;
     while i < bytes.len() {
         let end = block_end(i, bytes.len());
-        next = put_block(&bytes[i..end], out, next);
+        next = put_block(&points, &bytes[i..end], out, next);
         i = end;
     }
     next
+}
+
+// How many bytes more than one a byte's text takes at most: none for ASCII, one from A0h on, two between.
+fn most_more(byte: u8) -> u8
+    ensures { λ r. ⌜ (length (decodeByte byte) ≤ 1 + r) × (r ≤ 2) ⌝ }
+{
+    if byte < 0x80 {
+        return 0;
+    }
+    if byte < 0xa0 {
+        return 2;
+    }
+    1
+}
+
+// How many bytes more than the block a block's text takes at most. It needs no table, and no branch for each byte.
+fn block_more(block: &[u8]) -> usize
+    requires { ⌜ length (now block) ≤ 64 ⌝ }
+    ensures { λ r. ⌜ (length (decodeText (now (block .entry))) ≤ length (now (block .entry)) + r) × (r ≤ 128) ⌝ }
+{
+    let mut more: u8 = 0;
+    let mut i = 0;
+    while i < block.len() {
+        more += most_more(block[i]);
+        i += 1;
+    }
+    more as usize
+}
+
+// Whether the text fits even where each byte takes the most that it can. Most texts that fit are told so, and need not be measured.
+fn surely_fits(bytes: &[u8], room: usize) -> bool
+    ensures { λ r. ⌜ (r ≡ true → length (decodeText (now (bytes .entry))) ≤ room) ⌝ }
+{
+    let mut n: usize = 0;
+    let mut i = 0;
+    while i < bytes.len() {
+        let end = block_end(i, bytes.len());
+        let most = end - i + block_more(&bytes[i..end]);
+        if room - n < most {
+            return false;
+        }
+        n += most;
+        i = end;
+    }
+    true
 }
 
 // Whether the text of some bytes takes at most `room` bytes. No byte gives more than three, so a short text is not measured.
@@ -137,18 +187,24 @@ fn fits_in(bytes: &[u8], room: usize) -> bool
     if bytes.len() <= room / 3 {
         return true;
     }
+    if surely_fits(bytes, room) {
+        return true;
+    }
     match decoded_len(bytes, room) {
         Room::Fits(_) => true,
         Room::Over => false,
     }
 }
 
-// Writes the text of some bytes from `at` on, all of it or nothing. An empty text fits anywhere.
+// Writes the text of some bytes from `at` on, all of it or nothing. An empty text fits anywhere; ASCII is its own text.
 pub fn decode(bytes: &[u8], out: &mut [u8], at: usize) -> Put
     ensures { λ r. ⌜ Wrote (decodeText (now (bytes .entry))) (now (out .entry)) at r (now (out .exit)) ⌝ }
 {
     if bytes.len() == 0 {
         return Put::Next(at);
+    }
+    if is_ascii(bytes) {
+        return copy(bytes, out, at);
     }
     if out.len() < at {
         return Put::Full;

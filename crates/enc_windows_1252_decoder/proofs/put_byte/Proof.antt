@@ -1,6 +1,6 @@
 -- `put_byte` meets its contract: a law for each exit. Assumes nothing.
 use borrow.Author.Needs.{needs}
-use Rattle.enc_windows_1252_decoder.proofs.Decoders.{byte-room, byte-ascii, byte-next, byte-never}
+use Rattle.enc_windows_1252_decoder.proofs.Decoders.{byte-room, byte-ascii, first-room, high-room, byte-high, byte-next, byte-never}
 use Rattle.enc_windows_1252_decoder.proofs.put_byte.Statement.{statement}
 use Rattle.enc_windows_1252_decoder.proofs.put_byte.Tie as tie
 
@@ -15,6 +15,30 @@ same-length c = search needs
 
 returns : tie.Need-returns
 returns c = search byte-ascii
+
+add-out : tie.Need-add-out
+add-out c = search needs
+
+slice-write-out-2 : tie.Need-slice-write-out-2
+slice-write-out-2 c = search first-room
+
+add-out-2 : tie.Need-add-out-2
+add-out-2 c = search needs
+
+add-out-3 : tie.Need-add-out-3
+add-out-3 c = search needs
+
+slice-write-out-3 : tie.Need-slice-write-out-3
+slice-write-out-3 c = search high-room
+
+add-result-2 : tie.Need-add-result-2
+add-result-2 c = search needs
+
+same-length-2 : tie.Need-same-length-2
+same-length-2 c = search needs
+
+returns-2 : tie.Need-returns-2
+returns-2 c = search byte-high
 
 mul-put : tie.Need-mul-put
 mul-put c = search needs
@@ -31,17 +55,17 @@ enum-known-next c = search needs
 enum-told : tie.Need-enum-told
 enum-told c = search needs
 
-same-length-2 : tie.Need-same-length-2
-same-length-2 c = search needs
-
-returns-2 : tie.Need-returns-2
-returns-2 c = search byte-next
-
 same-length-3 : tie.Need-same-length-3
 same-length-3 c = search needs
 
 returns-3 : tie.Need-returns-3
-returns-3 c = search byte-never
+returns-3 c = search byte-next
+
+same-length-4 : tie.Need-same-length-4
+same-length-4 c = search needs
+
+returns-4 : tie.Need-returns-4
+returns-4 c = search byte-never
 
 pub put-byte-spec : {M : Type 1} → statement M
 put-byte-spec =
@@ -51,12 +75,20 @@ put-byte-spec =
     add-result
     same-length
     returns
+    add-out
+    slice-write-out-2
+    add-out-2
+    add-out-3
+    slice-write-out-3
+    add-result-2
+    same-length-2
+    returns-2
     mul-put
     element-copy-out-put
     put-requires
     enum-known-next
     enum-told
-    same-length-2
-    returns-2
     same-length-3
-    returns-3)
+    returns-3
+    same-length-4
+    returns-4)

@@ -9,25 +9,21 @@ use Rattle.enc_windows_1252_decoder.proofs.put_each.Statement.{statemen
 use Rattle.enc_windows_1252_decoder.proofs.put_each.Tie as tie
 
 abbrev Inv-loop : tie.InvT-loop
-Inv-loop block out₀ at points next₀ i₀ out next i =
+Inv-loop points block out₀ at next₀ i₀ out next i =
     (i ≤ length block) × Rest (decodeText block) out₀ at (decodeText (drop i block)) out next
 
 abbrev μ-loop : tie.MeasureT-loop
-μ-loop block out₀ at points next₀ i₀ out next i =
+μ-loop points block out₀ at next₀ i₀ out next i =
     length block - i
 
-code-points-requires : tie.Need-code-points-requires Inv-loop μ-loop
-code-points-requires c κs = search needs
-
 loop-holds : tie.Need-loop-holds Inv-loop μ-loop
-loop-holds c =
-    (search needs, search rest-all)
+loop-holds c = (search needs, search rest-all)
 
 shared-slice-read-put-byte : tie.Need-shared-slice-read-put-byte Inv-loop μ-loop
 shared-slice-read-put-byte c = search needs
 
 put-byte-requires : tie.Need-put-byte-requires Inv-loop μ-loop
-put-byte-requires c κs = search each-room
+put-byte-requires c κs = (search needs, search each-room)
 
 add-i : tie.Need-add-i Inv-loop μ-loop
 add-i c = search needs
@@ -36,8 +32,7 @@ loop-less : tie.Need-loop-less Inv-loop μ-loop
 loop-less c = search needs
 
 loop-again : tie.Need-loop-again Inv-loop μ-loop
-loop-again c =
-    (search needs, search each-again)
+loop-again c = (search needs, search each-again)
 
 same-length : tie.Need-same-length Inv-loop μ-loop
 same-length c = search needs
@@ -51,7 +46,6 @@ put-each-spec =
     (tie.spec
     Inv-loop
     μ-loop
-    code-points-requires
     loop-holds
     shared-slice-read-put-byte
     put-byte-requires

@@ -9,16 +9,18 @@ use Rattle.enc_windows_1252_decoder.proofs.put_text.Statement.{statemen
 use Rattle.enc_windows_1252_decoder.proofs.put_text.Tie as tie
 
 abbrev Inv-loop : tie.InvT-loop
-Inv-loop bytes out₀ at next₀ i₀ out next i =
+Inv-loop bytes out₀ at points next₀ i₀ out next i =
     (i ≤ length bytes) × Rest (decodeText bytes) out₀ at (decodeText (drop i bytes)) out next
 
 abbrev μ-loop : tie.MeasureT-loop
-μ-loop bytes out₀ at next₀ i₀ out next i =
+μ-loop bytes out₀ at points next₀ i₀ out next i =
     length bytes - i
 
+code-points-requires : tie.Need-code-points-requires Inv-loop μ-loop
+code-points-requires c κs = search needs
+
 loop-holds : tie.Need-loop-holds Inv-loop μ-loop
-loop-holds c =
-    (search needs, search rest-all)
+loop-holds c = (search needs, search rest-all)
 
 block-end-requires : tie.Need-block-end-requires Inv-loop μ-loop
 block-end-requires c κs = search needs
@@ -33,14 +35,13 @@ part-put-block-end : tie.Need-part-put-block-end Inv-loop μ-loop
 part-put-block-end c = search needs
 
 put-block-requires : tie.Need-put-block-requires Inv-loop μ-loop
-put-block-requires c κs = search part-room
+put-block-requires c κs = (search needs, search part-room)
 
 loop-less : tie.Need-loop-less Inv-loop μ-loop
 loop-less c = search needs
 
 loop-again : tie.Need-loop-again Inv-loop μ-loop
-loop-again c =
-    (search needs, search part-again)
+loop-again c = (search needs, search part-again)
 
 same-length : tie.Need-same-length Inv-loop μ-loop
 same-length c = search needs
@@ -54,6 +55,7 @@ put-text-spec =
     (tie.spec
     Inv-loop
     μ-loop
+    code-points-requires
     loop-holds
     block-end-requires
     sub-put-block
