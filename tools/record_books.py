@@ -21,7 +21,7 @@ CATEGORIES = ["None", "Primitive", "Alias", "Enum", "Array", "Struct", "Function
               "String", "Bitset", "Pointer", "Union", "Reference", "Interface"]
 PART = 30000
 TAPE, TEXT = 65520, 12288
-SCRATCH, LIST, RECORDS = 16384, 4096, 16384
+SCRATCH, LIST, RECORDS = 8192, 4096, 16384
 # The longest random book that is recorded.
 ROOM = 262144
 

@@ -30,7 +30,7 @@ class Limits:
 
     def walks(self, data, width=8, root=0):
         """Both walks, lent just enough and more."""
-        for scratch, room in ((SCRATCH, LIST), (20000, 5000)):
+        for scratch, room in ((SCRATCH, LIST), (16383, LIST), (20000, 5000)):
             self.rec.rmw(self.file, data, width, root, scratch)
             self.rec.missing(self.file, data, width, root, scratch, room)
 

@@ -135,7 +135,7 @@ uint8_t gateway_resolve_alias_in(const uint8_t *book, size_t book_len, const uin
 uint8_t gateway_resolve_indirection_in(const uint8_t *book, size_t book_len, const uint32_t *index, size_t index_len, uint8_t width,
                                        uint32_t root, uint64_t *values, size_t values_len);
 
-/* ---- the walk of the types that a type is made of: 16,384 numbers of scratch, 4,096 of a list */
+/* ---- the walk of the types that a type is made of: 8,192 numbers of scratch, 4,096 of a list */
 
 /* 0: values: 1 where the memory of a value of the root's type must be read, changed and written back, else 0.
  * Else 1 to 6, 7, 8, 9. Scratch: as before after 1 to 6, else all zero. */
@@ -159,7 +159,7 @@ uint8_t gateway_missing_types_in(const uint8_t *book, size_t book_len, const uin
 /* ---- the plan of a save: one call for all asks and adds */
 
 /* Completes our book (in `buffer`) for a save of the root: adds, from the controller's book in the first `theirs` bytes of `controller`,
- * every type that the root is made of and our book lacks, until none lacks; then decides. 16,384 numbers of scratch; the index may have any
+ * every type that the root is made of and our book lacks, until none lacks; then decides. 8,192 numbers of scratch; the index may have any
  * length and hold anything, four elements for each type of both books serve well. `len` + `theirs` bytes of buffer are always enough.
  * 0: values: 1 where the memory must be read, changed and written back, else 0; the new length of our book.
  * Else 1 to 5 of our book and the root, 1 to 4 of the controller's book, 6; then 7 (a type that neither book has: values: the block of our

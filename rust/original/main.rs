@@ -272,7 +272,7 @@ fn walks() {
         || by_names.missing_types_with(WIDTH, &mut scratch),
         || missing_types(&original, &cache),
     );
-    let (mut numbers, mut list) = (vec![0; 16_384], vec![0; 4_096]);
+    let (mut numbers, mut list) = (vec![0; 8_192], vec![0; 4_096]);
     pair(
         "missing_types, whole call with its checks",
         15,
@@ -321,7 +321,7 @@ fn plan(what: &str, rounds: usize, ours: &[u8], controller: &[u8]) {
         TypeBook::new(controller).expect("valid"),
     );
     let types = mine.types().count() + whole.types().count();
-    let (mut scratch, mut index, mut values) = (vec![0; 16_384], vec![0; 4 * types], [0; 2]);
+    let (mut scratch, mut index, mut values) = (vec![0; 8_192], vec![0; 4 * types], [0; 2]);
     let (s, i, v) = (&mut scratch, &mut index, &mut values);
     pair(
         what,

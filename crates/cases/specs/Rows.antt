@@ -109,7 +109,7 @@ aliasRow book = resolutionNumbers (rootAlias book (length book) 8 0)
 
 -- a scratch that is just long enough
 abbrev pub scratch : List ℕ
-scratch = replicate 16384 0
+scratch = replicate 8192 0
 
 -- a list that is just long enough
 abbrev pub list : List ℕ

@@ -22,4 +22,4 @@ pub record Decides (c : List ℕ) (width root : ℕ) (s : Ours) (sc : List ℕ) 
 
 -- the claim: the premises are the demand's own. That our definitions equal the controller's is one of them; no call tests it
 unfoldable pub PlanDecides : Type 0
-PlanDecides = (c : List ℕ) (width root : ℕ) (s : Ours) (sc : List ℕ) → Premises c width root s [] → 16384 ≤ length sc → Decides c width root s sc
+PlanDecides = (c : List ℕ) (width root : ℕ) (s : Ours) (sc : List ℕ) → Premises c width root s [] → 8192 ≤ length sc → Decides c width root s sc

@@ -21,7 +21,7 @@ pub record Made (c : List ℕ) (width root : ℕ) (s : Ours) (o : Decision) : Ty
 
 -- the claim: whatever the books hold, the rounds are such a list. sc and list are what is lent to the asks
 unfoldable pub PlanMade : Type 0
-PlanMade = (c : List ℕ) (width root k : ℕ) (s : Ours) (sc list : List ℕ) → 16384 ≤ length sc → 4096 ≤ length list
+PlanMade = (c : List ℕ) (width root k : ℕ) (s : Ours) (sc list : List ℕ) → 8192 ≤ length sc → 4096 ≤ length list
     → Made c width root s (planFrom c width root k s)
 
 -- our book is valid, and is the old one with whole definitions afterCalls it, or the old one: each call of a list left it so

@@ -98,18 +98,18 @@ module _ (buffer : List ℕ) (len : ℕ) (root : ℕ) (c : checkRoot buffer len 
       pub at-cut : theirs ≡ length (take theirs controller)
       at-cut = book-cut controller theirs (zero-valid (checkBook controller theirs) (sym ek ∙ z))
 
-      pub at-short : length sc < 16384
+      pub at-short : length sc < 8192
           → PlanIs (planRefusal buffer len controller theirs root sc) buffer len controller theirs width root sc hints (plan.Refused 6 len) buffer sc hints
       at-short h =
-          rw (after-root, or-next k (cond (scratchFits sc) 0 6) z, lt-leb 16384 (length sc) h)
+          rw (after-root, or-next k (cond (scratchFits sc) 0 6) z, lt-leb 8192 (length sc) h)
           (refused-all 6 buffer len controller theirs width root sc hints (λ q. omega arith))
 
-      pub at-done : 16384 ≤ length sc → (r : Plan) (after sc′ hints′ : List ℕ)
+      pub at-done : 8192 ≤ length sc → (r : Plan) (after sc′ hints′ : List ℕ)
           → PlannedIn (planFrom (take theirs controller) width root 18 (ours buffer len)) sc hints r after sc′ hints′
           → PlanIs (planRefusal buffer len controller theirs root sc) buffer len controller theirs width root sc hints r after sc′ hints′
       unfolding planOf
       at-done h r after sc′ hints′ p =
-          rw (after-root, or-next k (cond (scratchFits sc) 0 6) z, le-leb 16384 (length sc) h)
+          rw (after-root, or-next k (cond (scratchFits sc) 0 6) z, le-leb 8192 (length sc) h)
           (record {
             answer = numbers-said r after _ (p .is);
             bytes = bytes-said r after _ (p .is);

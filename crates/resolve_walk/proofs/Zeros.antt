@@ -13,7 +13,7 @@ use Rattle.resolve_walk.specs.Scratch.{scratchFits, listFits}
 module _ (g : Bool) (h : not g ≡ false) where
   -- the scratch has room for the stack and the bits
   pub scratch-room : (sc : List ℕ) → g ≡ scratchFits sc → 6144 ≤ length sc
-  scratch-room sc e = let p = leb-true 16384 (length sc) (sym e ∙ not-false g h) in omega arith
+  scratch-room sc e = let p = leb-true 8192 (length sc) (sym e ∙ not-false g h) in omega arith
 
   -- the list has room for every name
   pub list-room : (list : List ℕ) → g ≡ listFits list → 4096 ≤ length list

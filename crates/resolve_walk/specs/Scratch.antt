@@ -5,9 +5,9 @@ use Prim.Native.Nat.{ℕ}
 use lib.ListN.{length, replicate}
 use lib.Dec.{leb}
 
--- 6: the scratch has at least 16,384 numbers
+-- 6: the scratch has at least 8,192 numbers
 abbrev pub scratchFits : List ℕ → Bool
-scratchFits sc = leb 16384 (length sc)
+scratchFits sc = leb 8192 (length sc)
 
 -- 6: the list has at least 4,096 numbers
 abbrev pub listFits : List ℕ → Bool

@@ -24,7 +24,7 @@ pub const MAX_TYPES_VISITED: usize = 4096;
 
 // The numbers that a caller lends as scratch. A walk uses 6,144 of them: a stack of at most one entry for each name visited, and a
 // bit for each of 65,536 blocks.
-const SCRATCH: usize = 16384;
+const SCRATCH: usize = 8192;
 
 // 6: the scratch is long enough.
 pub fn scratch_fits(scratch: &[u32]) -> bool

@@ -8,7 +8,7 @@ pub(crate) const FILL: u8 = 0xa5;
 
 pub(crate) const FILL_NUMBER: u32 = 0xa5a5_a5a5;
 
-// More numbers than the 16,384 of scratch and the 4,096 of the list that a walk needs.
+// More numbers than the 8,192 of scratch and the 4,096 of the list that a walk needs.
 const SCRATCH: usize = 20000;
 
 const LIST: usize = 5000;

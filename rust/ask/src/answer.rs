@@ -93,7 +93,7 @@ fn agreed(
 
 fn rmw(book: &TypeBook, t: TypeRef, width: u8) -> Result<String, Refusal> {
     let result = t.requires_read_modify_write(width);
-    let (mut scratch, mut values) = (vec![1; 16_384], [0]);
+    let (mut scratch, mut values) = (vec![1; 8_192], [0]);
     let bytes = book.bytes();
     let number =
         calls::requires_read_modify_write(bytes, bytes.len(), width, t.block().into(), &mut scratch, &mut values);
@@ -105,7 +105,7 @@ fn rmw(book: &TypeBook, t: TypeRef, width: u8) -> Result<String, Refusal> {
 }
 
 fn listed(book: &TypeBook, t: TypeRef, width: u8, missing: &Missing) -> String {
-    let (mut scratch, mut list, mut values) = (vec![1; 16_384], vec![1; 4_096], [0; 3]);
+    let (mut scratch, mut list, mut values) = (vec![1; 8_192], vec![1; 4_096], [0; 3]);
     let (bytes, root) = (book.bytes(), t.block().into());
     let number = calls::missing_types(bytes, bytes.len(), width, root, &mut scratch, &mut list, &mut values);
     let told = [
@@ -222,7 +222,7 @@ fn plans_alike(
 ) -> bool {
     let (len, theirs) = (book.bytes().len(), controller.bytes());
     let mut buffer = [book.bytes(), &vec![1; theirs.len()]].concat();
-    let (mut scratch, mut index, mut values) = (vec![1; 16_384], vec![1; 9], [0; 2]);
+    let (mut scratch, mut index, mut values) = (vec![1; 8_192], vec![1; 9], [0; 2]);
     let number = calls::plan_save(
         &mut buffer,
         len,

@@ -49,7 +49,7 @@ fn walks() {
 }
 
 fn whole_walk(bytes: &[u8]) {
-    let (mut scratch, mut list) = (vec![0; 16_384], vec![0; 4_096]);
+    let (mut scratch, mut list) = (vec![0; 8_192], vec![0; 4_096]);
     let (mut others, mut other_list) = (scratch.clone(), list.clone());
     pair(
         "missing_types, whole call",
@@ -69,7 +69,7 @@ fn plan(what: &str, rounds: usize, ours: &[u8], controller: &[u8]) {
         TypeBook::new(controller).expect("valid"),
     );
     let types = mine.types().count() + whole.types().count();
-    let (mut scratch, mut index) = (vec![0; 16_384], vec![0; 4 * types]);
+    let (mut scratch, mut index) = (vec![0; 8_192], vec![0; 4 * types]);
     let (mut scratches, mut indexes, mut values, mut wanted) = (scratch.clone(), index.clone(), [0; 2], [1; 2]);
     let t = turns(
         rounds,

@@ -5,7 +5,7 @@ use crate::resolve::{fields_within, resolve};
 use crate::write::{Writer, well_formed};
 use crate::{Book, Stop, block, category, check, plan, text, walk};
 
-const SCRATCH: usize = 16_384;
+const SCRATCH: usize = 8_192;
 const LIST: usize = 4_096;
 
 /// Lays values over the first of the lent ones, as many as fit.

@@ -9,7 +9,7 @@ use std::collections::HashMap;
 use std::fmt;
 
 pub(crate) const BLOCK: usize = 512;
-pub(crate) const SCRATCH: usize = 16_384;
+pub(crate) const SCRATCH: usize = 8_192;
 const LIST: usize = 4_096;
 
 /// 0 as success, any other number as its refusal.

@@ -879,7 +879,7 @@ mod tests {
     /// Every answer of the forms for a checked book, and what they leave in the buffers.
     fn answers(t: TypeBlock, width: u8, memory: &[u8]) -> (Vec<u8>, Vec<u64>, Vec<u32>, Vec<u8>) {
         let mut v = vec![9; 9];
-        let (mut scratch, mut list) = (vec![1; 16_384], vec![7; 4_096]);
+        let (mut scratch, mut list) = (vec![1; 8_192], vec![7; 4_096]);
         let (mut tape, mut text, mut output) = (vec![3; 24 * 300], vec![3; 2_000], vec![3; memory.len()]);
         let numbers = vec![
             t.resolve_alias(width, &mut v[..1]),
@@ -887,7 +887,7 @@ mod tests {
             t.requires_read_modify_write(width, &mut scratch, &mut v[2..3]),
             t.missing_types(width, &mut scratch, &mut list, &mut v[3..6]),
             t.read(width, memory, &mut tape, &mut text, &mut v[6..8]),
-            t.requires_read_modify_write(width, &mut scratch[..16_383], &mut v[8..]),
+            t.requires_read_modify_write(width, &mut scratch[..8_191], &mut v[8..]),
             t.missing_types(width, &mut scratch, &mut list[..4_095], &mut v[8..]),
             t.write(width, memory, &tape[..24 * v[6] as usize], &text, &mut output, &mut [0]),
         ];

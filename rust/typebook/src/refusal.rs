@@ -120,7 +120,7 @@ impl Refusal {
                 "the type book has two types of one name, or already has the type that was to be added"
             }
             Refusal::Root => "there is no type at this block number of the type book",
-            Refusal::Scratch => "the caller lent too little working memory (16,384 numbers, and 4,096 for a list)",
+            Refusal::Scratch => "the caller lent too little working memory (8,192 numbers, and 4,096 for a list)",
             Refusal::NotFound { .. } => "a type is missing in the type book: fetch it from the controller and add it",
             Refusal::AliasChain => {
                 "a type is an alias of an alias and so on, 32 times or without end: the type list is corrupt"

@@ -214,10 +214,7 @@ fn walks() {
     run(&[0, 1, 2, 3, 4, 5, 6, 7, 8], |rng, c| {
         let (book, len, width, root) = (&c.book[..], c.len, c.width, c.root);
         let (mut v, mut w) = values(rng);
-        let (mut scratch, mut other) = twice(
-            rng.number() as u32,
-            rng.pick(&[16_384, 16_384, 16_384, 20_000, 16_383, 0]),
-        );
+        let (mut scratch, mut other) = twice(rng.number() as u32, rng.pick(&[8_192, 8_192, 16_383, 20_000, 8_191, 0]));
         let answer = calls::requires_read_modify_write(book, len, width, root, &mut scratch, &mut v);
         assert_eq!(
             answer,

@@ -35,7 +35,7 @@ impl<'a> Lent<'a> {
             theirs: controller.len(),
             width: WIDTH,
             root,
-            scratch: 16_384,
+            scratch: 8_192,
             index: 40,
         }
     }
@@ -130,7 +130,7 @@ fn refusals_1_to_4_of_the_controllers_book_and_6() {
     Lent::new(&ours, &theirs, 0).refused(3);
     Lent::new(&ours, &book(&[int(), int()]), 0).refused(4);
     Lent {
-        scratch: 16_383,
+        scratch: 8_191,
         ..Lent::new(&ours, &example(), 0)
     }
     .refused(6);

@@ -19,14 +19,14 @@ fn answer_of(book: &[u8], memory: &[u8]) -> u8 {
 }
 
 fn rmw(book: &[u8]) -> (u8, u64) {
-    let (mut scratch, mut values) = (vec![9; 16_384], [99]);
+    let (mut scratch, mut values) = (vec![9; 8_192], [99]);
     let answer = calls::requires_read_modify_write(book, book.len(), WIDTH, 0, &mut scratch, &mut values);
     assert!(scratch.iter().all(|&n| n == 0));
     (answer, values[0])
 }
 
 fn missing(book: &[u8]) -> (Vec<u32>, u64, u64) {
-    let (mut scratch, mut list, mut values) = (vec![9; 16_384], vec![7; 4_096], [99; 3]);
+    let (mut scratch, mut list, mut values) = (vec![9; 8_192], vec![7; 4_096], [99; 3]);
     assert_eq!(
         calls::missing_types(book, book.len(), WIDTH, 0, &mut scratch, &mut list, &mut values),
         0
@@ -117,7 +117,7 @@ fn refusal_5_the_root() {
 fn refusal_6_scratch_and_list() {
     let bytes = example();
     let (mut values, len) = ([7; 3], bytes.len());
-    let (mut short, mut long, mut list) = (vec![7; 16_383], vec![7; 16_384], vec![7; 4_095]);
+    let (mut short, mut long, mut list) = (vec![7; 8_191], vec![7; 8_192], vec![7; 4_095]);
     assert_eq!(
         calls::requires_read_modify_write(&bytes, len, WIDTH, 0, &mut short, &mut values),
         6
