@@ -134,16 +134,16 @@ fn main() {
     let faces = made(&["\u{1f600}", "a\u{1f4d6}", "\u{10ffff}"], SIZE);
     for (name, text) in [("ASCII", &ascii), ("Latin, one in ten", &latin), ("Latin, all", &accents)] {
         let bytes = WINDOWS_1252.encode(text).0;
-        compare(&format!("windows_1252_decoder::decode, {name}"), &bytes, port_windows_1252_decode, rust_windows_1252_decode);
+        compare(&format!("enc_windows_1252_decoder::decode, {name}"), &bytes, port_windows_1252_decode, rust_windows_1252_decode);
         let tight = format!("the same, a buffer of just the length, {name}");
         compare_in(&tight, &bytes, port_windows_1252_decode, rust_windows_1252_decode, text.len());
-        compare(&format!("windows_1252_encoder::encode, {name}"), text.as_bytes(), port_windows_1252_encode, rust_windows_1252_encode);
+        compare(&format!("enc_windows_1252_encoder::encode, {name}"), text.as_bytes(), port_windows_1252_encode, rust_windows_1252_encode);
     }
     for (name, text) in [("ASCII", &ascii), ("Latin, one in ten", &latin), ("Cyrillic", &cyrillic), ("pairs", &faces)] {
         let bytes: Vec<u8> = text.encode_utf16().flat_map(u16::to_le_bytes).collect();
-        compare(&format!("utf_16_decoder::decode, {name}"), &bytes, port_utf_16_decode, rust_utf_16_decode);
-        compare(&format!("utf_16_encoder::encode, {name}"), text.as_bytes(), port_utf_16_encode, rust_utf_16_encode);
-        compare(&format!("utf_8_decoder::well_formed, {name}"), text.as_bytes(), port_utf_8_well_formed, rust_utf_8_well_formed);
+        compare(&format!("enc_utf_16_decoder::decode, {name}"), &bytes, port_utf_16_decode, rust_utf_16_decode);
+        compare(&format!("enc_utf_16_encoder::encode, {name}"), text.as_bytes(), port_utf_16_encode, rust_utf_16_encode);
+        compare(&format!("enc_utf_8_decoder::well_formed, {name}"), text.as_bytes(), port_utf_8_well_formed, rust_utf_8_well_formed);
     }
     book::run();
 }
