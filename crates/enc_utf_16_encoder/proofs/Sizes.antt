@@ -68,7 +68,7 @@ module _ (bs : List ℕ) (ih : (s : State) → size (decodeFrom s bs) ≤ 2 * (h
       (size-if b 0xf0 _ _ _ (λ h. more _)
       (size-if b 0xf5 _ _ _ (λ h. more _) fault))))
 
-  -- a byte afterReply those that it holds
+  -- a byte after those that it holds
   size-following : (code seen needed b : ℕ) → size (afterReply (following code seen needed b) (λ s. decodeFrom s bs)) ≤ 2 * (2 + length bs)
   unfolding following afterReply
   size-following code seen needed b = by (eqb (seen + 1) needed)

@@ -34,7 +34,7 @@ last : decode (0xf4 ∷ 0x8f ∷ 0xbf ∷ 0xbf ∷ []) ≡ scalar 0x10ffff ∷ [
 unfolding decodeFrom leading following afterReply
 last = refl
 
--- a cut code point is one error, and the byte afterReply it is taken anew
+-- a cut code point is one error, and the byte after it is taken anew
 cut : decode (0xf0 ∷ 0x9f ∷ 0x98 ∷ 0x41 ∷ []) ≡ error ∷ scalar 0x41 ∷ []
 unfolding decodeFrom leading following afterReply
 cut = refl

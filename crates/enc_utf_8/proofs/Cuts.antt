@@ -66,7 +66,7 @@ following-fine code seen needed b = fine-if (eqb (seen + 1) needed) _ _ tt (omeg
 
 -- ---- the cut
 
--- a part that is well-formed or not (`t`), and what comes afterReply it, where both together are well-formed: the part ends with a code point, or within one
+-- a part that is well-formed or not (`t`), and what comes after it, where both together are well-formed: the part ends with a code point, or within one
 data Cut (t : Bool) (ys : List ℕ) : Type 0 where
   clean : t ≡ true → wellFormed ys ≡ true → Cut t ys
   inside : t ≡ false → (y : ℕ) (zs : List ℕ) → ys ≡ y ∷ zs → trail y ≡ true → Cut t ys
@@ -274,7 +274,7 @@ module _ (c e : ℕ) where
 
 -- ---- the loop that passes over the well-formed beginning of a text
 
--- each beginning that has the first `at` bytes is well-formed where what it has afterReply them is
+-- each beginning that has the first `at` bytes is well-formed where what it has after them is
 pub record Passed (text : List ℕ) (at : ℕ) : Type 0 where
   pub within : at ≤ length text
   pub cuts : (n : ℕ) → at ≤ n → n ≤ length text → wellFormed (take n text) ≡ wellFormed (drop at (take n text))
@@ -346,7 +346,7 @@ join (x ∷ xs) ys (state code seen needed lower upper) h =
     (join-reply (following code seen needed x) xs ys (wellFormed ys) (λ s. join xs ys s))
     (λ q. never q)) h
 
--- a well-formed beginning grows by what is well-formed afterReply it
+-- a well-formed beginning grows by what is well-formed after it
 pub valid-more : (text : List ℕ) (v e r : ℕ) → ValidTo text v → v ≤ e → e ≤ length text → ValidTo (take (e - v) (drop v text)) r → ValidTo text (v + r)
 valid-more text v e r k l m h =
     let n : length (take (e - v) (drop v text)) ≡ e - v = length-take-le (e - v) (drop v text) (omega (arith, length-drop v text)) in

@@ -1,4 +1,4 @@
--- The first item that `nextAt` finds is the first of `decode`, and the others are those from the place afterReply it on. Assumes nothing.
+-- The first item that `nextAt` finds is the first of `decode`, and the others are those from the place after it on. Assumes nothing.
 use mathlib.Core.Path.{_≡_, refl, sym, ap, _∙_}
 use mathlib.Core.Bool.{Bool, true, false, cond, _&&_}
 use mathlib.Core.List.{List, [], _∷_, map}
@@ -116,7 +116,7 @@ moves b bs at =
 
 -- ---- what a caller of `next` cites
 
--- the first item of the text from `at` on is `i`, and the place afterReply its bytes is `e`
+-- the first item of the text from `at` on is `i`, and the place after its bytes is `e`
 pub record Begins (i : Item) (text : List ℕ) (at e : ℕ) : Type 0 where
   pub decodes : decode (drop at text) ≡ i ∷ decode (drop e text)
   pub past : at < e

@@ -45,7 +45,7 @@ module _ (rest : List ℕ) where
             le-leb d 0xbf hd,
           )
 
--- the boundaries afterReply a lead byte hold `b`
+-- the boundaries after a lead byte hold `b`
 lower-holds : (a b : ℕ) → (a ≡ 0xe0 → 0xa0 ≤ b) → (a ≡ 0xf0 → 0x90 ≤ b) → 0x80 ≤ b → lowerOf a ≤ b
 lower-holds a b e f h = by (eqb a 0xe0) (eqb a 0xf0) refl refl
   where

@@ -23,11 +23,11 @@ pub data State : Type 0 where
 abbrev pub initial : State
 initial = state 0 0 0 0x80 0xbf
 
--- the lower boundary afterReply a lead byte
+-- the lower boundary after a lead byte
 abbrev pub lowerOf : ℕ → ℕ
 lowerOf lead = cond (eqb lead 0xe0) 0xa0 (cond (eqb lead 0xf0) 0x90 0x80)
 
--- the upper boundary afterReply a lead byte
+-- the upper boundary after a lead byte
 abbrev pub upperOf : ℕ → ℕ
 upperOf lead = cond (eqb lead 0xed) 0x9f (cond (eqb lead 0xf4) 0x8f 0xbf)
 
@@ -53,7 +53,7 @@ following code seen needed b =
     (give (scalar (code * 64 + b % 64)))
     (continue (state (code * 64 + b % 64) (seen + 1) needed 0x80 0xbf))
 
--- what comes afterReply a reply, where `rest` comes from a state on
+-- what comes after a reply, where `rest` comes from a state on
 unfoldable pub afterReply : Reply → (State → List Item) → List Item
 afterReply (give i) rest = i ∷ rest initial
 afterReply (continue s) rest = rest s
@@ -105,9 +105,9 @@ replaced error = 0xfffd
 abbrev pub scalars : List ℕ → List ℕ
 scalars bytes = map replaced (decode bytes)
 
--- ---- the decoder's first item, and the place afterReply the bytes that it took
+-- ---- the decoder's first item, and the place after the bytes that it took
 
--- what comes afterReply a reply to the byte at `at`, where `rest` comes from a state on
+-- what comes after a reply to the byte at `at`, where `rest` comes from a state on
 unfoldable pub found : Reply → ℕ → (State → Char) → Char
 found (give (scalar c)) at rest = Code c (at + 1)
 found (give error) at rest = Error (at + 1)

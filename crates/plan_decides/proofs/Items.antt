@@ -31,7 +31,7 @@ use Rattle.plan_save.specs.Rounds.{Decision, decided, lacking, refused, ruled, 
 use Rattle.plan_save.specs.Call.{outcomeOurs}
 use Rattle.plan_decides.specs.Made.{Made, PlanMade, Extends, PlanKeeps}
 
--- our buffer afterCalls some adds
+-- our buffer after some adds
 abbrev endOf : Adding → Ours
 endOf (on s) = s
 endOf (lacks b s) = s
@@ -52,7 +52,7 @@ unfolding afterCalls
 after-both c [] js s = refl
 after-both c (i ∷ is) js s = after-both c is js (next c i s)
 
--- whether a call is given its due does not depend on the calls afterCalls it
+-- whether a call is given its due does not depend on the calls after it
 given-with : (c : List ℕ) (s : Ours) (i : Call) (is js : List Call) → Lent c s i is → Lent c s i js
 given-with c s (ask sc ls) is js g = g
 given-with c s (add n) is js g = g
@@ -140,7 +140,7 @@ apart-refused : (n : ℕ) (s : Ours) (t : Bool) (z : Ours) → refused n s ≡ d
 apart-refused n s t z e = let q : _≡_ {A = ℕ} 0 1 = cc in omega arith
 
 module _ (c : List ℕ) (width root : ℕ) (sc list : List ℕ) (p : 8192 ≤ length sc) (q : 4096 ≤ length list) where
-  -- an ask alone, afterCalls which nothing is decided
+  -- an ask alone, after which nothing is decided
   asked : (s : Ours) (o : Decision) → s ≡ outcomeOurs o → ((t : Bool) (z : Ours) → o ≡ decided t z → listed (walkAt width root s) ≡ []) → Made c width root s o
   unfolding afterCalls
   asked s o e h = record { items = ask sc list ∷ []; given = more {i = ask sc list} (le-leb 8192 (length sc) p, le-leb 4096 (length list) q) none; left = e; none = λ t z y. here (h t z y) }
@@ -150,7 +150,7 @@ module _ (c : List ℕ) (width root : ℕ) (sc list : List ℕ) (p : 8192 ≤ le
   later-both [] js s h = h
   later-both (i ∷ is) js s h = later (later-both is js (next c i s) h)
 
-  -- an ask, adds, and what a list made afterCalls them
+  -- an ask, adds, and what a list made after them
   goes-on : (s z : Ours) (o : Decision) → Adds c s z → Made c width root z o → Made c width root s o
   unfolding afterCalls
   goes-on s z o a m =
@@ -224,7 +224,7 @@ extends-then s y z a b =
       grows = b .grows ∙ ap (λ (l : List ℕ). l ++ b .more) (a .grows) ∙ append-assoc (bookOf s) (a .more) (b .more);
     }
 
--- appending leaves the book as it was, or with the addition afterCalls it
+-- appending leaves the book as it was, or with the addition after it
 module _ (s : Ours) (d : List ℕ) (v : checkBook (s .buffer) (s .len) ≡ Valid) where
   appended-extends : Extends s (appended s d)
   appended-extends = by (eqb (appendRefusal (s .buffer) (s .len) d) 0) refl

@@ -22,7 +22,7 @@ use Rattle.plan_adds.specs.declared.Due.{Due}
 use Rattle.plan_adds.specs.declared.Due.the-variants.{Names, Rest}
 use Rattle.plan_adds.specs.Adds.{dueParts, dueType, dueOf}
 
--- how many fields are due blocksAfter a block
+-- how many fields are due after a block
 abbrev pub restOf : Due → ℕ
 restOf (Names d) = d
 restOf (Rest d) = d

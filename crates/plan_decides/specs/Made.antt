@@ -24,7 +24,7 @@ unfoldable pub PlanMade : Type 0
 PlanMade = (c : List ℕ) (width root k : ℕ) (s : Ours) (sc list : List ℕ) → 8192 ≤ length sc → 4096 ≤ length list
     → Made c width root s (planFrom c width root k s)
 
--- our book is valid, and is the old one with whole definitions afterCalls it, or the old one: each call of a list left it so
+-- our book is valid, and is the old one with whole definitions after it, or the old one: each call of a list left it so
 pub record Extends (s z : Ours) : Type 0 where
   pub valid : checkBook (z .buffer) (z .len) ≡ Valid
   pub more : List ℕ

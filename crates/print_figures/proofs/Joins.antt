@@ -23,7 +23,7 @@ unfolding fitsIn
 fits-all [] at room f = take-nil (room - at)
 fits-all (x ∷ xs) at room f = take-all (room - at) (x ∷ xs) (omega (arith, leb-true (at + length (x ∷ xs)) room f))
 
--- where the first part fits, what the second has room for comes placeAfter it
+-- where the first part fits, what the second has room for comes after it
 fits-more : (xs ys : List ℕ) (at room : ℕ) → fitsIn xs at room ≡ true → take (room - at) (xs ++ ys) ≡ xs ++ take (room - (at + length xs)) ys
 unfolding fitsIn
 fits-more [] ys at room f = let e : at + 0 ≡ at = omega arith in rw e
@@ -136,7 +136,7 @@ module _ (bytes out₀ : List ℕ) (p₀ : Put) (i : ℕ) (out : List ℕ) (p : 
   pub bytes-end : length bytes ≤ i → i ≤ length bytes → Puts bytes out₀ p₀ p out
   bytes-end h l = let e : i ≡ length bytes = omega arith in rest-end inv (rw (e, drop-length))
 
--- ---- placeAfter the last byte
+-- ---- after the last byte
 
 pub ended-next : {p : Put} {out : List ℕ} (n : ℕ) → p ≡ Next n → ClearedEnd p out (Next n) out
 ended-next n e = record { answer = sym e; on = λ k q. refl; off = λ q. next-full (sym e ∙ q) }

@@ -1,4 +1,4 @@
--- Bytes that are put into a buffer one placeAfter the other, and what the whole leaves. Assumes nothing.
+-- Bytes that are put into a buffer one after the other, and what the whole leaves. Assumes nothing.
 use mathlib.Core.Path.{_≡_}
 use mathlib.Core.Bool.{cond}
 use mathlib.Core.List.{List, _++_}
@@ -9,7 +9,7 @@ use Rattle.enc_utf_8.specs.Buffer.{splice, fitsIn}
 use Rattle.enc_utf_8.specs.declared.Put.{Put}
 use Rattle.enc_utf_8.specs.declared.Put.the-variants.{Next, Full}
 
--- the place placeAfter `xs`, from a place on in a buffer of `room` bytes; or that they do not fit, now or before
+-- the place after `xs`, from a place on in a buffer of `room` bytes; or that they do not fit, now or before
 unfoldable pub placeAfter : Put → List ℕ → ℕ → Put
 placeAfter (Next at) xs room = cond (fitsIn xs at room) (Next (at + length xs)) Full
 placeAfter Full xs room = Full
@@ -24,7 +24,7 @@ pub record Puts (xs out : List ℕ) (p r : Put) (out′ : List ℕ) : Type 0 whe
   pub answer : r ≡ placeAfter p xs (length out)
   pub buffer : out′ ≡ over p xs out
 
--- what is left to do placeAfter the last byte: where not all fit, the buffer becomes zeros
+-- what is left to do after the last byte: where not all fit, the buffer becomes zeros
 pub record ClearedEnd (p : Put) (out : List ℕ) (r : Put) (out′ : List ℕ) : Type 0 where
   pub answer : r ≡ p
   pub on : (n : ℕ) → p ≡ Next n → out′ ≡ out

@@ -37,7 +37,7 @@ pub record Resolvable (buffer : List ℕ) (len width root i : ℕ) : Type 0 wher
   pub valid : ValidBook (take len buffer)
   pub number : root + 1 + i < 2 ^ 32
 
--- each of the first n can be. Of noRecord nothing is asked, so a refusal, which counts noRecord, needs no case of its own
+-- each of the first n can be. Of none nothing is asked, so a refusal, which counts none, needs no case of its own
 abbrev pub AllResolvable : List ℕ → ℕ → ℕ → ℕ → ℕ → Type 0
 AllResolvable buffer len width root n = (i : ℕ) → i < n → Resolvable buffer len width root i
 

@@ -27,7 +27,7 @@ partsKind category.Pointer = Nothing
 partsKind category.Reference = Nothing
 partsKind category.Interface = Nothing
 
--- the k blocks blocksAfter block t, the last one first
+-- the k blocks after block t, the last one first
 unfoldable pub blocksAfter : ℕ → ℕ → List ℕ
 blocksAfter t zero = []
 blocksAfter t (suc k) = (t + suc k) ∷ blocksAfter t k

@@ -16,7 +16,7 @@ use Rattle.resolve_walk_scratch.specs.Parts.{blocksAfter, partsKind, par
 
 -- ---- what the numbers stand for
 
--- an entry t * 65536 + k: the k blocks blocksAfter t, the last one first; with k = 0, t itself
+-- an entry t * 65536 + k: the k blocks after t, the last one first; with k = 0, t itself
 unfoldable pub stackEntry : ℕ → ℕ → List ℕ
 stackEntry t zero = t ∷ []
 stackEntry t (suc k) = blocksAfter t (suc k)
@@ -43,7 +43,7 @@ unfoldable pub hasRef : List ℕ → List ℕ → List ℕ → Bool
 hasRef book [] x = false
 hasRef book (b ∷ bs) x = namesIt book b x || hasRef book bs x
 
--- ---- the numbers blocksAfter a call
+-- ---- the numbers after a call
 
 -- the scratch with the bit of block t set
 unfoldable pub markedOn : List ℕ → ℕ → List ℕ

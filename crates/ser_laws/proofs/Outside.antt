@@ -77,7 +77,7 @@ agrees-cond from old true o u t s p q = p
 agrees-cond from old false o u t s p q = q
 
 module _ (from : ℕ) (old : List ℕ) where
-  -- one change rangesThen another
+  -- one change after another
   agrees-next : (at : Cursor) (mid : List ℕ) (rs : List Range) → Kept from old mid rs → (o : Outcome) (t : Touched) → Agrees from mid o t
       → Agrees from old o (rangesThen rs t)
   unfolding rangesThen

@@ -53,7 +53,7 @@ pub record OnlyIn (rs : List Range) (old new : List ℕ) : Type 0 where
 
 -- ---- along the tape
 
--- the cursor rangesThen some records with the ranges of their leaves; or nothing, where no write is accepted
+-- the cursor after some records with the ranges of their leaves; or nothing, where no write is accepted
 pub data Touched : Type 0 where
   upto : Cursor → List Range → Touched
   nowhere : Touched
@@ -63,7 +63,7 @@ unfoldable pub rangesThen : List Range → Touched → Touched
 rangesThen rs (upto at ss) = upto at (rs ++ ss)
 rangesThen rs nowhere = nowhere
 
--- the first, and what follows from the cursor rangesThen it
+-- the first, and what follows from the cursor after it
 infixr 5 _and_
 unfoldable pub _and_ : Touched → (Cursor → Touched) → Touched
 upto at rs and f = rangesThen rs (f at)
