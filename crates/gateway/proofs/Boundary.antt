@@ -46,7 +46,7 @@ append-checked buffer len piece {buffer′ = buffer′} a =
     let z : appendRefusal buffer len piece ≡ 0 = none-refused _ _ (a .gives .is ∙ ap refusalOf (a .by .answer)) in
     valid-book buffer′ (len + length piece) (rw (a .by .bytes) (grown buffer len piece z .check))
 
--- `gateway_write` returned 0: something was written, and the output is that (`call-numbered` and `book-numbered` of write_answers give the premise)
+-- `gateway_write` returned 0: something was written, and the output is that (`call-numbered` and `book-numbered` of `gateway_write_answers` give the premise)
 pub write-done : (o : Outcome) {image output before output′ after : List ℕ} → Numbered o → WriteGiven o image output before 0 output′ after → isWritten o ≡ true
 write-done o n g = n .nought (sym (g .gives .is ∙ ap refusalOf (g .by .answer)))
 
