@@ -8,6 +8,7 @@ mod numbers;
 mod operation;
 mod packing;
 mod reads;
+mod records;
 mod replay;
 mod report;
 mod resolving;

@@ -9,7 +9,8 @@ use crate::lent;
 use crate::lent::FILL_NUMBER;
 use crate::lent::put_numbers;
 use crate::lent::put_numbers_are;
-use cases_fields::code_of;
+use crate::records::agrees;
+use crate::records::code_of;
 use cases_file::input::byte_at;
 use cases_file::input::u16_at;
 use cases_file::input::u32_at;
@@ -193,7 +194,7 @@ fn fields(input: &[u8], book: &[u8], len: usize, records: &mut [u32], answer: &m
     let at = put(answer, fields_reply(fields));
     let end = put_numbers(answer, at, records, recorded(fields));
     if records.len() == ALL {
-        if !cases_fields::agrees(book, len, width, root, code_of(fields), records) {
+        if !agrees(book, len, width, root, code_of(fields), records) {
             return 0;
         }
     }

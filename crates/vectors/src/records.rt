@@ -1,5 +1,4 @@
-// Compares the two forms of resolved fields, records that are structs and records of four numbers, for the programs that replay recorded
-// answers.
+// Compares the two forms of resolved fields: records that are structs and records of four numbers.
 ghost use Prim.Native.Nat.{_≤_};
 use resolve_field_records::ResolvedField;
 use resolve_field_records::resolve_fields;
@@ -22,7 +21,7 @@ fn blank() -> [ResolvedField; 4096] {
 }
 
 // An answer as one number: different answers have different ones, since no type has 2^32 fields.
-pub fn code_of(answer: FieldsAnswer) -> u64 {
+pub(crate) fn code_of(answer: FieldsAnswer) -> u64 {
     match answer {
         FieldsAnswer::Done(n) => n as u64 % 0x1_0000_0000,
         FieldsAnswer::NotFound(b) => 0x1_0000_0000 + b as u64,
@@ -81,6 +80,13 @@ fn compared(book: &[u8], len: usize, width: u8, root: u64, code: u64, numbers: &
 }
 
 // Whether the form with structs, lent 4,096 records, answers with this code and stores these numbers.
-pub fn agrees(book: &[u8], len: usize, width: u8, root: u64, code: u64, numbers: &[u32]) -> bool {
+pub(crate) fn agrees(
+    book: &[u8],
+    len: usize,
+    width: u8,
+    root: u64,
+    code: u64,
+    numbers: &[u32],
+) -> bool {
     compared(book, len, width, root, code, numbers) == 1
 }

@@ -46,27 +46,27 @@ use denote.Exit.{yes}
 use Rattle.resolve_field_records.specs.declared.ResolvedField.{ResolvedField as Rec}
 use Rattle.resolve_field_records.specs.Stored.{Filled}
 use Rattle.resolve_field_types.specs.declared.FieldsAnswer.{FieldsAnswer}
-use Rattle.cases_fields.proofs.Lent.{lends-mut, whole-again, big-lit}
+use Rattle.vectors.proofs.Borrowed.{lends-mut, whole-again, big-lit}
 use Rattle.resolve_field_records.proofs.ResolvedField as T
 use Rattle.resolve_field_records.proofs.ResolvedField.Laws as T′
 use Rattle.resolve_field_types.proofs.FieldsAnswer as S
 use Rattle.resolve_field_types.proofs.FieldsAnswer.Laws as S′
-use Rattle.cases_fields.proofs.blank as blank
-use Rattle.cases_fields.proofs.blank.Symbol as blank-def
-use Rattle.cases_fields.proofs.blank.Symbol.{name as #cases-fields·blank}
-use Rattle.cases_fields.proofs.blank.Met as blank-thm
+use Rattle.vectors.proofs.records.blank as blank
+use Rattle.vectors.proofs.records.blank.Symbol as blank-def
+use Rattle.vectors.proofs.records.blank.Symbol.{name as #records·blank}
+use Rattle.vectors.proofs.records.blank.Met as blank-thm
 use Rattle.resolve_field_records.proofs.resolve_fields as resolve
 use Rattle.resolve_field_records.proofs.resolve_fields.Symbol as resolve-def
 use Rattle.resolve_field_records.proofs.resolve_fields.Symbol.{name as #resolve-field-records·resolve-fields}
 use Rattle.resolve_field_records.proofs.resolve_fields.Met as resolve-thm
-use Rattle.cases_fields.proofs.same as same
-use Rattle.cases_fields.proofs.same.Symbol as same-def
-use Rattle.cases_fields.proofs.same.Symbol.{name as #cases-fields·same}
-use Rattle.cases_fields.proofs.same.Met as same-thm
-use Rattle.cases_fields.proofs.compared.Key.{name as #cases-fields·compared}
-use Rattle.cases_fields.proofs.compared as compared
-use Rattle.cases_fields.proofs.compared.Statement as stated
-use Rattle.cases_fields.proofs.compared.Code as code
+use Rattle.vectors.proofs.records.same as same
+use Rattle.vectors.proofs.records.same.Symbol as same-def
+use Rattle.vectors.proofs.records.same.Symbol.{name as #records·same}
+use Rattle.vectors.proofs.records.same.Met as same-thm
+use Rattle.vectors.proofs.records.compared.Key.{name as #records·compared}
+use Rattle.vectors.proofs.records.compared as compared
+use Rattle.vectors.proofs.records.compared.Statement as stated
+use Rattle.vectors.proofs.records.compared.Code as code
 
 abbrev R : RattleType
 R = T.the-row
@@ -181,7 +181,7 @@ module _ {M : Type 1} (𝓤 : URA M) (H : Heap 𝓤) (A : Atoms 𝓤) (W : Given
       suffices ! _ (ends-at 𝓤 H A compared.ended stayed (compared.clauses 𝓤 H A mem run) W (((κ, (κ′, tt)), (q, (q′, tt)), tt, a, vals), tt) w m (tt, (tt, (tt, (tt, (tt, (tt, tt)))))) (tt, (tt, (tt, (tt, (tt, (tt, tt))))))) $
       says ! e $ join ! $ frame ! $ nothing ! $ move ! (2 ∷ 0 ∷ []) $ fjoin ! $ owned ! u64 (Is u64) (uint-makes 𝓤 H A W w64) code′ _ (refl, code-fits) $ fjoin ! $ owned ! u64 (Is u64) (uint-makes 𝓤 H A W w64) root _ (refl, root-fits) $ fjoin ! $ owned ! u8 (Is u8) (uint-makes 𝓤 H A W w8) width _ (refl, width-fits) $ fjoin ! $ owned ! usize (Is usize) (uint-makes 𝓤 H A W w64) len _ (refl, len-fits) $ fjoin ! $ move ! (1 ∷ 0 ∷ []) $ fjoin ! $ frame ! $ done !
 
-  module _ (C : Calls 𝓤 H) (Λ : Loops 𝓤 H) (fm : FmC 𝓤 H (W .laws) C) (known-blank : Triple 𝓤 (C #cases-fields·blank) (Blank 𝓤 H A mem run)) (known-resolve : Triple 𝓤 (C #resolve-field-records·resolve-fields) (Resolve 𝓤 H A mem run)) (known-same : Triple 𝓤 (C #cases-fields·same) (Same 𝓤 H A mem run)) where
+  module _ (C : Calls 𝓤 H) (Λ : Loops 𝓤 H) (fm : FmC 𝓤 H (W .laws) C) (known-blank : Triple 𝓤 (C #records·blank) (Blank 𝓤 H A mem run)) (known-resolve : Triple 𝓤 (C #resolve-field-records·resolve-fields) (Resolve 𝓤 H A mem run)) (known-same : Triple 𝓤 (C #records·same) (Same 𝓤 H A mem run)) where
     walk : ent 𝓤 (onEntry 𝓤 H A compared.signature (κ, (κ′, tt)) (q, (q′, tt)) a vals) (WpFn 𝓤 H C Λ code.function (bv ∷ vint w64 len ∷ vint w8 width ∷ vint w64 root ∷ vint w64 code′ ∷ nv ∷ []) Post)
     walk =
         qed W ((‵ (flft κ q) ⊛ ‵ (flft κ′ q′) ⊛ ‵ ftrue) ∷ ‵ (owns (ShrSlice (named 0) κ u8 ∷ usize ∷ u8 ∷ u64 ∷ u64 ∷ ShrSlice (named 1) κ′ u32 ∷ []) a vals) ∷ []) ∵ enter ! C Λ code.function (bv ∷ vint w64 len ∷ vint w8 width ∷ vint w64 root ∷ vint w64 code′ ∷ nv ∷ []) _ $
@@ -237,7 +237,7 @@ module _ {M : Type 1} (𝓤 : URA M) (H : Heap 𝓤) (A : Atoms 𝓤) (W : Given
         keep ! (3 ∷ 1 ∷ 4 ∷ 2 ∷ 0 ∷ []) $ by ! (exits m w e)))))))))))))))))))))))))))))
 
 module _ {M : Type 1} (𝓤 : URA M) (H : Heap 𝓤) (A : Atoms 𝓤) (W : Given 𝓤 H A) (mem : Memory → SProp 𝓤) (run : Routine → Fun 𝓤) where
-  compared-walks : (C : Calls 𝓤 H) (Λ : Loops 𝓤 H) → FmC 𝓤 H (W .laws) C → Triple 𝓤 (C #cases-fields·blank) (Blank 𝓤 H A mem run) → Triple 𝓤 (C #resolve-field-records·resolve-fields) (Resolve 𝓤 H A mem run) → Triple 𝓤 (C #cases-fields·same) (Same 𝓤 H A mem run)
+  compared-walks : (C : Calls 𝓤 H) (Λ : Loops 𝓤 H) → FmC 𝓤 H (W .laws) C → Triple 𝓤 (C #records·blank) (Blank 𝓤 H A mem run) → Triple 𝓤 (C #resolve-field-records·resolve-fields) (Resolve 𝓤 H A mem run) → Triple 𝓤 (C #records·same) (Same 𝓤 H A mem run)
       → Walks 𝓤 H A compared.ended stayed (WpFn 𝓤 H C Λ code.function) (compared.clauses 𝓤 H A mem run)
   compared-walks C Λ fm known-blank known-resolve known-same = walked 𝓤 H A compared.ended stayed (compared.clauses 𝓤 H A mem run) (WpFn 𝓤 H C Λ code.function)
       (λ κs. (slice-vals, (uint-vals w64, (uint-vals w8, (uint-vals w64, (uint-vals w64, (slice-vals, tt))))))) (λ κs. (shr-slice-tells (named 0) (κs .0) u8, (uint-tells w64, (uint-tells w8, (uint-tells w64, (uint-tells w64, (shr-slice-tells (named 1) (κs .1 .0) u32, tt)))))))
@@ -246,7 +246,7 @@ module _ {M : Type 1} (𝓤 : URA M) (H : Heap 𝓤) (A : Atoms 𝓤) (W : Given
       (are .0 .0 .1) (are .1 .0 .1) (are .1 .1 .0 .1) (are .1 .1 .1 .0 .1) (are .1 .1 .1 .1 .0 .1) (are .1 .1 .1 .1 .1 .0 .0 .1) C Λ fm known-blank known-resolve known-same))
 
 compared-meets : {M : Type 1} (𝓤 : URA M) (H : Heap 𝓤) (A : Atoms 𝓤) → Given 𝓤 H A → (mem : Memory → SProp 𝓤) (run : Routine → Fun 𝓤) (𝓣 : Tables 𝓤 H)
-    → Triple 𝓤 (𝓣 .C #cases-fields·blank) (Blank 𝓤 H A mem run) → Triple 𝓤 (𝓣 .C #resolve-field-records·resolve-fields) (Resolve 𝓤 H A mem run) → Triple 𝓤 (𝓣 .C #cases-fields·same) (Same 𝓤 H A mem run)
+    → Triple 𝓤 (𝓣 .C #records·blank) (Blank 𝓤 H A mem run) → Triple 𝓤 (𝓣 .C #resolve-field-records·resolve-fields) (Resolve 𝓤 H A mem run) → Triple 𝓤 (𝓣 .C #records·same) (Same 𝓤 H A mem run)
     → Meets 𝓤 H A compared.signature (WpFn 𝓤 H (𝓣 .C) (𝓣 .Λ) code.function) (compared.spec 𝓤 H A mem run)
 compared-meets 𝓤 H A W mem run 𝓣 known-blank known-resolve known-same =
     walk-meets 𝓤 H A compared.ended stayed W (goes-none-slice 𝓤 H A W 2 (0 ∷ []) tt (plain (λ _. u8)) yes, (goes-none 𝓤 H A W 2 (λ _. usize) yes (λ κs x f. refl), (goes-none 𝓤 H A W 2 (λ _. u8) yes (λ κs x f. refl), (goes-none 𝓤 H A W 2 (λ _. u64) yes (λ κs x f. refl), (goes-none 𝓤 H A W 2 (λ _. u64) yes (λ κs x f. refl), (goes-none-slice 𝓤 H A W 2 (1 ∷ []) tt (plain (λ _. u32)) yes, tt)))))) (compared.clauses 𝓤 H A mem run)
@@ -256,8 +256,8 @@ pub compared-spec : {M : Type 1} → stated.statement M
 unfolding code.routine tablesOf
 compared-spec 𝓤 H 𝓜 𝓖 𝓡 =
     entered 𝓤 H (tripleOf 𝓤 H (𝓖 .A) compared.signature (compared.spec 𝓤 H (𝓖 .A) (𝓜 .mem) (𝓡 .run)))
-    (tables 𝓤 H 𝓜 𝓡 code.env .C) (tables 𝓤 H 𝓜 𝓡 code.env .Λ) #cases-fields·compared code.function (code.unfolded 𝓤 H 𝓜 𝓡)
+    (tables 𝓤 H 𝓜 𝓡 code.env .C) (tables 𝓤 H 𝓜 𝓡 code.env .Λ) #records·compared code.function (code.unfolded 𝓤 H 𝓜 𝓡)
     (compared-meets 𝓤 H (𝓖 .A) (givenOf 𝓤 H 𝓜 𝓖) (𝓜 .mem) (𝓡 .run) (tablesOf 𝓤 H 𝓜 (tables 𝓤 H 𝓜 𝓡 code.env))
-    (cited 𝓤 H (Blank 𝓤 H (𝓖 .A) (𝓜 .mem) (𝓡 .run)) 𝓜 𝓡 code.env #cases-fields·blank blank-def.routine code.calls-cases-fields·blank (blank-thm.met 𝓤 H 𝓜 𝓖 𝓡))
+    (cited 𝓤 H (Blank 𝓤 H (𝓖 .A) (𝓜 .mem) (𝓡 .run)) 𝓜 𝓡 code.env #records·blank blank-def.routine code.calls-vectors·records·blank (blank-thm.met 𝓤 H 𝓜 𝓖 𝓡))
     (cited 𝓤 H (Resolve 𝓤 H (𝓖 .A) (𝓜 .mem) (𝓡 .run)) 𝓜 𝓡 code.env #resolve-field-records·resolve-fields resolve-def.routine code.calls-resolve-field-records·resolve-fields (resolve-thm.met 𝓤 H 𝓜 𝓖 𝓡))
-    (cited 𝓤 H (Same 𝓤 H (𝓖 .A) (𝓜 .mem) (𝓡 .run)) 𝓜 𝓡 code.env #cases-fields·same same-def.routine code.calls-cases-fields·same (same-thm.met 𝓤 H 𝓜 𝓖 𝓡)))
+    (cited 𝓤 H (Same 𝓤 H (𝓖 .A) (𝓜 .mem) (𝓡 .run)) 𝓜 𝓡 code.env #records·same same-def.routine code.calls-vectors·records·same (same-thm.met 𝓤 H 𝓜 𝓖 𝓡)))

@@ -1,8 +1,8 @@
 -- `same` is safe and ends. Assumes nothing.
 use borrow.Author.Needs.{needs}
 use Prim.Native.Nat.{_≤_, _-_}
-use Rattle.cases_fields.proofs.same.Statement.{statement}
-use Rattle.cases_fields.proofs.same.Tie as tie
+use Rattle.vectors.proofs.records.same.Statement.{statement}
+use Rattle.vectors.proofs.records.same.Tie as tie
 
 abbrev Inv-loop : tie.InvT-loop
 Inv-loop code numbers records i₀ i = i ≤ 4096

@@ -1,2 +1,0 @@
--- Laws that the functions' proofs cite. Lent: a local array lent to a function.
-mod Lent
