@@ -31,11 +31,13 @@ fetchedLength len (fetched.More l) = l
 fetchedLength len fetched.Lacks = len
 fetchedLength len fetched.Full = len
 
+-- the same with our buffer, as an adding
 unfoldable pub fetchedSaid : ℕ → ℕ → Fetched → List ℕ → Adding
 fetchedSaid b len (fetched.More l) buffer = on (ours buffer l)
 fetchedSaid b len fetched.Lacks buffer = lacks b (ours buffer len)
 fetchedSaid b len fetched.Full buffer = room (ours buffer len)
 
+-- the promise of adding one type: what is said of it, that all is ready for the next, and that our types are kept
 pub record FetchedIs (c : List ℕ) (b : ℕ) (buffer : List ℕ) (len : ℕ) (r : Fetched) (after known : List ℕ) : Type 0 where
   pub is : fetchedSaid b len r after ≡ fetchOf c b (ours buffer len)
   pub ready : Ready c after (fetchedLength len r) known
@@ -47,11 +49,13 @@ addedLength (added.More l) = l
 addedLength (added.NotFound b l) = l
 addedLength (added.Full l) = l
 
+-- the same with our buffer, as an adding
 unfoldable pub addedSaid : Added → List ℕ → Adding
 addedSaid (added.More l) buffer = on (ours buffer l)
 addedSaid (added.NotFound b l) buffer = lacks b (ours buffer l)
 addedSaid (added.Full l) buffer = room (ours buffer l)
 
+-- the promise of adding several types: what is said of them, that all is ready for the next, and that our types are kept
 pub record AddedIs (adding : Adding) (c buffer : List ℕ) (len : ℕ) (r : Added) (after known : List ℕ) : Type 0 where
   pub is : addedSaid r after ≡ adding
   pub ready : Ready c after (addedLength r) known

@@ -39,6 +39,7 @@ abbrev pub Follows : List ℕ → ℕ → Round → List ℕ → List ℕ → Ty
 Follows c root (round.Again l) after known = Ready c after l known × (isType (take l after) root ≡ true)
 Follows c root (round.Is p) after known = Unit {0}
 
+-- the promise of a round: what is said of it, whatever the rounds after it do, and what holds where one follows
 pub record RoundIs (c : List ℕ) (width root : ℕ) (buffer : List ℕ) (len from : ℕ) (r : Round) (after known : List ℕ) : Type 0 where
   pub is : (go : Ours → Decision) → roundSaid go r after ≡ roundOf go c width from (walkOf (take len buffer) width root) (ours buffer len)
   pub follows : Follows c root r after known
@@ -48,6 +49,7 @@ abbrev pub AskSaid : Walk → Asked → List ℕ → Type 0
 AskSaid w (asked.Lists n) list = (whole w ≡ true) × (n ≡ length (listed w)) × (take n list ≡ listed w)
 AskSaid w (asked.NotWhole k) list = (whole w ≡ false) × (k ≡ notWhole w)
 
+-- the promise of an ask: what is said of it
 pub record AskedIs (w : Walk) (r : Asked) (list : List ℕ) : Type 0 where
   pub says : AskSaid w r list
 

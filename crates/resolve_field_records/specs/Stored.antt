@@ -41,6 +41,7 @@ pub record Resolvable (buffer : List ℕ) (len width root i : ℕ) : Type 0 wher
 abbrev pub AllResolvable : List ℕ → ℕ → ℕ → ℕ → ℕ → Type 0
 AllResolvable buffer len width root n = (i : ℕ) → i < n → Resolvable buffer len width root i
 
+-- how many records an answer stores: those that it counts, none in a refusal
 abbrev pub storedCount : FieldsAnswer → ℕ
 storedCount (fields.Done n) = n
 storedCount (fields.NotFound b) = 0

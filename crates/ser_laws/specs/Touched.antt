@@ -84,11 +84,13 @@ endAt c at = recordBy (λ r next. upto next []) (stepAt (c .tape) (at .at))
 
 -- ---- a map: each key's value is at its field's place
 
+-- the ranges of a key's value, by what its field's look-up came to: at the field's place, or no write is accepted
 unfoldable pub fieldTouched : Child → Cursor → ℕ → FieldAnswer → Touched
 fieldTouched child at from (answer.Field f) = child (whole (f .resolved)) at (from + f .offset) (f .size)
 fieldTouched child at from (answer.Lacks b) = nowhere
 fieldTouched child at from answer.TooLong = nowhere
 
+-- the same by the field of the key's name, where there is one
 unfoldable pub foundTouched : Child → Ctx → Cursor → ℕ → Found → Touched
 foundTouched child c at from (found.At f) = fieldTouched child at from (resolveField (c .book) (c .width) f)
 foundTouched child c at from found.Nothing = nowhere
@@ -129,6 +131,7 @@ valueTouched child c t at from size r next =
     cond (eqb (r .kind) 1) (arrayTouched child c t at from (lookUp (c .book) (c .width) t))
     (cond (eqb (r .kind) 3) (keysTouched child c t (r .a) next from) (upto next (record { from = from; size = size } ∷ [])))
 
+-- the ranges of what some bytes hold: of a value by its record, of a further dimension by its elements
 unfoldable pub itemTouched : Child → Ctx → Child
 itemTouched child c (whole t) at from size = recordBy (valueTouched child c t at from size) (stepAt (c .tape) (at .at))
 itemTouched child c (further d t e) at from size = dimensionTouched child c d t e at from
