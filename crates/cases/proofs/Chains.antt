@@ -30,7 +30,7 @@ use Rattle.resolvers.specs.Resolve.{resolveAlias}
 use Rattle.resolvers.specs.Calls.{resolutionNumbers, resolution}
 use Rattle.resolvers.specs.declared.Resolved.{Resolved}
 use Rattle.resolvers.specs.declared.Resolved.the-variants.{Base, Lacks, TooLong}
-use Rattle.cases.specs.Blocks.{block, sumOf}
+use Rattle.cases.specs.Blocks.{block}
 use Rattle.cases.specs.Rows.{link, chain, aliases, aliasRow}
 
 -- a book that passes 1 to 4 part by part, and whose block 0 is a type: the answer is what the chain comes to
@@ -69,27 +69,27 @@ module _ (b : List ℕ) (h : allFrom (linked b) 0 (blocks b) ≡ true) where
       by n l true = all-of (isOther b (nameOf b n)) n (λ m g. other n m l g)
 
 hops-31-size : sizeRight (length (chain 31)) (length (chain 31)) ≡ true
-unfolding aliases block sumOf enc-number-le.leValue enc-number-le.leBytes type-book-check-check.sizeRight
+unfolding aliases block type-block-form-form.sumOf enc-number-le.leValue enc-number-le.leBytes type-book-check-check.sizeRight
 hops-31-size = refl
 
 hops-31-sums : sums (chain 31) ≡ true
-unfolding aliases block sumOf enc-number-le.leValue enc-number-le.leBytes type-block-form-form.sumOf type-block-form-form.sumRight type-book-check-check.sumAt type-doubles-doubles.allFrom
+unfolding aliases block type-block-form-form.sumOf enc-number-le.leValue enc-number-le.leBytes type-block-form-form.sumRight type-book-check-check.sumAt type-doubles-doubles.allFrom
 hops-31-sums = refl
 
 hops-31-placed : allInPlace (chain 31) ≡ true
-unfolding aliases block sumOf enc-number-le.leValue enc-number-le.leBytes type-book-check-check.placeOf type-book-check-check.placesOnward type-book-check-check.placedFrom type-block-form-form.sumOf type-block-form-form.sumRight type-block-form-form.every type-block-form-form.unusedZero type-block-form-form.nameForm type-block-form-form.namesForm type-block-form-form.flagsForm type-block-form-form.typeForm type-block-form-form.fieldForm type-block-form-form.entryForm
+unfolding aliases block type-block-form-form.sumOf enc-number-le.leValue enc-number-le.leBytes type-book-check-check.placeOf type-book-check-check.placesOnward type-book-check-check.placedFrom type-block-form-form.sumRight type-block-form-form.every type-block-form-form.unusedZero type-block-form-form.nameForm type-block-form-form.namesForm type-block-form-form.flagsForm type-block-form-form.typeForm type-block-form-form.fieldForm type-block-form-form.entryForm
 hops-31-placed = refl
 
 hops-31-names : allFrom (linked (chain 31)) 0 (blocks (chain 31)) ≡ true
-unfolding aliases block sumOf enc-number-le.leValue enc-number-le.leBytes type-doubles-doubles.allFrom type-book-book.sameName type-book-book.isNamed
+unfolding aliases block type-block-form-form.sumOf enc-number-le.leValue enc-number-le.leBytes type-doubles-doubles.allFrom type-book-book.sameName type-book-book.isNamed
 hops-31-names = refl
 
 hops-31-root : rootOf (chain 31) 0 ≡ root.Root 0
-unfolding aliases block sumOf enc-number-le.leValue enc-number-le.leBytes type-book-check-check.rootOf
+unfolding aliases block type-block-form-form.sumOf enc-number-le.leValue enc-number-le.leBytes type-book-check-check.rootOf
 hops-31-root = refl
 
 hops-31-goes : resolveAlias (chain 31) 8 0 ≡ Base 31
-unfolding aliases block sumOf enc-number-le.leValue enc-number-le.leBytes type-id-typeid.idOf type-names-text.isOneOf type-names-text.startsWith type-names-text.contains type-names-names.isPointerName type-names-names.isSubRangeName type-names-names.isPrimitiveName type-category-category.isPointer type-category-category.isReference type-category-category.isAlias type-category-category.orElse type-category-category.isUnion type-category-category.methodsCategory type-category-category.fieldsCategory type-category-category.isEmptyStruct type-category-category.bareCategory type-category-category.sizeCategory type-category-category.complexCategory type-category-category.simpleCategory type-category-category.categoryOf type-category-number.categoryNumbers type-category-number.categoryAt type-provider-find.findFrom type-provider-find.find resolvers-resolve.resolvedNumbers resolvers-resolve.isFollowed resolvers-resolve.chainOnward resolvers-resolve.follow resolvers-resolve.lookUp type-book-book.sameName type-book-book.isNamed
+unfolding aliases block type-block-form-form.sumOf enc-number-le.leValue enc-number-le.leBytes type-id-typeid.idOf type-names-text.isOneOf type-names-text.startsWith type-names-text.contains type-names-names.isPointerName type-names-names.isSubRangeName type-names-names.isPrimitiveName type-category-category.isPointer type-category-category.isReference type-category-category.isAlias type-category-category.orElse type-category-category.isUnion type-category-category.methodsCategory type-category-category.fieldsCategory type-category-category.isEmptyStruct type-category-category.bareCategory type-category-category.sizeCategory type-category-category.complexCategory type-category-category.simpleCategory type-category-category.categoryOf type-category-number.categoryNumbers type-category-number.categoryAt type-provider-find.findFrom type-provider-find.find resolvers-resolve.resolvedNumbers resolvers-resolve.isFollowed resolvers-resolve.chainOnward resolvers-resolve.follow resolvers-resolve.lookUp type-book-book.sameName type-book-book.isNamed
 hops-31-goes = refl
 
 pub hops-31 : _≡_ {A = List ℕ} (aliasRow (chain 31)) (0 ∷ 31 ∷ [])
@@ -97,27 +97,27 @@ unfolding resolvers-calls.resolutionNumbers resolvers-calls.resolution resolvers
 hops-31 = by-parts (chain 31) (Base 31) hops-31-size hops-31-sums hops-31-placed (links-distinct (chain 31) hops-31-names) hops-31-root hops-31-goes
 
 hops-32-size : sizeRight (length (chain 32)) (length (chain 32)) ≡ true
-unfolding aliases block sumOf enc-number-le.leValue enc-number-le.leBytes type-book-check-check.sizeRight
+unfolding aliases block type-block-form-form.sumOf enc-number-le.leValue enc-number-le.leBytes type-book-check-check.sizeRight
 hops-32-size = refl
 
 hops-32-sums : sums (chain 32) ≡ true
-unfolding aliases block sumOf enc-number-le.leValue enc-number-le.leBytes type-block-form-form.sumOf type-block-form-form.sumRight type-book-check-check.sumAt type-doubles-doubles.allFrom
+unfolding aliases block type-block-form-form.sumOf enc-number-le.leValue enc-number-le.leBytes type-block-form-form.sumRight type-book-check-check.sumAt type-doubles-doubles.allFrom
 hops-32-sums = refl
 
 hops-32-placed : allInPlace (chain 32) ≡ true
-unfolding aliases block sumOf enc-number-le.leValue enc-number-le.leBytes type-book-check-check.placeOf type-book-check-check.placesOnward type-book-check-check.placedFrom type-block-form-form.sumOf type-block-form-form.sumRight type-block-form-form.every type-block-form-form.unusedZero type-block-form-form.nameForm type-block-form-form.namesForm type-block-form-form.flagsForm type-block-form-form.typeForm type-block-form-form.fieldForm type-block-form-form.entryForm
+unfolding aliases block type-block-form-form.sumOf enc-number-le.leValue enc-number-le.leBytes type-book-check-check.placeOf type-book-check-check.placesOnward type-book-check-check.placedFrom type-block-form-form.sumRight type-block-form-form.every type-block-form-form.unusedZero type-block-form-form.nameForm type-block-form-form.namesForm type-block-form-form.flagsForm type-block-form-form.typeForm type-block-form-form.fieldForm type-block-form-form.entryForm
 hops-32-placed = refl
 
 hops-32-names : allFrom (linked (chain 32)) 0 (blocks (chain 32)) ≡ true
-unfolding aliases block sumOf enc-number-le.leValue enc-number-le.leBytes type-doubles-doubles.allFrom type-book-book.sameName type-book-book.isNamed
+unfolding aliases block type-block-form-form.sumOf enc-number-le.leValue enc-number-le.leBytes type-doubles-doubles.allFrom type-book-book.sameName type-book-book.isNamed
 hops-32-names = refl
 
 hops-32-root : rootOf (chain 32) 0 ≡ root.Root 0
-unfolding aliases block sumOf enc-number-le.leValue enc-number-le.leBytes type-book-check-check.rootOf
+unfolding aliases block type-block-form-form.sumOf enc-number-le.leValue enc-number-le.leBytes type-book-check-check.rootOf
 hops-32-root = refl
 
 hops-32-goes : resolveAlias (chain 32) 8 0 ≡ TooLong
-unfolding aliases block sumOf enc-number-le.leValue enc-number-le.leBytes type-id-typeid.idOf type-names-text.isOneOf type-names-text.startsWith type-names-text.contains type-names-names.isPointerName type-names-names.isSubRangeName type-names-names.isPrimitiveName type-category-category.isPointer type-category-category.isReference type-category-category.isAlias type-category-category.orElse type-category-category.isUnion type-category-category.methodsCategory type-category-category.fieldsCategory type-category-category.isEmptyStruct type-category-category.bareCategory type-category-category.sizeCategory type-category-category.complexCategory type-category-category.simpleCategory type-category-category.categoryOf type-category-number.categoryNumbers type-category-number.categoryAt type-provider-find.findFrom type-provider-find.find resolvers-resolve.resolvedNumbers resolvers-resolve.isFollowed resolvers-resolve.chainOnward resolvers-resolve.follow resolvers-resolve.lookUp type-book-book.sameName type-book-book.isNamed
+unfolding aliases block type-block-form-form.sumOf enc-number-le.leValue enc-number-le.leBytes type-id-typeid.idOf type-names-text.isOneOf type-names-text.startsWith type-names-text.contains type-names-names.isPointerName type-names-names.isSubRangeName type-names-names.isPrimitiveName type-category-category.isPointer type-category-category.isReference type-category-category.isAlias type-category-category.orElse type-category-category.isUnion type-category-category.methodsCategory type-category-category.fieldsCategory type-category-category.isEmptyStruct type-category-category.bareCategory type-category-category.sizeCategory type-category-category.complexCategory type-category-category.simpleCategory type-category-category.categoryOf type-category-number.categoryNumbers type-category-number.categoryAt type-provider-find.findFrom type-provider-find.find resolvers-resolve.resolvedNumbers resolvers-resolve.isFollowed resolvers-resolve.chainOnward resolvers-resolve.follow resolvers-resolve.lookUp type-book-book.sameName type-book-book.isNamed
 hops-32-goes = refl
 
 pub hops-32 : _≡_ {A = List ℕ} (aliasRow (chain 32)) (8 ∷ [])
@@ -125,27 +125,27 @@ unfolding resolvers-calls.resolutionNumbers resolvers-calls.resolution resolvers
 hops-32 = by-parts (chain 32) (TooLong) hops-32-size hops-32-sums hops-32-placed (links-distinct (chain 32) hops-32-names) hops-32-root hops-32-goes
 
 target-missing-size : sizeRight (length (aliases 0 32)) (length (aliases 0 32)) ≡ true
-unfolding aliases block sumOf enc-number-le.leValue enc-number-le.leBytes type-book-check-check.sizeRight
+unfolding aliases block type-block-form-form.sumOf enc-number-le.leValue enc-number-le.leBytes type-book-check-check.sizeRight
 target-missing-size = refl
 
 target-missing-sums : sums (aliases 0 32) ≡ true
-unfolding aliases block sumOf enc-number-le.leValue enc-number-le.leBytes type-block-form-form.sumOf type-block-form-form.sumRight type-book-check-check.sumAt type-doubles-doubles.allFrom
+unfolding aliases block type-block-form-form.sumOf enc-number-le.leValue enc-number-le.leBytes type-block-form-form.sumRight type-book-check-check.sumAt type-doubles-doubles.allFrom
 target-missing-sums = refl
 
 target-missing-placed : allInPlace (aliases 0 32) ≡ true
-unfolding aliases block sumOf enc-number-le.leValue enc-number-le.leBytes type-book-check-check.placeOf type-book-check-check.placesOnward type-book-check-check.placedFrom type-block-form-form.sumOf type-block-form-form.sumRight type-block-form-form.every type-block-form-form.unusedZero type-block-form-form.nameForm type-block-form-form.namesForm type-block-form-form.flagsForm type-block-form-form.typeForm type-block-form-form.fieldForm type-block-form-form.entryForm
+unfolding aliases block type-block-form-form.sumOf enc-number-le.leValue enc-number-le.leBytes type-book-check-check.placeOf type-book-check-check.placesOnward type-book-check-check.placedFrom type-block-form-form.sumRight type-block-form-form.every type-block-form-form.unusedZero type-block-form-form.nameForm type-block-form-form.namesForm type-block-form-form.flagsForm type-block-form-form.typeForm type-block-form-form.fieldForm type-block-form-form.entryForm
 target-missing-placed = refl
 
 target-missing-names : allFrom (linked (aliases 0 32)) 0 (blocks (aliases 0 32)) ≡ true
-unfolding aliases block sumOf enc-number-le.leValue enc-number-le.leBytes type-doubles-doubles.allFrom type-book-book.sameName type-book-book.isNamed
+unfolding aliases block type-block-form-form.sumOf enc-number-le.leValue enc-number-le.leBytes type-doubles-doubles.allFrom type-book-book.sameName type-book-book.isNamed
 target-missing-names = refl
 
 target-missing-root : rootOf (aliases 0 32) 0 ≡ root.Root 0
-unfolding aliases block sumOf enc-number-le.leValue enc-number-le.leBytes type-book-check-check.rootOf
+unfolding aliases block type-block-form-form.sumOf enc-number-le.leValue enc-number-le.leBytes type-book-check-check.rootOf
 target-missing-root = refl
 
 target-missing-goes : resolveAlias (aliases 0 32) 8 0 ≡ Lacks 31
-unfolding aliases block sumOf enc-number-le.leValue enc-number-le.leBytes type-id-typeid.idOf type-names-text.isOneOf type-names-text.startsWith type-names-text.contains type-names-names.isPointerName type-names-names.isSubRangeName type-names-names.isPrimitiveName type-category-category.isPointer type-category-category.isReference type-category-category.isAlias type-category-category.orElse type-category-category.isUnion type-category-category.methodsCategory type-category-category.fieldsCategory type-category-category.isEmptyStruct type-category-category.bareCategory type-category-category.sizeCategory type-category-category.complexCategory type-category-category.simpleCategory type-category-category.categoryOf type-category-number.categoryNumbers type-category-number.categoryAt type-provider-find.findFrom type-provider-find.find resolvers-resolve.resolvedNumbers resolvers-resolve.isFollowed resolvers-resolve.chainOnward resolvers-resolve.follow resolvers-resolve.lookUp type-book-book.sameName type-book-book.isNamed
+unfolding aliases block type-block-form-form.sumOf enc-number-le.leValue enc-number-le.leBytes type-id-typeid.idOf type-names-text.isOneOf type-names-text.startsWith type-names-text.contains type-names-names.isPointerName type-names-names.isSubRangeName type-names-names.isPrimitiveName type-category-category.isPointer type-category-category.isReference type-category-category.isAlias type-category-category.orElse type-category-category.isUnion type-category-category.methodsCategory type-category-category.fieldsCategory type-category-category.isEmptyStruct type-category-category.bareCategory type-category-category.sizeCategory type-category-category.complexCategory type-category-category.simpleCategory type-category-category.categoryOf type-category-number.categoryNumbers type-category-number.categoryAt type-provider-find.findFrom type-provider-find.find resolvers-resolve.resolvedNumbers resolvers-resolve.isFollowed resolvers-resolve.chainOnward resolvers-resolve.follow resolvers-resolve.lookUp type-book-book.sameName type-book-book.isNamed
 target-missing-goes = refl
 
 pub target-missing : _≡_ {A = List ℕ} (aliasRow (aliases 0 32)) (7 ∷ 31 ∷ [])

@@ -1,17 +1,13 @@
 -- Blocks of a type book, made from what they say (document 01, "The type book"). Assumes nothing.
 use mathlib.Core.List.{List, [], _∷_, _++_}
-use Prim.Native.Nat.{ℕ, _+_, _-_}
+use Prim.Native.Nat.{ℕ, _-_}
 use lib.ListN.{length, replicate}
 use Rattle.enc_number.specs.Le.{leBytes}
+use Rattle.type_block_form.specs.Form.{sumOf}
 
 -- bytes, filled up with zeros
 abbrev pub filledUp : ℕ → List ℕ → List ℕ
 filledUp n bytes = bytes ++ replicate (n - length bytes) 0
-
--- the sum of a list of bytes
-unfoldable pub sumOf : List ℕ → ℕ
-sumOf [] = 0
-sumOf (b ∷ bs) = b + sumOf bs
 
 -- a block's bytes with their sum after them
 abbrev pub summed : List ℕ → List ℕ

@@ -19,7 +19,9 @@ use Rattle.resolve_field_types.specs.Fields as fields
 use Rattle.ser_named_blocks.specs.Named as named
 use Rattle.tape.specs.Record as tape-record
 use Rattle.tape.specs.Text as tape-text
-use Rattle.cases.specs.Blocks.{block, sumOf}
+use Rattle.type_block_form.specs.Form.{sumOf}
+use Rattle.cases.specs.Blocks.{block}
+use Rattle.cases.specs.Rows.{zhe}
 use Rattle.tape_array_elements.specs.Element as element
 use Rattle.ser_leaf.specs.Leaf as leaf
 use Rattle.ser.specs.Write.{ctx, went, refused}
@@ -28,7 +30,7 @@ use Rattle.tape_form.specs.Ranges as ranges
 use Rattle.tape_form.specs.Form as form
 use Rattle.ser.specs.Call.{rootWrite, bookWrite}
 use Rattle.ser.specs.Call as call
-use Rattle.cases_writer.specs.Example.{book, one, none, image, zhe, short, wide}
+use Rattle.cases_writer.specs.Example.{book, one, none, image, short, wide}
 
 -- U+0416 is `&#1046;` and a zero: it fits 8 bytes
 fits-eight : leaf.textBy 30 zhe (replicate 8 0xee) ≡ leaf.holds (0x26 ∷ 0x23 ∷ 0x31 ∷ 0x30 ∷ 0x34 ∷ 0x36 ∷ 0x3b ∷ 0x00 ∷ [])

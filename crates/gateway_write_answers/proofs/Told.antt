@@ -18,14 +18,14 @@ use Rattle.type_book_check.specs.declared.BookCheck.the-variants as checked-boo
 use Rattle.type_book_check.specs.declared.RootCheck.{RootCheck}
 use Rattle.type_book_check.specs.declared.RootCheck.the-variants.{Root, Refused}
 use Rattle.type_book_check.proofs.Roots.{at-each}
-use Rattle.resolvers.specs.Resolve.{resolveAlias, lookUp}
+use Rattle.resolvers.specs.Resolve.{resolveAlias, lookUp, resolvedNumbers}
 use Rattle.resolvers.specs.declared.Resolved.{Resolved}
 use Rattle.resolvers.specs.declared.Resolved.the-variants as resolved
 use Rattle.resolve_field_types.specs.declared.FieldsCheck.{FieldsCheck}
 use Rattle.resolve_field_types.specs.declared.FieldsCheck.the-variants as check
 use Rattle.resolve_field_types.specs.declared.FieldAnswer.{FieldAnswer}
 use Rattle.resolve_field_types.specs.declared.FieldAnswer.the-variants as answer
-use Rattle.resolve_field_types.specs.Fields.{fieldsCheck, resolveField}
+use Rattle.resolve_field_types.specs.Fields.{fieldsCheck, resolveField, fieldNumbers, checkNumbers}
 use Rattle.tape_shape.specs.declared.Shape.{Shape}
 use Rattle.tape_shape.specs.declared.Shape.the-variants as shape
 use Rattle.tape_shape.specs.Value.{shapeOf}
@@ -166,7 +166,7 @@ mild-fine next bytes (leaf.refused n) p = fine-refused n 0 bytes (p .each n refl
 -- ---- the walk
 
 checked-fine : (f : FieldsCheck) (bytes : List ℕ) (o : Outcome) → Fine o → Fine (checked f bytes o)
-unfolding checked
+unfolding checked checkNumbers
 checked-fine check.Fine bytes o p = p
 checked-fine (check.Lacks b) bytes o p = fine-refused 7 b bytes is-7
 checked-fine check.TooLong bytes o p = fine-refused 8 0 bytes is-8
@@ -179,7 +179,7 @@ module _ (book : List ℕ) (width : ℕ) (tape text : List ℕ) where
 
   module _ (child : Child) (ih : (i : Content ℕ) (at : Cursor) (bytes : List ℕ) → Fine (child i at bytes)) where
     field-fine : (at : Cursor) (bytes : List ℕ) (f : FieldAnswer) → Fine (fieldValue child at bytes f)
-    unfolding fieldValue
+    unfolding fieldValue fieldNumbers
     field-fine at bytes (answer.Field f) =
         fine-cond (leb (f .offset + f .size) (length bytes)) _ _ (fine-placed _ _ bytes _ (ih (whole (f .resolved)) at _)) (fine-refused 10 0 bytes is-10)
     field-fine at bytes (answer.Lacks b) = fine-refused 7 b bytes is-7
@@ -237,7 +237,7 @@ module _ (book : List ℕ) (width : ℕ) (tape text : List ℕ) where
     entered-cond t at bytes false x p = fine-refused 10 0 bytes is-10
 
     element-fine : (t : ℕ) (at : Cursor) (bytes : List ℕ) (r : Resolved) → Fine (arrayBy child c t at bytes (elementType book t (length bytes) r))
-    unfolding elementType arrayBy
+    unfolding elementType arrayBy resolvedNumbers
     element-fine t at bytes (resolved.Base e) = entered-cond t at bytes (eqb (arrayBytes book t e) (length bytes)) _ (dimension-fine 0 t e at bytes)
     element-fine t at bytes (resolved.Lacks b) = fine-refused 7 b bytes is-7
     element-fine t at bytes resolved.TooLong = fine-refused 8 0 bytes is-8
@@ -270,7 +270,7 @@ module _ (book : List ℕ) (width : ℕ) (tape text : List ℕ) where
   walk-fine (suc left) i at bytes = item-fine (walk c left) (walk-fine left) i at bytes
 
   root-by : (image : List ℕ) (r : Resolved) → Fine (rootBy c image r)
-  unfolding rootBy typeWrite
+  unfolding rootBy typeWrite resolvedNumbers
   root-by image (resolved.Base t) = walk-fine 64 (whole t) (record { at = 0 }) image
   root-by image (resolved.Lacks b) = fine-refused 7 b image is-7
   root-by image resolved.TooLong = fine-refused 8 0 image is-8

@@ -13,6 +13,7 @@ use Rattle.type_book_check.specs.Check.{bookNumbers, rootNumbers}
 use Rattle.type_cache.specs.Append.{orNext}
 use Rattle.enc_number.specs.Answer.{refusalOf}
 use Rattle.resolvers.specs.declared.Resolved.the-variants.{Base, Lacks, TooLong}
+use Rattle.resolvers.specs.Resolve.{resolvedNumbers}
 use Rattle.type_book_check.specs.Check.{atRoot}
 use Rattle.resolve_walk.specs.Walk.{Walk, over, full, met}
 use Rattle.resolve_walk.specs.Reads.{listed}
@@ -51,7 +52,7 @@ same-number : (m n : ℕ) → rmw.Refused m ≡ rmw.Refused n → m ≡ n
 same-number m n e = cc
 
 numbered : (book : List ℕ) (width : ℕ) (w : Walk) (n : ℕ) → rmwOf book width w ≡ rmw.Refused n → n ≡ 0 → ⊥
-unfolding rmwOf
+unfolding rmwOf resolvedNumbers
 numbered book width over n e z = apart-no n e
 numbered book width (full b x) n e z = let q : 9 ≡ n = same-number 9 n e in omega arith
 numbered book width (met b x (Base t) w) n e z = by (keepsState (categoryOf book width t)) (λ q. numbered book width w n q z) e

@@ -9,9 +9,7 @@ use lib.ListN.{length, take, drop}
 use lib.Seq.{take-append-seam}
 use lib.Dec.{eqb}
 use Rattle.enc_number.specs.Answer.{refusalOf}
-use Rattle.type_book_check.proofs.Numbers.{valid-number, size-number, sum-number, form-number, doubled-number}
 use Rattle.type_book_check.specs.declared.BookCheck.{BookCheck}
-use Rattle.type_book_check.specs.declared.BookCheck.the-variants.{Valid, Size, Sum, Form, Doubled}
 use Rattle.type_book_check.specs.Check.{checkBook, bookNumbers}
 use Rattle.resolve_walk.specs.Walk.{Walk, walkOf}
 use Rattle.resolve_walk.specs.Reads.{count, listed, whole}
@@ -30,6 +28,7 @@ use Rattle.plan_adds.specs.State.{addedSaid}
 use Rattle.plan_save.specs.declared.Plan.the-variants as plan
 use Rattle.plan_save.specs.declared.Asked.the-variants.{Lists, NotWhole}
 use Rattle.plan_save.specs.declared.Round.the-variants as round
+use Rattle.resolvers.proofs.Numbers.{long-numbers}
 use Rattle.plan_save.specs.Rounds.{ruled, nextRound, notWhole}
 use Rattle.plan_save.specs.State.{AskedIs, planSaid, roundSaid, DecidedIs, AfterAdds}
 
@@ -76,7 +75,7 @@ module _ (book : List ℕ) (width root : ℕ) (sc list : List ℕ) (r : Missing)
       ask-names g = let q : count w ≡ 4097 = sym same-count ∙ g in record { says = (sym same-mark ∙ h, rw q) }
 
       pub ask-chain : (k ≡ 4097 → ⊥) → AskedIs w (NotWhole 8) list′
-      ask-chain g = record { says = (sym same-mark ∙ h, rw (ne-eqb (count w) 4097 (λ q. g (same-count ∙ q)))) }
+      ask-chain g = record { says = (sym same-mark ∙ h, rw (ne-eqb (count w) 4097 (λ q. g (same-count ∙ q)), long-numbers)) }
 
   -- an ask of a checked book is not refused
   pub ask-never : (k : ℕ) → r ≡ missing.Refused k → AskedIs w (NotWhole k) list′
@@ -118,18 +117,6 @@ module _ (a : Added) where
   adds-full l h = record { is = λ go buffer. rw h; same = λ m e. absurd (let z : _≡_ {A = ℕ} 0 1 = cc in omega arith) }
 
 -- ---- the controller's book
-module _ (controller : List ℕ) (len : ℕ) (k : BookCheck) (e : k ≡ checkBook controller len) where
-  pub their-valid : k ≡ Valid → 0 ≡ refusalOf (bookNumbers (checkBook controller len))
-  their-valid h = rw (← e) (valid-number k h)
-
-  pub their-size : k ≡ Size → 1 ≡ refusalOf (bookNumbers (checkBook controller len))
-  their-size h = rw (← e) (size-number k h)
-
-  pub their-sum : k ≡ Sum → 2 ≡ refusalOf (bookNumbers (checkBook controller len))
-  their-sum h = rw (← e) (sum-number k h)
-
-  pub their-form : k ≡ Form → 3 ≡ refusalOf (bookNumbers (checkBook controller len))
-  their-form h = rw (← e) (form-number k h)
-
-  pub their-names : k ≡ Doubled → 4 ≡ refusalOf (bookNumbers (checkBook controller len))
-  their-names h = rw (← e) (doubled-number k h)
+pub their-number : (controller : List ℕ) (len : ℕ) (k : BookCheck) → bookNumbers k ≡ bookNumbers (checkBook controller len) → (n : ℕ) → n ≡ refusalOf (bookNumbers k)
+    → n ≡ refusalOf (bookNumbers (checkBook controller len))
+their-number controller len k e n q = q ∙ ap refusalOf e

@@ -4,7 +4,10 @@ use mathlib.Core.Bool.{Bool, true, false, cond}
 use mathlib.Core.List.{List, [], _∷_}
 use Prim.Native.Nat.{ℕ, zero, suc}
 use lib.Dec.{eqb, ltb}
+use Rattle.enc_number.specs.Answer.{refusalOf}
 use Rattle.type_book.specs.Book.{blocks}
+use Rattle.resolvers.specs.declared.Resolved.the-variants.{TooLong}
+use Rattle.resolvers.specs.Resolve.{resolvedNumbers}
 use Rattle.resolve_walk.specs.Walk.{Walk}
 use Rattle.resolve_walk.specs.Reads.{count, listed, whole}
 use Rattle.resolve_read_modify_write.specs.declared.Rmw.{Rmw}
@@ -38,9 +41,9 @@ unfoldable pub closing : (Ours → Decision) → List ℕ → ℕ → ℕ → Wa
 closing go c width i w s [] = ruled (rmwOf (bookOf s) width w) s
 closing go c width i w s (b ∷ bs) = nextRound go (addAll c width i (b ∷ bs) s)
 
--- an ask that is not whole: 9 for a name too many, else 8
+-- an ask that is not whole: 9 for a name too many, else the number of a chain that is too long
 abbrev pub notWhole : Walk → ℕ
-notWhole w = cond (eqb (count w) 4097) 9 8
+notWhole w = cond (eqb (count w) 4097) 9 (refusalOf (resolvedNumbers TooLong))
 
 -- one round, by its ask
 unfoldable pub roundOf : (Ours → Decision) → List ℕ → ℕ → ℕ → Walk → Ours → Decision

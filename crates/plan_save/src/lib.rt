@@ -25,10 +25,10 @@ use resolve_missing_types::Missing;
 use resolve_read_modify_write::Rmw;
 use resolve_walk::scratch_fits;
 use type_book::block;
-use type_book_check::BookCheck;
 use type_book_check::RootCheck;
 use type_book_check::check_book;
 use type_book_check::check_root;
+use type_book_check::refusal_of;
 use type_index::fill_names;
 
 // The rounds at most, so also the asks. They suffice, whatever the books hold (the law `plan-few` of plan_decides).
@@ -308,14 +308,7 @@ fn plan_clean(
 fn their_refusal(controller: &[u8], len: usize) -> u8
     ensures { λ r. ⌜ r ≡ refusalOf (bookNumbers (checkBook (now (controller .entry)) len)) ⌝ }
 {
-    let check = check_book(controller, len);
-    match check {
-        BookCheck::Valid => 0,
-        BookCheck::Size => 1,
-        BookCheck::Sum => 2,
-        BookCheck::Form => 3,
-        BookCheck::Doubled => 4,
-    }
+    refusal_of(check_book(controller, len))
 }
 
 // The plan for type block `root` of our valid book.

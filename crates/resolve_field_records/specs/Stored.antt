@@ -58,6 +58,6 @@ storedAt buffer len width root (fields.NotFound b) before = before
 storedAt buffer len width root (fields.Refused n) before = before
 
 -- what is answered, and what the lent slice of records holds then
-pub record Filled (buffer : List ℕ) (len width root : ℕ) (before : List ResolvedField) (r : FieldsAnswer) (after : List ResolvedField) : Type 0 where
+pub record StoredIs (buffer : List ℕ) (len width root : ℕ) (before : List ResolvedField) (r : FieldsAnswer) (after : List ResolvedField) : Type 0 where
   pub is : fieldsNumbers r ≡ fieldsNumbers (rootFields buffer len width root (length before))
   pub records : after ≡ storedAt buffer len width root (rootFields buffer len width root (length before)) before

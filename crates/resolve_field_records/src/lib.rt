@@ -4,7 +4,7 @@
 ghost use mathlib.Core.Path.{_≡_};
 ghost use Prim.Native.Nat.{_≤_};
 ghost use lib.ListN.{length};
-ghost use Rattle.resolve_field_records.specs.Stored.{Resolvable, AllResolvable, storedCount, resolvedRecord, recordAt, filledAt, Filled};
+ghost use Rattle.resolve_field_records.specs.Stored.{Resolvable, AllResolvable, storedCount, resolvedRecord, recordAt, filledAt, StoredIs};
 use resolve_field_types::FieldAnswer;
 use resolve_field_types::FieldsAnswer;
 use resolve_field_types::check_fields;
@@ -109,7 +109,7 @@ pub fn resolve_fields(
     root: u64,
     records: &mut [ResolvedField],
 ) -> FieldsAnswer
-    ensures { λ r. ⌜ Filled (now (buffer .entry)) len width root (now (records .entry)) r (now (records .exit)) ⌝ }
+    ensures { λ r. ⌜ StoredIs (now (buffer .entry)) len width root (now (records .entry)) r (now (records .exit)) ⌝ }
 {
     let index = index_of(buffer, len);
     let names: &[u32] = &index;

@@ -6,7 +6,8 @@ use mathlib.Core.List.{List, _++_}
 use Prim.Native.Nat.{ℕ, _+_, _-_, _≤_, _<_}
 use lib.ListN.{length, take, drop, set}
 use Rattle.resolve_walk_events.specs.declared.Event.{Event}
-use Rattle.resolve_walk_events.specs.declared.Event.the-variants.{Old, Lacking, New, Long, Full}
+use Rattle.resolve_walk_events.specs.declared.Event.the-variants.{Old, New, Full}
+use Rattle.resolve_walk_events.specs.declared.Event.the-variants as event
 use Rattle.resolve_walk.specs.Walk.{Walk}
 use Rattle.resolve_walk.specs.Reads.{count, listed, whole}
 use Rattle.resolve_walk.specs.State.{LeftToWalk, After, work, Falls, IsDue}
@@ -67,7 +68,7 @@ pub record Pending (book : List ℕ) (width : ℕ) (all : Walk) (list₀ sc list
 -- the measure of the loop: the event, and what is left to do after it
 unfoldable pub pend : List ℕ → ℕ → Event → ℕ
 pend sc left (Old d) = 1 + work sc left d
-pend sc left (Lacking c d) = 1 + work sc (left - 1) d
+pend sc left (event.Lacks c d) = 1 + work sc (left - 1) d
 pend sc left (New t d c) = 1 + work sc (left - 1) d
-pend sc left (Long d) = 1 + work sc (left - 1) d
+pend sc left (event.TooLong d) = 1 + work sc (left - 1) d
 pend sc left Full = 0

@@ -54,11 +54,11 @@ fn apply(e: Event, list: &mut [u32], left: usize, n: usize, ok: bool) -> Turn
             let rest = left - 1;
             Turn::More(rest, d, n, ok)
         }
-        Event::Lacking(b, d) => {
+        Event::Lacks(b, d) => {
             let rest = left - 1;
             Turn::More(rest, d, list_block(list, n, b), ok)
         }
-        Event::Long(d) => {
+        Event::TooLong(d) => {
             let rest = left - 1;
             Turn::More(rest, d, n, false)
         }

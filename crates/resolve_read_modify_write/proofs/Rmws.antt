@@ -7,8 +7,10 @@ use native.Mathlib.Omega.{arith}
 use Rattle.type_category.specs.declared.type_category.AdsTypeCategory.{AdsTypeCategory}
 use Rattle.type_category.specs.Category.{categoryOf}
 use Rattle.resolvers.specs.declared.Resolved.the-variants.{Base, Lacks, TooLong}
+use Rattle.resolvers.proofs.Numbers.{long-numbers}
 use Rattle.resolve_walk_events.specs.declared.Event.{Event}
-use Rattle.resolve_walk_events.specs.declared.Event.the-variants.{Old, Lacking, New, Long, Full}
+use Rattle.resolve_walk_events.specs.declared.Event.the-variants.{Old, New, Full}
+use Rattle.resolve_walk_events.specs.declared.Event.the-variants as event
 use Rattle.resolve_walk.specs.Walk.{Walk, full, met, walkOf}
 use Rattle.resolve_walk.specs.State.{After, Falls, Stepped, Started, work}
 use Rattle.resolve_walk.proofs.States.{over-is}
@@ -37,7 +39,7 @@ module _ (book : List ℕ) (width : ℕ) {w next : Walk} {b : ℕ} {x : List ℕ
 
   rmw-long : w ≡ met b x TooLong next → rmwOf book width w ≡ rmw.Refused 8
   unfolding rmwOf
-  rmw-long e = ap (rmwOf book width) e
+  rmw-long e = ap (rmwOf book width) e ∙ rw long-numbers
 
 rmw-full : (book : List ℕ) (width : ℕ) {w : Walk} {b : ℕ} {x : List ℕ} → w ≡ full b x → rmwOf book width w ≡ rmw.Refused 9
 unfolding rmwOf
@@ -81,19 +83,19 @@ module _ (left : ℕ) {e : Event} where
           falls = λ sc m f. omega (arith, falls-as (New t d c) h sc m f .1);
         }
 
-  pub decide-lacking : (c d : ℕ) → e ≡ Lacking c d → Decided e left (turn.Is (rmw.NotFound c))
+  pub decide-lacking : (c d : ℕ) → e ≡ event.Lacks c d → Decided e left (turn.Is (rmw.NotFound c))
   unfolding loopWork
   decide-lacking c d h =
       record {
-        goes = λ book width all sc w q a. sym (q ∙ rmw-lacking book width (after-as (Lacking c d) h book width sc w a .is));
+        goes = λ book width all sc w q a. sym (q ∙ rmw-lacking book width (after-as (event.Lacks c d) h book width sc w a .is));
         falls = λ sc m f. omega arith;
       }
 
-  pub decide-long : (d : ℕ) → e ≡ Long d → Decided e left (turn.Is (rmw.Refused 8))
+  pub decide-long : (d : ℕ) → e ≡ event.TooLong d → Decided e left (turn.Is (rmw.Refused 8))
   unfolding loopWork
   decide-long d h =
       record {
-        goes = λ book width all sc w q a. sym (q ∙ rmw-long book width (after-as (Long d) h book width sc w a .is));
+        goes = λ book width all sc w q a. sym (q ∙ rmw-long book width (after-as (event.TooLong d) h book width sc w a .is));
         falls = λ sc m f. omega arith;
       }
 

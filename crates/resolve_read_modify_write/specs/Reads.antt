@@ -2,10 +2,12 @@
 use mathlib.Core.Bool.{Bool, true, false, cond}
 use mathlib.Core.List.{List}
 use Prim.Native.Nat.{ℕ}
+use Rattle.enc_number.specs.Answer.{refusalOf}
 use Rattle.type_category.specs.declared.type_category.AdsTypeCategory.{AdsTypeCategory}
 use Rattle.type_category.specs.declared.type_category.AdsTypeCategory.the-variants as category
 use Rattle.type_category.specs.Category.{categoryOf}
 use Rattle.resolvers.specs.declared.Resolved.the-variants.{Base, Lacks, TooLong}
+use Rattle.resolvers.specs.Resolve.{resolvedNumbers}
 use Rattle.resolve_walk.specs.Walk.{Walk, over, full, met}
 use Rattle.resolve_read_modify_write.specs.declared.Rmw.{Rmw}
 use Rattle.resolve_read_modify_write.specs.declared.Rmw.the-variants as rmw
@@ -35,4 +37,4 @@ rmwOf book width over = rmw.No
 rmwOf book width (full b x) = rmw.Refused 9
 rmwOf book width (met b x (Base t) w) = cond (keepsState (categoryOf book width t)) rmw.Yes (rmwOf book width w)
 rmwOf book width (met b x (Lacks c) w) = rmw.NotFound c
-rmwOf book width (met b x TooLong w) = rmw.Refused 8
+rmwOf book width (met b x TooLong w) = rmw.Refused (refusalOf (resolvedNumbers TooLong))

@@ -75,8 +75,8 @@ fn decide(e: Event, left: usize) -> Turn
             }
             Turn::More(left - 1, d)
         }
-        Event::Lacking(b, _) => Turn::Is(Rmw::NotFound(b)),
-        Event::Long(_) => Turn::Is(Rmw::Refused(8)),
+        Event::Lacks(b, _) => Turn::Is(Rmw::NotFound(b)),
+        Event::TooLong(_) => Turn::Is(Rmw::Refused(8)),
         Event::Full => Turn::Is(Rmw::Refused(9)),
     }
 }

@@ -6,7 +6,8 @@ use native.Mathlib.Omega.{arith}
 use Rattle.type_category.specs.declared.type_category.AdsTypeCategory.{AdsTypeCategory}
 use Rattle.resolve_walk_scratch.specs.Scratch.{stackOf}
 use Rattle.resolve_walk_events.specs.declared.Event.{Event}
-use Rattle.resolve_walk_events.specs.declared.Event.the-variants.{Old, Lacking, New, Long, Full}
+use Rattle.resolve_walk_events.specs.declared.Event.the-variants.{Old, New, Full}
+use Rattle.resolve_walk_events.specs.declared.Event.the-variants as event
 use Rattle.resolve_walk.specs.Walk.{Walk, over, walk}
 use Rattle.resolve_walk.specs.State.{LeftToWalk, Falls, Due, IsDue, work, Stepped, Started}
 use Rattle.resolve_walk.proofs.Goes.{walk-none}
@@ -15,9 +16,9 @@ use Rattle.resolve_walk.proofs.Goes.{walk-none}
 
 falls-due : (sc : List ℕ) (left m : ℕ) (e : Event) → Falls sc left m e → Due left e
 falls-due sc left m (Old d) f = tt
-falls-due sc left m (Lacking c d) f = f .0
+falls-due sc left m (event.Lacks c d) f = f .0
 falls-due sc left m (New t d c) f = f .0
-falls-due sc left m (Long d) f = f .0
+falls-due sc left m (event.TooLong d) f = f .0
 falls-due sc left m Full f = f
 
 pub step-due : (book : List ℕ) (width : ℕ) (ls : List ℕ) (left : ℕ) {sc sc′ : List ℕ} {depth : ℕ} {e : Event} → Stepped book width sc ls left depth e sc′ → IsDue left e
@@ -33,11 +34,11 @@ module _ (left : ℕ) {e : Event} (p : IsDue left e) where
   pub due-new : (t d : ℕ) (c : AdsTypeCategory) → e ≡ New t d c → 0 < left
   due-new t d c h = due-as (New t d c) h
 
-  pub due-lacking : (c d : ℕ) → e ≡ Lacking c d → 0 < left
-  due-lacking c d h = due-as (Lacking c d) h
+  pub due-lacking : (c d : ℕ) → e ≡ event.Lacks c d → 0 < left
+  due-lacking c d h = due-as (event.Lacks c d) h
 
-  pub due-long : (d : ℕ) → e ≡ Long d → 0 < left
-  due-long d h = due-as (Long d) h
+  pub due-long : (d : ℕ) → e ≡ event.TooLong d → 0 < left
+  due-long d h = due-as (event.TooLong d) h
 
 -- ---- an empty stack
 

@@ -24,7 +24,8 @@ use Rattle.resolve_walk_scratch.specs.Scratch.{stackOf, markedIn, isPart, names
 use Rattle.resolve_walk_scratch.specs.Parts.{partsOf}
 use Rattle.resolve_walk_events.specs.Events.{settledEvent, Dead, Settled, Settles}
 use Rattle.resolve_walk_events.specs.declared.Event.{Event}
-use Rattle.resolve_walk_events.specs.declared.Event.the-variants.{Old, Lacking, New, Long, Full}
+use Rattle.resolve_walk_events.specs.declared.Event.the-variants.{Old, New, Full}
+use Rattle.resolve_walk_events.specs.declared.Event.the-variants as event
 use Rattle.resolve_walk.specs.Walk.{Walk, met, comesTo, has, push, walk, meet, walkOf}
 use Rattle.resolve_walk.specs.State.{seenBy, turnEvent, newOn, turnOn, stepEvent, stepOn, LeftToWalk, After, work, Falls, Due, Stepped, Started}
 use Rattle.resolve_walk.proofs.Goes.{walk-old, walk-fresh, walk-stop}
@@ -118,7 +119,7 @@ module _ (book : List ℕ) (width : ℕ) (ls : List ℕ) (v : List (List ℕ)) (
   settled-after : (r : Event) (sc′ : List ℕ) → Settled book width sc d t r sc′ → After book width sc′ ls left w r
   unfolding push
   settled-after (Old k) sc′ s = absurd s
-  settled-after (Lacking c k) sc′ s =
+  settled-after (event.Lacks c k) sc′ s =
       record {
         by = b;
         name = y;
@@ -142,7 +143,7 @@ module _ (book : List ℕ) (width : ℕ) (ls : List ℕ) (v : List (List ℕ)) (
           parts = λ c m. ⊎-elim (part-is book width u valid (x .typed) c) (parts c) (List·Memᴰ·append-cases (partsOf book width u) (rw (x .top) at m));
         };
       }
-  settled-after (Long k) sc′ s =
+  settled-after (event.TooLong k) sc′ s =
       record {
         by = b;
         name = y;
@@ -155,9 +156,9 @@ module _ (book : List ℕ) (width : ℕ) (ls : List ℕ) (v : List (List ℕ)) (
 settled-falls : (book : List ℕ) (width : ℕ) (sc : List ℕ) (left d t m : ℕ) → 0 < left → left * 65536 + suc (length (stackOf sc d)) ≤ m → (r : Event) (sc′ : List ℕ) → Settled book width sc d t r sc′ → Falls sc′ left m r
 unfolding work
 settled-falls book width sc left d t m n h (Old k) sc′ s = absurd s
-settled-falls book width sc left d t m n h (Lacking c k) sc′ s = (n, omega (arith, ap length (s .dead .top)))
+settled-falls book width sc left d t m n h (event.Lacks c k) sc′ s = (n, omega (arith, ap length (s .dead .top)))
 settled-falls book width sc left d t m n h (New u k c) sc′ x = (n, omega (arith, x .few))
-settled-falls book width sc left d t m n h (Long k) sc′ s = (n, omega (arith, ap length (s .dead .top)))
+settled-falls book width sc left d t m n h (event.TooLong k) sc′ s = (n, omega (arith, ap length (s .dead .top)))
 settled-falls book width sc left d t m n h Full sc′ s = absurd s
 
 -- ---- a turn
@@ -274,7 +275,7 @@ module _ (book : List ℕ) (width : ℕ) (ls : List ℕ) (left : ℕ) {sc sc′ 
         pub step-full′ : left ≡ 0 → Stepped book width sc ls left depth Full sc′
         step-full′ z = stepped-stop fresh′ z
 
-        pub step-lacking : (left ≡ 0 → ⊥) → Stepped book width sc ls left depth (Lacking (k .block) (k .depth)) sc′
+        pub step-lacking : (left ≡ 0 → ⊥) → Stepped book width sc ls left depth (event.Lacks (k .block) (k .depth)) sc′
         unfolding push chainOnward work turnEvent turnOn newOn settledEvent
         step-lacking n =
             let ey : find book (typeNameOf book (k .block)) ≡ Nothing = sym ef ∙ ft in
@@ -320,9 +321,9 @@ none-seen book sc z y Nothing = refl
 
 settled-due : (book : List ℕ) (width : ℕ) (sc : List ℕ) (d t left : ℕ) → 0 < left → (r : Event) (sc′ : List ℕ) → Settled book width sc d t r sc′ → Due left r
 settled-due book width sc d t left n (Old k) sc′ s = absurd s
-settled-due book width sc d t left n (Lacking c k) sc′ s = n
+settled-due book width sc d t left n (event.Lacks c k) sc′ s = n
 settled-due book width sc d t left n (New u k c) sc′ x = n
-settled-due book width sc d t left n (Long k) sc′ s = n
+settled-due book width sc d t left n (event.TooLong k) sc′ s = n
 settled-due book width sc d t left n Full sc′ s = absurd s
 
 pub start-settled : (book : List ℕ) (width root : ℕ) → ValidBook book → isType book root ≡ true → (sc : List ℕ) {sc′ : List ℕ} {r : Event} → sc ≡ replicate (length sc) 0

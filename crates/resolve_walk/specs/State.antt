@@ -19,7 +19,8 @@ use Rattle.resolve_walk_scratch.specs.declared.Taken.{Taken}
 use Rattle.resolve_walk_scratch.specs.Scratch.{stackOf, markedIn, isPart, hasRef, takenAt, takenFrom}
 use Rattle.resolve_walk_events.specs.Events.{settledEvent, settledOn}
 use Rattle.resolve_walk_events.specs.declared.Event.{Event}
-use Rattle.resolve_walk_events.specs.declared.Event.the-variants.{Old, Lacking, New, Long, Full}
+use Rattle.resolve_walk_events.specs.declared.Event.the-variants.{Old, New, Full}
+use Rattle.resolve_walk_events.specs.declared.Event.the-variants as event
 use Rattle.resolve_walk.specs.Walk.{Walk, full, met, comesTo, has, walk, walkOf}
 
 -- a name was visited: where the book defines it, by its bit; else a listed block names it as a part
@@ -100,9 +101,9 @@ pub record AfterFull (w : Walk) : Type 0 where
 -- what an event tells of the walk w, whose next event it is, or which it leaves as it is where the name was visited
 abbrev pub After : List ℕ → ℕ → List ℕ → List ℕ → ℕ → Walk → Event → Type 0
 After book width sc ls left w (Old d) = LeftToWalk book width sc ls left d w
-After book width sc ls left w (Lacking b d) = AfterLacking book width sc ls (left - 1) b d w
+After book width sc ls left w (event.Lacks b d) = AfterLacking book width sc ls (left - 1) b d w
 After book width sc ls left w (New t d c) = AfterNew book width sc ls (left - 1) t d c w
-After book width sc ls left w (Long d) = AfterLong book width sc ls (left - 1) d w
+After book width sc ls left w (event.TooLong d) = AfterLong book width sc ls (left - 1) d w
 After book width sc ls left w Full = AfterFull w
 
 -- how much is left to do at most
@@ -112,9 +113,9 @@ work sc left depth = left * 65536 + length (stackOf sc depth)
 -- less than n is left to do after an event
 abbrev pub Falls : List ℕ → ℕ → ℕ → Event → Type 0
 Falls sc left n (Old d) = work sc left d < n
-Falls sc left n (Lacking b d) = (0 < left) × (work sc (left - 1) d < n)
+Falls sc left n (event.Lacks b d) = (0 < left) × (work sc (left - 1) d < n)
 Falls sc left n (New t d c) = (0 < left) × (work sc (left - 1) d < n)
-Falls sc left n (Long d) = (0 < left) × (work sc (left - 1) d < n)
+Falls sc left n (event.TooLong d) = (0 < left) × (work sc (left - 1) d < n)
 Falls sc left n Full = left ≡ 0
 
 -- one turn gives the next event of any walk that the state stands for, and less is left to do; its event and every number
@@ -128,9 +129,9 @@ pub record Stepped (book : List ℕ) (width : ℕ) (sc ls : List ℕ) (left dept
 -- an event after which `left - 1` names are left, and one after which none was
 abbrev pub Due : ℕ → Event → Type 0
 Due left (Old d) = Unit {0}
-Due left (Lacking c d) = 0 < left
+Due left (event.Lacks c d) = 0 < left
 Due left (New t d c) = 0 < left
-Due left (Long d) = 0 < left
+Due left (event.TooLong d) = 0 < left
 Due left Full = left ≡ 0
 
 -- `Due` of an event, as a record, which `search` takes as it stands

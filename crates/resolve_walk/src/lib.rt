@@ -64,7 +64,7 @@ pub fn step(
         if left == 0 {
             return Event::Full;
         }
-        return Event::Lacking(b, d);
+        return Event::Lacks(b, d);
     };
     if marked(scratch, t) {
         return Event::Old(d);

@@ -16,7 +16,8 @@ use Rattle.resolvers.proofs.Numbers.{resolved-is}
 use Rattle.resolve_walk_scratch.specs.Parts.{partsOf}
 use Rattle.resolve_walk_scratch.specs.Scratch.{isPart, BlockMarked, MarkedAndPushed}
 use Rattle.resolve_walk_scratch.proofs.Places.{part-dimensions}
-use Rattle.resolve_walk_events.specs.declared.Event.the-variants.{New, Lacking, Long}
+use Rattle.resolve_walk_events.specs.declared.Event.the-variants.{New}
+use Rattle.resolve_walk_events.specs.declared.Event.the-variants as event
 use Rattle.resolve_walk_events.specs.Events.{settledEvent, settledOn, Dead, Settles}
 
 -- the alias at which a chain breaks is no part
@@ -61,13 +62,13 @@ module _ (book : List ℕ) (width : ℕ) (sc : List ℕ) (depth t : ℕ) (y : is
     dead : Dead sc depth t depth sc₁
     dead = record { top = m .stack depth (omega arith); marks = m .marks; more = omega arith }
 
-    pub settle-lacks : (c : ℕ) → a ≡ Lacks c → Settles book width sc depth t (Lacking c depth) sc₁
+    pub settle-lacks : (c : ℕ) → a ≡ Lacks c → Settles book width sc depth t (event.Lacks c depth) sc₁
     unfolding settledEvent settledOn
     settle-lacks c e =
         let q = sym (resolved-is _ _ (ra .is)) ∙ e in
         record { so = record { to = q; alias = alias-not-part book width t c y q; dead = dead }; event = rw q; numbers = rw q (m .numbers) }
 
-    pub settle-long : a ≡ TooLong → Settles book width sc depth t (Long depth) sc₁
+    pub settle-long : a ≡ TooLong → Settles book width sc depth t (event.TooLong depth) sc₁
     unfolding settledEvent settledOn
     settle-long e =
         let q = sym (resolved-is _ _ (ra .is)) ∙ e in

@@ -15,15 +15,16 @@ use Rattle.resolvers.specs.Resolve.{resolveAlias}
 use Rattle.resolve_walk_scratch.specs.Parts.{partsKind, partsOf}
 use Rattle.resolve_walk_scratch.specs.Scratch.{stackOf, markedIn, isPart, markedOn, pushedTo, pushedOn}
 use Rattle.resolve_walk_events.specs.declared.Event.{Event}
-use Rattle.resolve_walk_events.specs.declared.Event.the-variants.{Old, Lacking, New, Long, Full}
+use Rattle.resolve_walk_events.specs.declared.Event.the-variants.{Old, New, Full}
+use Rattle.resolve_walk_events.specs.declared.Event.the-variants as event
 
 -- ---- the event and the numbers
 
 -- the event of a new name, by what it comes to: a type with its category, the alias at which 7 is due, or a chain that is too long
 unfoldable pub settledEvent : List ℕ → ℕ → ℕ → Resolved → Event
 settledEvent book width depth (Base u) = New u (pushedTo book depth u (partsKind (categoryOf book width u))) (categoryOf book width u)
-settledEvent book width depth (Lacks c) = Lacking c depth
-settledEvent book width depth TooLong = Long depth
+settledEvent book width depth (Lacks c) = event.Lacks c depth
+settledEvent book width depth TooLong = event.TooLong depth
 
 -- the scratch then: type block t is marked, and the parts of the type that it comes to are laid on
 unfoldable pub settledOn : List ℕ → ℕ → List ℕ → ℕ → ℕ → Resolved → List ℕ
@@ -63,9 +64,9 @@ pub record Unending (book : List ℕ) (width : ℕ) (sc : List ℕ) (depth t r :
 -- type block t is marked, by the event that it gives
 abbrev pub Settled : List ℕ → ℕ → List ℕ → ℕ → ℕ → Event → List ℕ → Type 0
 Settled book width sc depth t (Old d) sc′ = ⊥
-Settled book width sc depth t (Lacking c d) sc′ = Broken book width sc depth t c d sc′
+Settled book width sc depth t (event.Lacks c d) sc′ = Broken book width sc depth t c d sc′
 Settled book width sc depth t (New u d c) sc′ = Expanded book width sc depth t u c d sc′
-Settled book width sc depth t (Long d) sc′ = Unending book width sc depth t d sc′
+Settled book width sc depth t (event.TooLong d) sc′ = Unending book width sc depth t d sc′
 Settled book width sc depth t Full sc′ = ⊥
 
 -- `Settled` of the event r, as a record, which `search` takes as it stands; the event and every number of the scratch are fixed

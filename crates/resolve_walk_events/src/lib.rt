@@ -17,11 +17,11 @@ pub enum Event {
     // The name was visited before.
     Old(usize),
     // The type name of this block is not in the book.
-    Lacking(u32, usize),
+    Lacks(u32, usize),
     // The name is new, and comes to this type, of this category.
     New(u32, usize, AdsTypeCategory),
     // Its alias chain is too long.
-    Long(usize),
+    TooLong(usize),
     // It would be one name too many.
     Full,
 }
@@ -46,11 +46,11 @@ fn settle_alias(
         }
         Resolved::Lacks(c) => {
             mark(scratch, t);
-            Event::Lacking(c, depth)
+            Event::Lacks(c, depth)
         }
         Resolved::TooLong => {
             mark(scratch, t);
-            Event::Long(depth)
+            Event::TooLong(depth)
         }
     }
 }

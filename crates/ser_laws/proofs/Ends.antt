@@ -11,10 +11,10 @@ use Rattle.type_book.specs.Book.{sizeOf, countOf}
 use Rattle.type_provider.specs.declared.Found.{Found}
 use Rattle.type_provider.specs.declared.Found.the-variants as found
 use Rattle.type_category.specs.Category.{categoryOf}
-use Rattle.resolvers.specs.Resolve.{lookUp, resolveAlias}
+use Rattle.resolvers.specs.Resolve.{lookUp, resolveAlias, resolvedNumbers}
 use Rattle.resolvers.specs.declared.Resolved.{Resolved}
 use Rattle.resolvers.specs.declared.Resolved.the-variants as resolved
-use Rattle.resolve_field_types.specs.Fields.{resolveField, fieldsCheck}
+use Rattle.resolve_field_types.specs.Fields.{resolveField, fieldsCheck, fieldNumbers, checkNumbers}
 use Rattle.resolve_field_types.specs.declared.FieldAnswer.{FieldAnswer}
 use Rattle.resolve_field_types.specs.declared.FieldAnswer.the-variants as answer
 use Rattle.resolve_field_types.specs.declared.FieldsCheck.{FieldsCheck}
@@ -205,7 +205,7 @@ entered-if true x m = m
 entered-if false x m = record { never = λ e. omega arith }
 
 element-mild : (book : List ℕ) (t len : ℕ) (r : Resolved) → EnteredMild (elementType book t len r)
-unfolding elementType
+unfolding elementType resolvedNumbers
 element-mild book t len (resolved.Base e) = entered-if (eqb (arrayBytes book t e) len) (entered.Element e) (record { never = λ e. omega arith })
 element-mild book t len (resolved.Lacks b) = record { never = λ e. omega arith }
 element-mild book t len resolved.TooLong = record { never = λ e. omega arith }
@@ -243,7 +243,7 @@ ends-closing c k at next bytes h =
     ends-taken (c .tape) (next .at) at bytes _ (t .r) (t .mid) (t .is) (rw (eq-eqb (t .r .kind) k q) (ends-went (next .at) (t .mid) bytes (ap (λ (i : Cursor). i .at) m)))
 
 ends-checked : (n : ℕ) (bytes : List ℕ) (f : FieldsCheck) (o : Outcome) → EndsAt n o → EndsAt n (checked f bytes o)
-unfolding checked
+unfolding checked checkNumbers
 ends-checked n bytes check.Fine o p = p
 ends-checked n bytes (check.Lacks b) o p = ends-refused n 7 b bytes (λ e. omega arith)
 ends-checked n bytes check.TooLong o p = ends-refused n 8 0 bytes (λ e. omega arith)
@@ -252,7 +252,7 @@ module _ (c : Ctx) (left : ℕ) (child : Child) (ih : Follows c left child) wher
   -- ---- a map
 
   field-ends : (at next : Cursor) (bytes : List ℕ) → valueAt (formCtx c) left at ≡ At next → (a : FieldAnswer) → EndsAt (next .at) (fieldValue child at bytes a)
-  unfolding fieldValue
+  unfolding fieldValue fieldNumbers
   field-ends at next bytes h (answer.Field f) =
       ends-if (next .at) (leb (f .offset + f .size) (length bytes)) _ 10 0 bytes (λ e. omega arith)
       (ends-placed (next .at) _ _ bytes _ (ih (whole (f .resolved)) at next _ h))
@@ -386,7 +386,7 @@ not-sixteen n (refused k b bytes) p e = by (eqb k 7) e
     by false q = p .ends (let z : k ≡ 16 = cc in z)
 
 root-sixteen : (c : Ctx) (image : List ℕ) (r : Resolved) → formed (c .book) (c .tape) (c .text) ≡ true → answerOf (rootBy c image r) ≡ Refused 16 → ⊥
-unfolding rootBy
+unfolding rootBy resolvedNumbers
 root-sixteen c image (resolved.Base t) f e = not-sixteen (length (c .tape)) (typeWrite c t image) (formed-ends c t image f) e
 root-sixteen c image (resolved.Lacks b) f e = different cc
 root-sixteen c image resolved.TooLong f e = different cc

@@ -11,10 +11,10 @@ use Rattle.type_book.specs.Book.{sizeOf, countOf}
 use Rattle.type_provider.specs.declared.Found.{Found}
 use Rattle.type_provider.specs.declared.Found.the-variants as found
 use Rattle.type_category.specs.Category.{categoryOf}
-use Rattle.resolvers.specs.Resolve.{lookUp}
+use Rattle.resolvers.specs.Resolve.{lookUp, resolvedNumbers}
 use Rattle.resolvers.specs.declared.Resolved.{Resolved}
 use Rattle.resolvers.specs.declared.Resolved.the-variants as resolved
-use Rattle.resolve_field_types.specs.Fields.{resolveField, fieldsCheck}
+use Rattle.resolve_field_types.specs.Fields.{resolveField, fieldsCheck, fieldNumbers, checkNumbers}
 use Rattle.resolve_field_types.specs.declared.FieldAnswer.{FieldAnswer}
 use Rattle.resolve_field_types.specs.declared.FieldAnswer.the-variants as answer
 use Rattle.resolve_field_types.specs.declared.FieldsCheck.{FieldsCheck}
@@ -149,7 +149,7 @@ module _ (c : Ctx) (child : Child) (marks : touched.Child) (ih : Children c chil
   -- ---- a map
 
   field-agrees : (at : Cursor) (from : ℕ) (bytes : List ℕ) (a : FieldAnswer) → Agrees from bytes (fieldValue child at bytes a) (fieldTouched marks at from a)
-  unfolding fieldValue fieldTouched
+  unfolding fieldValue fieldTouched fieldNumbers
   field-agrees at from bytes (answer.Field f) =
       agrees-if from bytes (leb (f .offset + f .size) (length bytes)) _ 10 0 bytes _ (λ h.
       let l = leb-true (f .offset + f .size) (length bytes) h in
@@ -176,7 +176,7 @@ module _ (c : Ctx) (child : Child) (marks : touched.Child) (ih : Children c chil
       agrees-then from bytes _ _ _ _ (key-agrees t at from bytes) (λ next mid l. keys-agree t k next from mid)
 
   checked-agrees : (from : ℕ) (bytes : List ℕ) (f : FieldsCheck) (o : Outcome) (t : Touched) → Agrees from bytes o t → Agrees from bytes (checked f bytes o) t
-  unfolding checked
+  unfolding checked checkNumbers
   checked-agrees from bytes check.Fine o t a = a
   checked-agrees from bytes (check.Lacks b) o t a = agrees-refused from bytes 7 b bytes t
   checked-agrees from bytes check.TooLong o t a = agrees-refused from bytes 8 0 bytes t
@@ -236,7 +236,7 @@ module _ (c : Ctx) (child : Child) (marks : touched.Child) (ih : Children c chil
 
   element-agrees : (t : ℕ) (at : Cursor) (from : ℕ) (bytes : List ℕ) (r : Resolved)
       → Agrees from bytes (arrayBy child c t at bytes (elementType (c .book) t (length bytes) r)) (arrayTouched marks c t at from r)
-  unfolding arrayBy elementType arrayTouched
+  unfolding arrayBy elementType arrayTouched resolvedNumbers
   element-agrees t at from bytes (resolved.Base e) = sized-agrees t e at from bytes (eqb (arrayBytes (c .book) t e) (length bytes)) refl
   element-agrees t at from bytes (resolved.Lacks b) = agrees-refused from bytes 7 b bytes nowhere
   element-agrees t at from bytes resolved.TooLong = agrees-refused from bytes 8 0 bytes nowhere

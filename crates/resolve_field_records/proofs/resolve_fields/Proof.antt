@@ -44,7 +44,7 @@ use Rattle.resolve_field_records.specs.declared.ResolvedField.{ResolvedF
 use Rattle.resolve_field_types.specs.declared.FieldsAnswer.{FieldsAnswer}
 use Rattle.resolve_field_types.specs.Calls.{fieldsNumbers, rootFields}
 use Rattle.resolve_field_types.proofs.Numbers.{fields-is}
-use Rattle.resolve_field_records.specs.Stored.{AllResolvable, storedCount, filledAt, Filled}
+use Rattle.resolve_field_records.specs.Stored.{AllResolvable, storedCount, filledAt, StoredIs}
 use Rattle.resolve_field_records.proofs.Stored.{filled-stored, plan-ready}
 use Rattle.resolve_field_records.proofs.Lent.{Part, lends-local, room-again, big-lit}
 use Rattle.resolve_field_records.proofs.ResolvedField as T
@@ -221,13 +221,13 @@ module _ {M : Type 1} (𝓤 : URA M) (H : Heap 𝓤) (A : Atoms 𝓤) (W : Given
       subst (λ (k : ℕ). AllResolvable (buf .now) len width root k × (k ≤ length ys)) (sym e) (plan-ready (buf .now) len width root (length ys) .1, plan-ready (buf .now) len width root (length ys) .0)
 
   -- what the contract says, of what the callees say
-  meant : (r : FieldsAnswer) (n : ℕ) (zs : List Rec) → Numbers r planned → n ≡ storedCount r → zs ≡ filledAt (buf .now) len width root n ys → Filled (buf .now) len width root ys r zs
+  meant : (r : FieldsAnswer) (n : ℕ) (zs : List Rec) → Numbers r planned → n ≡ storedCount r → zs ≡ filledAt (buf .now) len width root n ys → StoredIs (buf .now) len width root ys r zs
   meant r n zs e e₂ e₃ = record {
     is = e;
     records = e₃ ∙ ap (λ (k : ℕ). filledAt (buf .now) len width root k ys) (e₂ ∙ ap storedCount (fields-is r planned e)) ∙ filled-stored (buf .now) len width root planned ys;
   }
 
-  exits : (r : FieldsAnswer) (u : Val) (zs : List Rec) → Is S.the-row r (u ∷ []) → Filled (buf .now) len width root ys r zs → length zs ≡ length ys
+  exits : (r : FieldsAnswer) (u : Val) (zs : List Rec) → Is S.the-row r (u ∷ []) → StoredIs (buf .now) len width root ys r zs → length zs ≡ length ys
       → ent 𝓤 (⋆ 𝓤 H A (‵ (flft κ q) ∷ (‵ (flft κ′ q′) ⊛ ‵ ftrue) ∷ ‵ (finally R γ zs) ∷ ‵ Buf ∷ [])) (Post u)
   exits r u zs is m l =
       qed W (‵ (flft κ q) ∷ (‵ (flft κ′ q′) ⊛ ‵ ftrue) ∷ ‵ (finally R γ zs) ∷ ‵ Buf ∷ []) ∵

@@ -7,6 +7,7 @@ use Rattle.type_category.proofs.Numbers.{category-is}
 use Rattle.resolve_field_types.proofs.Numbers.{check-is}
 use Rattle.tape_shape.proofs.Strides.{Along, along-start, along-again, along-fits, next-dimension, fills-further}
 use Rattle.tape_shape.specs.Array.{strideOf}
+use Rattle.validators.proofs.Validities.{size-is, size-other}
 use Rattle.ser.proofs.Exits.{walk-deep, value-end, value-array, value-map, value-leaf, map-array, map-leaf, map-odd, map-given, map-own, own-fine, own-lacks, own-endless, keys-start, keys-stop, keys-end, keys-turn, keyed-stop, keyed-over, keyed-value, key-all, keyed-valid, keyed-typed, keyed-category, map-ready, given-none, firsts-empty, own-entries, last-given, element-none, array-stop, array-element, counted-stop, counted-elements, counted-given, counted-firsts, elements-start, elements-again, elements-stop, elements-over, elements-under, elements-end, element-last, element-further, leaf-inside, entered-typed, entered-fills, part-end, part-fills}
 use borrow.Fn.Kinds.{In}
 use borrow.Fn.PlainCycle.{Measures, is, falls, and}
@@ -59,6 +60,7 @@ use Rattle.type_category.proofs.type_category.AdsTypeCategory.determine.Reads a
 use Rattle.type_book.proofs.block.count.Reads as count-reads
 use Rattle.type_book.proofs.block.fields.Reads as fields-reads
 use Rattle.type_book.proofs.block.size.Reads as size-reads
+use Rattle.validators.proofs.validate_exact_size.Reads as validate-exact-size-reads
 use Rattle.ser.proofs.+array_writer-array+array_writer-dimension+array_writer-each_element+array_writer-element+array_writer-elements+map_writer-each_key+map_writer-keyed_value+map_writer-keys+map_writer-map+map_writer-own_keys+serializer-value.{
   statement,
 }
@@ -68,7 +70,7 @@ use Rattle.ser.proofs.+array_writer-array+array_writer-dimension+array_
 
 ruleset values = (value-end, value-array, value-map, value-leaf, walk-deep, refl)
 
-ruleset maps = (map-array, map-leaf, map-odd, map-given, map-own, refl)
+ruleset maps = (map-array, map-leaf, map-odd, map-given, map-own, size-is, size-other, refl)
 
 ruleset own = (own-fine, own-lacks, own-endless, refl)
 
@@ -327,7 +329,7 @@ abbrev map-writer·keys-calls : ℕ → map-writer·keys-lts.Claims
 map-writer·keys-calls t = (fields-reads.Asked, fields-reads.Learnt, map-writer·each-key-below t, map-writer·each-key.Post, note-long-reads.Asked, note-long-reads.Learnt)
 
 abbrev map-writer·map-calls : ℕ → map-writer·map-lts.Claims
-map-writer·map-calls t = (tape-shape-of-reads.Asked, tape-shape-of-reads.Learnt, size-reads.Asked, size-reads.Learnt, map-writer·each-key-below t, map-writer·each-key.Post, map-writer·own-keys-below t, map-writer·own-keys.Post)
+map-writer·map-calls t = (tape-shape-of-reads.Asked, tape-shape-of-reads.Learnt, size-reads.Asked, size-reads.Learnt, validate-exact-size-reads.Asked, validate-exact-size-reads.Learnt, map-writer·each-key-below t, map-writer·each-key.Post, map-writer·own-keys-below t, map-writer·own-keys.Post)
 
 abbrev map-writer·own-keys-calls : ℕ → map-writer·own-keys-lts.Claims
 map-writer·own-keys-calls t = (plan-fields-in-reads.Asked, plan-fields-in-reads.Learnt, note-firsts-reads.Asked, note-firsts-reads.Learnt, map-writer·keys-below t, map-writer·keys.Post)
@@ -732,8 +734,17 @@ map-writer·map-enum-told t c = search needs
 map-writer·map-size-requires : (t : ℕ) → map-writer·map-lts.Need-size-requires (map-writer·map-calls t) (map-writer·map-at t) map-writer·map.Post
 map-writer·map-size-requires t c κs = search needs
 
-map-writer·map-cast-if1 : (t : ℕ) → map-writer·map-lts.Need-cast-if1 (map-writer·map-calls t) (map-writer·map-at t) map-writer·map.Post
-map-writer·map-cast-if1 t c = search needs
+map-writer·map-cast-size : (t : ℕ) → map-writer·map-lts.Need-cast-size (map-writer·map-calls t) (map-writer·map-at t) map-writer·map.Post
+map-writer·map-cast-size t c = search needs
+
+map-writer·map-validate-exact-size-requires : (t : ℕ) → map-writer·map-lts.Need-validate-exact-size-requires (map-writer·map-calls t) (map-writer·map-at t) map-writer·map.Post
+map-writer·map-validate-exact-size-requires t c κs = search needs
+
+map-writer·map-enum-told-2 : (t : ℕ) → map-writer·map-lts.Need-enum-told-2 (map-writer·map-calls t) (map-writer·map-at t) map-writer·map.Post
+map-writer·map-enum-told-2 t c = search needs
+
+map-writer·map-same-length : (t : ℕ) → map-writer·map-lts.Need-same-length (map-writer·map-calls t) (map-writer·map-at t) map-writer·map.Post
+map-writer·map-same-length t c = search needs
 
 map-writer·map-returns : (t : ℕ) → map-writer·map-lts.Need-returns (map-writer·map-calls t) (map-writer·map-at t) map-writer·map.Post
 map-writer·map-returns t c = search maps
@@ -741,8 +752,8 @@ map-writer·map-returns t c = search maps
 map-writer·map-each-key-requires : (t : ℕ) → map-writer·map-lts.Need-each-key-requires (map-writer·map-calls t) (map-writer·map-at t) map-writer·map.Post
 map-writer·map-each-key-requires t c κs = (search needs, (search needs, search needs, search map-ready, search needs))
 
-map-writer·map-same-length : (t : ℕ) → map-writer·map-lts.Need-same-length (map-writer·map-calls t) (map-writer·map-at t) map-writer·map.Post
-map-writer·map-same-length t c = search needs
+map-writer·map-same-length-2 : (t : ℕ) → map-writer·map-lts.Need-same-length-2 (map-writer·map-calls t) (map-writer·map-at t) map-writer·map.Post
+map-writer·map-same-length-2 t c = search needs
 
 map-writer·map-returns-2 : (t : ℕ) → map-writer·map-lts.Need-returns-2 (map-writer·map-calls t) (map-writer·map-at t) map-writer·map.Post
 map-writer·map-returns-2 t c = search maps
@@ -750,14 +761,14 @@ map-writer·map-returns-2 t c = search maps
 map-writer·map-own-keys-requires : (t : ℕ) → map-writer·map-lts.Need-own-keys-requires (map-writer·map-calls t) (map-writer·map-at t) map-writer·map.Post
 map-writer·map-own-keys-requires t c κs = search needs
 
-map-writer·map-enum-told-2 : (t : ℕ) → map-writer·map-lts.Need-enum-told-2 (map-writer·map-calls t) (map-writer·map-at t) map-writer·map.Post
-map-writer·map-enum-told-2 t c = search needs
-
 map-writer·map-enum-told-3 : (t : ℕ) → map-writer·map-lts.Need-enum-told-3 (map-writer·map-calls t) (map-writer·map-at t) map-writer·map.Post
 map-writer·map-enum-told-3 t c = search needs
 
-map-writer·map-same-length-2 : (t : ℕ) → map-writer·map-lts.Need-same-length-2 (map-writer·map-calls t) (map-writer·map-at t) map-writer·map.Post
-map-writer·map-same-length-2 t c = search needs
+map-writer·map-enum-told-4 : (t : ℕ) → map-writer·map-lts.Need-enum-told-4 (map-writer·map-calls t) (map-writer·map-at t) map-writer·map.Post
+map-writer·map-enum-told-4 t c = search needs
+
+map-writer·map-same-length-3 : (t : ℕ) → map-writer·map-lts.Need-same-length-3 (map-writer·map-calls t) (map-writer·map-at t) map-writer·map.Post
+map-writer·map-same-length-3 t c = search needs
 
 map-writer·map-returns-3 : (t : ℕ) → map-writer·map-lts.Need-returns-3 (map-writer·map-calls t) (map-writer·map-at t) map-writer·map.Post
 map-writer·map-returns-3 t c = search maps
@@ -1023,15 +1034,18 @@ pub +array-writer·array+array-writer·dimension+array-writer·each-element+arra
     (map-writer·map-shape-of-requires t)
     (map-writer·map-enum-told t)
     (map-writer·map-size-requires t)
-    (map-writer·map-cast-if1 t)
+    (map-writer·map-cast-size t)
+    (map-writer·map-validate-exact-size-requires t)
+    (map-writer·map-enum-told-2 t)
+    (map-writer·map-same-length t)
     (map-writer·map-returns t)
     (map-writer·map-each-key-requires t)
-    (map-writer·map-same-length t)
+    (map-writer·map-same-length-2 t)
     (map-writer·map-returns-2 t)
     (map-writer·map-own-keys-requires t)
-    (map-writer·map-enum-told-2 t)
     (map-writer·map-enum-told-3 t)
-    (map-writer·map-same-length-2 t)
+    (map-writer·map-enum-told-4 t)
+    (map-writer·map-same-length-3 t)
     (map-writer·map-returns-3 t)
     (map-writer·map-returns-4 t)
     (map-writer·map-returns-5 t))

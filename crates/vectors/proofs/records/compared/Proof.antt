@@ -44,7 +44,7 @@ use denote.Triple.Table.{entered, cited}
 use denote.Triple.Walked.{says, Stays, stay-none, stay-none-slice, walkOf, goes-none, goes-none-slice, Walks, ends-at, walked, walk-meets}
 use denote.Exit.{yes}
 use Rattle.resolve_field_records.specs.declared.ResolvedField.{ResolvedField as Rec}
-use Rattle.resolve_field_records.specs.Stored.{Filled}
+use Rattle.resolve_field_records.specs.Stored.{StoredIs}
 use Rattle.resolve_field_types.specs.declared.FieldsAnswer.{FieldsAnswer}
 use Rattle.vectors.proofs.Borrowed.{lends-mut, whole-again, big-lit}
 use Rattle.resolve_field_records.proofs.ResolvedField as T
@@ -212,7 +212,7 @@ module _ {M : Type 1} (𝓤 : URA M) (H : Heap 𝓤) (A : Atoms 𝓤) (W : Given
         -- [what resolve_fields asks; the book; the numbers' token; the records' loan; the numbers; _11; .. _8; d8; d7; _6; ..]
         calls-at ! fm (Resolve 𝓤 H A mem run) known-resolve (to-resolve γ ν xs l₇) (and-then ! (load ! (from ! (stop !)) (look ! 24 refl)) (and-then ! (load ! (from ! (stop !)) (look ! 22 refl)) (and-then ! (load ! (from ! (stop !)) (look ! 20 refl)) (and-then ! (load ! (from ! (stop !)) (look ! 18 refl)) (and-then ! (load ! (from ! (stop !)) (look ! 5 refl)) (no-more !)))))) (λ u.
         use1 W (later (some (λ (r : FieldsAnswer). ((‵ (flft κ q) ⊛ ‵ (flft (ν ∷ []) fullShare) ⊛ ‵ ftrue) ⊛ ‵ (S.the-row .own r (u ∷ []))) ⊛ raw (ensured 𝓤 H A resolve.ended (resolve.clauses 𝓤 H A mem run) (κ, (ν ∷ [], tt)) (resolving γ xs l₇) tt r)))) (id⊢ 𝓤 _) $ await ! tt $ pick ! (λ r.
-        split ! $ move ! (1 ∷ []) $ use1 W (some (λ (ws : Lasts′). ‵ (lasts resolve.ended (κ, (ν ∷ [], tt)) (resolving γ xs l₇) ws) ⊛ raw (fact 𝓤 (Filled (buf .now) len width root xs r (last ws))))) (id⊢ 𝓤 _) $ pick ! (λ ws.
+        split ! $ move ! (1 ∷ []) $ use1 W (some (λ (ws : Lasts′). ‵ (lasts resolve.ended (κ, (ν ∷ [], tt)) (resolving γ xs l₇) ws) ⊛ raw (fact 𝓤 (StoredIs (buf .now) len width root xs r (last ws))))) (id⊢ 𝓤 _) $ pick ! (λ ws.
         split ! $ move ! (1 ∷ []) $ drop ! $ fsplit ! $ drop ! $ fsplit ! $ drop ! $ fsplit ! $ drop ! $ fsplit ! $ drop ! $ fsplit ! $ fsplit ! $ move ! (1 ∷ []) $ feqL ! (λ _.
         move ! (1 ∷ []) $ drop ! $  -- the lifetime ends, and the array is whole again
         move ! (1 ∷ []) $ split ! $ move ! (0 ∷ []) $ split ! $ move ! (1 ∷ []) $ split ! $ move ! (0 ∷ []) $ lft-end ! tt $ move ! (0 ∷ 7 ∷ 4 ∷ []) $
