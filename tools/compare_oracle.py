@@ -14,6 +14,8 @@ original as it is. A tape that hasn't its form must be 16 (tools/tape_form.py re
 document 01 decides otherwise than the original, the case is counted with its reason, and the smallest is shown. Answers
 whose number comes from the stand-in for the unpublished conversions (CrossKind) are counted too.
 
+Reads: what document 02 adds to the original's events is worked out by tools/document_02.py from book and memory.
+
 Plans: the book is the controller's, ours is its root's definition alone or with some others of its, in any order. Where the controller's book
 lacks none of the needed types (by the original's own list, whole), the plan's answer must be the original's read-modify-write over the whole
 controller's book; else it must be refused: 7 with a name that the original lists, or 8 or 9 where its list is not whole.
@@ -29,6 +31,7 @@ import time
 from random import Random
 
 from answers import oracle
+from document_02 import completed, plain as plain_tape
 from tape_form import formed, spoiled
 
 REQUESTS = ("cat", "alias", "indir", "rmw", "missing", "fields", "read")
@@ -69,6 +72,8 @@ class Comparison:
 
     def ask(self, request, made, data, *more):
         theirs = plain(request, self.original.ask(request, made.width, data, made.root, *more))
+        if request == "read":
+            theirs = self.by_document_02(theirs, made, data, more[0])
         ours = plain(request, self.port.ask(request, made.width, data, made.root, *more))
         words = theirs.split()
         self.answers[request, " ".join(words[:2]) if words[0] == "err" else words[0]] += 1
@@ -82,11 +87,22 @@ class Comparison:
         self.compared[request] += 1
         self.differing.append((len(data), request, made.width, data.hex(), made.root, more, theirs, ours))
 
+    def by_document_02(self, told, made, data, memory):
+        """An accepted read's events with what document 02 adds to them: `clipped` for a text without a terminator."""
+        words = told.split()
+        if words[0] != "ok":
+            return told
+        tape = completed(data, made.root, memory, self.book.tape_from_tree(self.book.tree_from_events(words[1:]))[0])
+        for i, at in enumerate(range(0, len(tape), 24), 1):
+            if tape[at] == 11 and tape[at + 1] == 0:
+                words[i] = words[i].replace("str:", "clipped:", 1)
+        return " ".join(words)
+
     def ask_write(self, request, made, data, image, tape, text):
         """A write; document 01's own decisions are told apart from differences."""
         ours = self.port.ask("write", made.width, data, made.root, image, tape, text)
         if formed(data, tape, text):
-            raw = self.original.ask(request, made.width, data, made.root, image, tape, text)
+            raw = self.original.ask(request, made.width, data, made.root, image, plain_tape(tape), text)
         else:
             raw = "err 16"
         theirs = raw.split(" raw=")[0]
@@ -111,7 +127,7 @@ class Comparison:
         if raw.startswith("panic") or any(math.prod(t.dims) >= 2**32 for t in made.book.types):
             return "product of 2^64 or more"
         if request == "write":
-            by_document = self.original.ask("writedoc", made.width, data, made.root, image, tape, text).split(" raw=")[0]
+            by_document = self.original.ask("writedoc", made.width, data, made.root, image, plain_tape(tape), text).split(" raw=")[0]
             if by_document == ours:
                 unit = "note=unit" in raw and ours == "err 17"
                 return "a unit is 17" if unit else "a root's aliases come first, for a bool and a unit too"

@@ -24,7 +24,8 @@ A description has one thing on a line; `#` starts a comment, blank lines don't c
 
 Types that need no line: BOOL, SINT, INT, DINT, LINT, USINT, UINT, UDINT, ULINT, BYTE, WORD, DWORD, LWORD, REAL, LREAL,
 STRING(n) of n + 1 bytes, WSTRING(n) of 2n + 2, and ARRAY [a..b, ..] OF a type. A value is a number, TRUE or FALSE, an entry's name, or a
-text in double quotes. Several types may be used before the line that says what they are.
+text in double quotes; a text that fills its bytes to the last has no zero after it and is read as clipped. Several types may be used before the
+line that says what they are.
 """
 
 import os
@@ -198,7 +199,7 @@ class Recipe:
             if len(text) < 2 or text[0] != '"' or text[-1] != '"':
                 raise Wrong(f"a text in double quotes is due: {text}")
             raw = text[1:-1].encode("utf-16-le" if t.id == WSTRING else "cp1252")
-            if len(raw) + (2 if t.id == WSTRING else 1) > t.size:
+            if len(raw) > t.size:
                 raise Wrong(f"{text} is too long for {t.name}")
             return raw.ljust(t.size, b"\0")
         if t.kind != "plain":

@@ -7,7 +7,8 @@ ORACLE is the oracle's folder, built; FOLDER is crates/vectors/data. Every seed 
 
 categories, walks and reads are the answers of the Rust (requests cat; alias, indir, rmw, missing, fields; read), for books
 that are valid. checks is document 01's text on the form of books, refusals 1 to 5, as the function `check` of the oracle's
-book.py reads it: the Rust has no such test. tools/record_limits.py records the limits.
+book.py reads it: the Rust has no such test. tools/record_limits.py records the limits. What document 02 adds to a tape is worked out by
+tools/document_02.py.
 """
 
 import itertools
@@ -16,6 +17,7 @@ from random import Random
 
 from answers import oracle
 from case_file import *
+from document_02 import completed
 
 CATEGORIES = ["None", "Primitive", "Alias", "Enum", "Array", "Struct", "FunctionBlock", "Program", "Function", "SubRange",
               "String", "Bitset", "Pointer", "Union", "Reference", "Interface"]
@@ -105,13 +107,14 @@ class Recorder:
         if words[0] == "err":
             answer = refusal(words) + b"\1\1"
         else:
-            answer = self.read_answer(self.b.tree_from_events(words[1:]))
+            answer = self.read_answer(book, n, memory, self.b.tree_from_events(words[1:]))
         if len(answer) + len(memory) < 60000:
             self.add_read(file, width, n, memory, tape, text, answer)
         return words
 
-    def read_answer(self, tree):
+    def read_answer(self, book, n, memory, tree):
         t, x = self.b.tape_from_tree(tree)
+        t = completed(book, n, memory, t)
         return b"\0" + u32(len(t) // 24) + u32(len(x)) + packed(t) + b"\1" + packed(x) + b"\1"
 
     def add_read(self, file, width, n, memory, tape, text, answer):

@@ -261,8 +261,9 @@ class Limits:
             ((2, 0, 2**32 - 1, 2**32 - 1, 2**32 - 1), "D", 0, ("array", [nothing, nothing])),
             ((2**32 - 1, 2**32 - 1, 2**32 - 1, 0), "D", 1, None)]
         for dims, name, length, tree in cases:
-            add_book(self.file, b.Book([b.Type("T", name, size=0, dims=dims), int8, int16, int32]).bytes())
-            answer = b"\x0a\1\1" if tree is None else self.rec.read_answer(tree)
+            data = b.Book([b.Type("T", name, size=0, dims=dims), int8, int16, int32]).bytes()
+            add_book(self.file, data)
+            answer = b"\x0a\1\1" if tree is None else self.rec.read_answer(data, 0, bytes(length), tree)
             self.rec.add_read(self.file, 8, 0, bytes(length), TAPE, TEXT, answer)
 
     def levels(self):

@@ -7,7 +7,8 @@ ORACLE is the oracle's folder, built; FOLDER is crates/vectors/data. Every seed 
 
 The answers are the Rust's (request writedoc: the root's aliases resolved first, a unit refused, as document 01 has it), for books that
 are valid and tapes of the form. Document 01 alone gives the rest, the Rust having neither a tape nor two lent lengths: 16 (tools/tape_form.py),
-10 for an output of another length than the image, 5, and what an output holds after a refusal. Left out are cases that document 01
+10 for an output of another length than the image, 5, and what an output holds after a refusal. What document 02 adds to a tape is taken off it
+before the Rust is asked: a write takes no notice of it. Left out are cases that document 01
 decides otherwise than the Rust: a real into a pointer by the type's id, products of 2^64 or more.
 """
 
@@ -16,6 +17,7 @@ import sys
 from random import Random
 
 from case_file import *
+from document_02 import plain
 from record_books import ROOM, Recorder, add_book
 from tape_form import formed, spoiled
 
@@ -53,7 +55,7 @@ class Writes(Recorder):
         if number:
             answer = bytes([number]) + output
         else:
-            raw = self.oracle.ask("writedoc", made.width, data, root, image, tape, text)
+            raw = self.oracle.ask("writedoc", made.width, data, root, image, plain(tape), text)
             if raw.startswith("panic") or self.left_out(made, tape):
                 return
             assert not raw.startswith(("bad", "err ?")), raw

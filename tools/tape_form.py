@@ -1,5 +1,5 @@
-"""Whether a tape has its form, by document 01's text alone (refusal 16): the original has no tape. Used by record_writes.py and
-compare_oracle.py; nothing of the port is asked.
+"""Whether a tape has its form, by the text of documents 01 and 02 alone (refusal 16): the original has no tape. Used by record_writes.py,
+compare_oracle.py and document_02.py; nothing of the port is asked.
 """
 
 import struct
@@ -28,7 +28,7 @@ class Form:
         self.at += RECORD
         kind, width, spare, a, b = struct.unpack("<BB6sQQ", record)
         hold(spare == bytes(6))
-        hold(width in (1, 2, 4, 8) if kind in (SIGNED, UNSIGNED) else width == 0)
+        hold(width in (1, 2, 4, 8) if kind in (SIGNED, UNSIGNED) else width == 0 or width == 1 and kind == TEXT)
         return kind, width, a, b
 
     def peek(self):

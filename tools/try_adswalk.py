@@ -15,6 +15,7 @@ import tempfile
 from random import Random
 
 from answers import oracle
+from document_02 import completed
 
 TOP = os.path.join(os.path.dirname(os.path.abspath(__file__)), "..")
 PROGRAM = os.path.join(TOP, "target", "bin", "adswalk")
@@ -27,8 +28,8 @@ def name_of(data, n):
     return data[at + 54:at + 54 + data[at + 52]].decode("ascii")
 
 
-def line_of(data, event):
-    """The line of an event of the oracle."""
+def line_of(data, event, ended):
+    """The line of an event of the oracle; of a text it is also known whether it was ended."""
     kind, _, rest = event.partition(":")
     if kind in ("array", "map", "bool"):
         return f"{kind} {rest}"
@@ -41,7 +42,8 @@ def line_of(data, event):
     if kind == "f64":
         return f"real 8 {int(rest, 16):016X}"
     if kind == "str":
-        return f"text {rest.upper()}" if rest else "text"
+        word = "text" if ended else "clipped"
+        return f"{word} {rest.upper()}" if rest else word
     if kind == "unit":
         return "unit"
     return f"{'int' if kind[0] == 'i' else 'nat'} {kind[1:]} {int(rest)}"
@@ -63,7 +65,8 @@ class Trial:
         assert words[0] in ("ok", "err"), words
         if words[0] == "err":
             return f"refused {words[1]}\n"
-        lines = [f"walk {name_of(data, 0)} {len(memory)}"] + [line_of(data, w) for w in words[1:]]
+        tape = completed(data, 0, memory, self.b.tape_from_tree(self.b.tree_from_events(words[1:]))[0])
+        lines = [f"walk {name_of(data, 0)} {len(memory)}"] + [line_of(data, w, tape[24 * i + 1]) for i, w in enumerate(words[1:])]
         return "".join(line + "\n" for line in lines)
 
     def printed(self, data, memory):
@@ -111,6 +114,14 @@ class Trial:
         self.compare("A116 two bytes", text, b"AB\0z", "walk STRING(3) 4\ntext 4142\n")
         self.compare("A116 euro", text, b"A\x80\0\0", "walk STRING(3) 4\ntext 41E282AC\n")
         self.compare("A116 empty", text, bytes(4), "walk STRING(3) 4\ntext\n")
+        # C2.2, C2.3: a text without a terminator; an empty one; a zero in the last byte; pairs, unaligned ones, an odd byte
+        self.compare("C2.3 full", text, b"ABCD", "walk STRING(3) 4\nclipped 41424344\n")
+        self.compare("C2.3 last byte", text, b"ABC\0", "walk STRING(3) 4\ntext 414243\n")
+        self.compare("C2.2 no bytes", book(T("S0", id=b.STRING, size=0)), b"", "walk S0 0\nclipped\n")
+        wide = book(T("W", id=b.WSTRING, size=5))
+        self.compare("C2.3 unaligned", wide, b"A\0\0B\0", "walk W 5\nclipped 41E48880EFBFBD\n")
+        self.compare("C2.3 odd byte", book(T("W1", id=b.WSTRING, size=1)), b"\0", "walk W1 1\nclipped EFBFBD\n")
+        self.compare("C2.3 pair", wide, b"A\0\0\0B", "walk W 5\ntext 41\n")
         # A117, a refusal deep in a walk
         deep = book(T("S", size=4, fields=[F("A", "INT", 0, 2), F("B", "R", 2, 2)]), int16, T("R", size=2, fields=[F("X", "GONE", 0, 2)]))
         self.compare("A117 deep", deep, memory, "refused 7\n")
@@ -141,7 +152,7 @@ class Trial:
         long_text = T("STRING(4095)", id=b.STRING, size=4096)
         once = book(T("U", size=4096, fields=[F("a", "STRING(4095)", 0, 4096)]), long_text)
         twice = book(T("U", size=4096, fields=[F("a", "STRING(4095)", 0, 4096), F("b", "STRING(4095)", 0, 4096)]), long_text)
-        euros = "text " + "E282AC" * 4096 + "\n"
+        euros = "clipped " + "E282AC" * 4096 + "\n"
         self.compare("A121 one text", once, b"\x80" * 4096, "walk U 4096\nmap 1\nkey a\n" + euros + "end\n")
         self.compare("A121 two texts", twice, b"\x80" * 4096, "refused 15\n")
         # the longest lines: names of 200 bytes as keys and entries

@@ -479,7 +479,7 @@ fn leaf_by<S: Serializer>(leaf: Value, s: S) -> Result<S::Ok, S::Error> {
         Value::Nat { value, .. } => s.serialize_u64(value),
         Value::Real32(bits) => s.serialize_f32(f32::from_bits(bits)),
         Value::Real64(bits) => s.serialize_f64(f64::from_bits(bits)),
-        Value::Text(text) => s.serialize_str(text),
+        Value::Text { text, .. } => s.serialize_str(text),
         // No enumeration is timed: serde wants static names for their entries.
         _ => s.serialize_unit(),
     }

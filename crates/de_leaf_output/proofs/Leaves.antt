@@ -25,7 +25,7 @@ use Rattle.de_output.specs.Trace.{rec, text, one, From, Halts}
 use Rattle.de_output.proofs.Runs.{halted}
 use Rattle.de_leaf_output.specs.declared.LeafForm.{LeafForm}
 use Rattle.de_leaf_output.specs.declared.LeafForm.the-variants as form
-use Rattle.de_leaf_output.specs.Leaves.{endsAt, formOf, traceOf}
+use Rattle.de_leaf_output.specs.Leaves.{endsAt, endByte, formOf, traceOf}
 
 pub form-known : {v : LeafValue} {f : LeafForm} (u : LeafValue) → v ≡ u → f ≡ formOf u → f ≡ formOf v
 form-known u e q = rw e q
@@ -43,8 +43,8 @@ form-single r x n e q h = rw (e, h, q)
 pub form-double : {v : LeafValue} (r : Record) (x : Float) (n : ℕ) → v ≡ leaf.Double x → n ≡ realBits (real.Double x) → r ≡ newRecord 10 0 0 n → form.Record r ≡ formOf v
 form-double r x n e q h = rw (e, h, q)
 
-pub form-text : {v : LeafValue} (d : Decoder) (t : TextEnd) (n : ℕ) → v ≡ leaf.Text d t → n ≡ endsAt t → form.Text 0 d n ≡ formOf v
-form-text d t n e q = rw (e, q)
+pub form-text : {v : LeafValue} (d : Decoder) (t : TextEnd) (w n : ℕ) → v ≡ leaf.Text d t → w ≡ endByte t → n ≡ endsAt t → form.Text w d n ≡ formOf v
+form-text d t w n e b q = rw (e, b, q)
 
 module _ (mem : List ℕ) {tape txt : List ℕ} {s r : Step} (v : LeafValue) (f : LeafForm) (q : f ≡ formOf v) where
   pub leaf-record : {tape′ txt′ : List ℕ} (x : Record) → f ≡ form.Record x → From (one (rec x)) tape txt s r tape′ txt′ → From (traceOf v mem) tape txt s r tape′ txt′

@@ -1,3 +1,4 @@
--- Laws that the functions' proofs cite, and the law on reals.
+-- Laws that the functions' proofs cite, the law on reals, and the law on byte 1 of a text.
 mod Leaves
 pub mod Reals
+pub mod Ended

@@ -1,13 +1,15 @@
--- What a leaf's value is on the tape (document 01, "The tape"). Assumes nothing.
+-- What a leaf's value is on the tape (document 01, "The tape"; document 02, change request 2). Assumes nothing.
 use mathlib.Core.Bool.{cond}
 use mathlib.Core.List.{List}
 use Prim.Native.Nat.{ℕ}
 use lib.ListN.{take}
+use Rattle.enc_number.specs.Answer.{truthNumber}
 use Rattle.enc_float.specs.Float.{realBits}
 use Rattle.enc_float.specs.declared.Real.the-variants as real
 use Rattle.enc_utf_8.specs.declared.TextEnd.{TextEnd}
 use Rattle.enc_utf_8.specs.declared.TextEnd.the-variants.{Terminated, Unterminated}
 use Rattle.enc_text_decoder.specs.Text.{decodedBy}
+use Rattle.enc_text_decoder.specs.Ended.{wasFound}
 use Rattle.tape.specs.Record.{newRecord}
 use Rattle.de_leaves.specs.declared.leaf.LeafValue.{LeafValue}
 use Rattle.de_leaves.specs.declared.leaf.LeafValue.the-variants as leaf
@@ -20,6 +22,10 @@ abbrev pub endsAt : TextEnd → ℕ
 endsAt (Terminated n) = n
 endsAt (Unterminated n) = n
 
+-- byte 1 of a text's record: 1 if a terminator was found, else 0
+abbrev pub endByte : TextEnd → ℕ
+endByte e = truthNumber (wasFound e)
+
 -- a leaf's value as one record, one text with byte 1 of its record, or a refusal
 abbrev pub formOf : LeafValue → LeafForm
 formOf (leaf.Signed w b) = form.Record (newRecord 7 w 0 b)
@@ -29,7 +35,7 @@ formOf (leaf.Single x) = form.Record (newRecord 9 0 0 (realBits (real.Single x))
 formOf (leaf.Double x) = form.Record (newRecord 10 0 0 (realBits (real.Double x)))
 formOf (leaf.NanSingle n) = form.Record (newRecord 9 0 0 n)
 formOf (leaf.NanDouble n) = form.Record (newRecord 10 0 0 n)
-formOf (leaf.Text d e) = form.Text 0 d (endsAt e)
+formOf (leaf.Text d e) = form.Text (endByte e) d (endsAt e)
 formOf (leaf.Entry n) = form.Record (newRecord 12 0 n 0)
 formOf leaf.Unit = form.Record (newRecord 13 0 0 0)
 formOf (leaf.Refused k) = form.Refused k

@@ -7,7 +7,7 @@ ghost use Rattle.type_book.specs.Book.{fieldsOf, entriesOf};
 ghost use Rattle.type_category.specs.Category.{categoryOf};
 ghost use Rattle.de_leaves.specs.Leaf.{leafAt};
 ghost use Rattle.de_output.specs.Trace.{From};
-ghost use Rattle.de_leaf_output.specs.Leaves.{endsAt, formOf, traceOf};
+ghost use Rattle.de_leaf_output.specs.Leaves.{endsAt, endByte, formOf, traceOf};
 use de_leaves::leaf::LeafValue;
 use de_output::Step;
 use de_output::put;
@@ -55,6 +55,16 @@ fn before(end: TextEnd) -> usize
     }
 }
 
+// Byte 1 of a text's record: 1 if a terminator was found, else 0.
+fn end_byte(end: TextEnd) -> u8
+    ensures { λ r. ⌜ r ≡ endByte end ⌝ }
+{
+    match end {
+        TextEnd::Terminated(_) => 1,
+        TextEnd::Unterminated(_) => 0,
+    }
+}
+
 // How a leaf's value goes on the tape: as one record, as a text (byte 1 of its record, its decoder, the number of its bytes), or not at all.
 pub enum LeafForm {
     Record(Record),
@@ -74,7 +84,7 @@ fn form_of(value: LeafValue) -> LeafForm
         LeafValue::Double(x) => LeafForm::Record(Record::new(REAL64, 0, 0, Real::Double(x).bits())),
         LeafValue::NanSingle(n) => LeafForm::Record(Record::new(REAL32, 0, 0, n as u64)),
         LeafValue::NanDouble(n) => LeafForm::Record(Record::new(REAL64, 0, 0, n)),
-        LeafValue::Text(decoder, end) => LeafForm::Text(0, decoder, before(end)),
+        LeafValue::Text(decoder, end) => LeafForm::Text(end_byte(end), decoder, before(end)),
         LeafValue::Entry(n) => LeafForm::Record(Record::new(ENUM, 0, n as u64, 0)),
         LeafValue::Unit => LeafForm::Record(Record::new(UNIT, 0, 0, 0)),
         LeafValue::Refused(k) => LeafForm::Refused(k),

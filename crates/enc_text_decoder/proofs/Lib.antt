@@ -1,2 +1,3 @@
--- Laws that the functions' proofs cite.
+-- Laws that the functions' proofs cite, and that the search for a text's end tells whether there is a terminator.
 mod Texts
+pub mod Found

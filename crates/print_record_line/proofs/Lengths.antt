@@ -1,10 +1,10 @@
 -- How long the line of a record is, where no name is longer than 200 bytes. Assumes nothing.
 use mathlib.Core.Path.{_≡_}
 use mathlib.Core.Bool.{false, _||_}
-use mathlib.Core.List.{List, [], _∷_}
+use mathlib.Core.List.{List, [], _∷_, _++_}
 use Prim.Native.Nat.{ℕ, _+_, _*_, _≤_, _<_}
 use native.Mathlib.Omega.{arith}
-use lib.ListN.{length}
+use lib.ListN.{length, length-append}
 use lib.Dec.{eqb, ltb}
 use Rattle.enc_windows_1252.specs.Text.{decimal}
 use Rattle.type_book.specs.Book.{nameOf}
@@ -12,7 +12,7 @@ use Rattle.tape.specs.declared.record.Record.{Record}
 use Rattle.tape.specs.Text.{nameIn, recordText}
 use Rattle.print_figures.specs.Figures.{signed, hex, hexText}
 use Rattle.print_figures.proofs.Lengths.{either, three-long, two-digits, word-digits, signed-short, hex-long, hexes-long}
-use Rattle.print_record_line.specs.Line.{countedLine, namedLine, sizedStart, intLine, natLine, realLine, textLine, numberLine, lineOf}
+use Rattle.print_record_line.specs.Line.{countedLine, namedLine, sizedStart, intLine, natLine, realLine, textWord, textLine, numberLine, lineOf}
 
 -- ---- the forms of lines
 
@@ -41,10 +41,15 @@ real-long : (word : List ℕ) (k n : ℕ) → length (realLine word k n) ≡ len
 unfolding realLine
 real-long word k n = omega (arith, three-long word (hex k n) (0x0a ∷ []), hex-long k n)
 
-pub text-short : (xs : List ℕ) → length (textLine xs) ≤ 6 + 2 * length xs
+word-short : (w : ℕ) → length (textWord w) ≤ 7
+unfolding textWord
+word-short w = either (eqb w 0) _ _ 7 (omega arith) (omega arith)
+
+pub text-short : (w : ℕ) (xs : List ℕ) → length (textLine w xs) ≤ 9 + 2 * length xs
 unfolding textLine
-text-short [] = omega arith
-text-short (x ∷ xs) = omega (arith, three-long (0x74 ∷ 0x65 ∷ 0x78 ∷ 0x74 ∷ 0x20 ∷ []) (hexText (x ∷ xs)) (0x0a ∷ []), hexes-long (x ∷ xs))
+text-short w [] = omega (arith, word-short w, length-append (textWord w) (0x0a ∷ []))
+text-short w (x ∷ xs) =
+    omega (arith, word-short w, length-append (textWord w) (0x20 ∷ []), three-long (textWord w ++ (0x20 ∷ [])) (hexText (x ∷ xs)) (0x0a ∷ []), hexes-long (x ∷ xs))
 
 -- ---- the line of a record that is no text
 

@@ -4,15 +4,15 @@ use mathlib.Core.List.{List, [], _∷_}
 use Prim.Native.Nat.{ℕ, _*_}
 use native.Mathlib.Omega.{arith}
 use lib.ListN.{length}
-use borrow.Author.Tests.{ne-eqb}
+use borrow.Author.Tests.{eq-eqb, ne-eqb}
 use Rattle.enc_utf_8.specs.declared.Put.{Put}
 use Rattle.enc_windows_1252.specs.Text.{decimal}
 use Rattle.tape.specs.declared.record.Record.{Record}
 use Rattle.tape.specs.Text.{recordText}
 use Rattle.print_figures.specs.Puts.{Puts}
 use Rattle.print_figures.specs.Figures.{signed, hex, hexText}
-use Rattle.print_figures.proofs.Joins.{chain-3, puts-none}
-use Rattle.print_record_line.specs.Line.{countedLine, namedLine, sizedStart, intLine, natLine, realLine, textLine, numberLine, endLine, lineOf}
+use Rattle.print_figures.proofs.Joins.{chain, chain-3, puts-none}
+use Rattle.print_record_line.specs.Line.{countedLine, namedLine, sizedStart, intLine, natLine, realLine, textWord, textLine, numberLine, endLine, lineOf}
 
 -- ---- the forms
 
@@ -41,15 +41,26 @@ module _ {out out₁ out₂ out₃ : List ℕ} {p q r s : Put} where
   unfolding realLine
   real-put word k n a b c = chain-3 a b c
 
-  pub text-put : (text : List ℕ) → (length text ≡ 0 → ⊥) → Puts (0x74 ∷ 0x65 ∷ 0x78 ∷ 0x74 ∷ 0x20 ∷ []) out p q out₁ → Puts (hexText text) out₁ q r out₂ → Puts (0x0a ∷ []) out₂ r s out₃ → Puts (textLine text) out p s out₃
+  pub text-put : (w : ℕ) (text : List ℕ) {out₄ : List ℕ} {t : Put} → (length text ≡ 0 → ⊥) → Puts (textWord w) out p q out₁ → Puts (0x20 ∷ []) out₁ q r out₂ → Puts (hexText text) out₂ r s out₃ → Puts (0x0a ∷ []) out₃ s t out₄ → Puts (textLine w text) out p t out₄
   unfolding textLine
-  text-put [] h a b c = absurd (h refl)
-  text-put (x ∷ xs) h a b c = chain-3 a b c
+  text-put w [] h a b c d = absurd (h refl)
+  text-put w (x ∷ xs) h a b c d = chain-3 (chain a b) c d
 
-pub text-alone : (text : List ℕ) {out out′ : List ℕ} {p r : Put} → length text ≡ 0 → Puts (0x74 ∷ 0x65 ∷ 0x78 ∷ 0x74 ∷ 0x0a ∷ []) out p r out′ → Puts (textLine text) out p r out′
+pub text-alone : (w : ℕ) (text : List ℕ) {out out₁ out₂ : List ℕ} {p q r : Put} → length text ≡ 0 → Puts (textWord w) out p q out₁ → Puts (0x0a ∷ []) out₁ q r out₂ → Puts (textLine w text) out p r out₂
 unfolding textLine
-text-alone [] e a = a
-text-alone (x ∷ xs) e a = absurd (omega arith)
+text-alone w [] e a b = chain a b
+text-alone w (x ∷ xs) e a b = absurd (omega arith)
+
+-- ---- the word before a text
+
+module _ (w : ℕ) {out out′ : List ℕ} {p q : Put} where
+  pub word-clipped : w ≡ 0 → Puts (0x63 ∷ 0x6c ∷ 0x69 ∷ 0x70 ∷ 0x70 ∷ 0x65 ∷ 0x64 ∷ []) out p q out′ → Puts (textWord w) out p q out′
+  unfolding textWord
+  word-clipped e a = rw (eq-eqb w 0 e) a
+
+  pub word-text : (w ≡ 0 → ⊥) → Puts (0x74 ∷ 0x65 ∷ 0x78 ∷ 0x74 ∷ []) out p q out′ → Puts (textWord w) out p q out′
+  unfolding textWord
+  word-text n a = rw (ne-eqb w 0 n) a
 
 -- ---- the line of a record, kind by kind
 
@@ -99,7 +110,7 @@ module _ (book text : List ℕ) (r : Record) {out out′ : List ℕ} {p q : Put}
   unfolding lineOf
   map-end-line e a = rw e a
 
-  pub record-text-line : r .kind ≡ 11 → (part : List ℕ) → part ≡ recordText book text r → Puts (textLine part) out p q out′ → Puts (lineOf book text r) out p q out′
+  pub record-text-line : r .kind ≡ 11 → (part : List ℕ) → part ≡ recordText book text r → Puts (textLine (r .width) part) out p q out′ → Puts (lineOf book text r) out p q out′
   unfolding lineOf
   record-text-line e part n a = rw (← n, e) a
 

@@ -1,4 +1,4 @@
--- The line of a record, as bytes (document 01, "Program `adswalk`"). Assumes nothing.
+-- The line of a record, as bytes (document 01, "Program `adswalk`"; document 02, change request 2). Assumes nothing.
 use mathlib.Core.Bool.{cond}
 use mathlib.Core.List.{List, [], _∷_, _++_}
 use Prim.Native.Nat.{ℕ, _*_}
@@ -34,10 +34,14 @@ natLine width n = sizedStart (0x6e ∷ 0x61 ∷ 0x74 ∷ 0x20 ∷ []) width ++ d
 unfoldable pub realLine : List ℕ → ℕ → ℕ → List ℕ
 realLine word k n = word ++ hex k n ++ (0x0a ∷ [])
 
--- `text` and the hexadecimal digits of its bytes; of an empty text the word alone
-unfoldable pub textLine : List ℕ → List ℕ
-textLine [] = 0x74 ∷ 0x65 ∷ 0x78 ∷ 0x74 ∷ 0x0a ∷ []
-textLine (x ∷ xs) = (0x74 ∷ 0x65 ∷ 0x78 ∷ 0x74 ∷ 0x20 ∷ []) ++ hexText (x ∷ xs) ++ (0x0a ∷ [])
+-- the word before a text, by byte 1 of its record: `clipped` if no terminator was found (0), else `text`
+unfoldable pub textWord : ℕ → List ℕ
+textWord w = cond (eqb w 0) (0x63 ∷ 0x6c ∷ 0x69 ∷ 0x70 ∷ 0x70 ∷ 0x65 ∷ 0x64 ∷ []) (0x74 ∷ 0x65 ∷ 0x78 ∷ 0x74 ∷ [])
+
+-- a text's word, a blank and the hexadecimal digits of its bytes; of an empty text the word alone
+unfoldable pub textLine : ℕ → List ℕ → List ℕ
+textLine w [] = textWord w ++ (0x0a ∷ [])
+textLine w (x ∷ xs) = (textWord w ++ (0x20 ∷ [])) ++ hexText (x ∷ xs) ++ (0x0a ∷ [])
 
 -- ---- the line of a record
 
@@ -55,7 +59,7 @@ numberLine r =
 abbrev pub endLine : List ℕ
 endLine = 0x65 ∷ 0x6e ∷ 0x64 ∷ 0x0a ∷ []
 
--- `array` and `map` with the count; `end`; `key` and `enum` with the name; `text`; `unit`; else as a number
+-- `array` and `map` with the count; `end`; `key` and `enum` with the name; `text` or `clipped`; `unit`; else as a number
 unfoldable pub lineOf : List ℕ → List ℕ → Record → List ℕ
 lineOf book text r =
     cond (eqb (r .kind) 1) (countedLine (0x61 ∷ 0x72 ∷ 0x72 ∷ 0x61 ∷ 0x79 ∷ 0x20 ∷ []) (r .a))
@@ -63,7 +67,7 @@ lineOf book text r =
     (cond (eqb (r .kind) 3) (countedLine (0x6d ∷ 0x61 ∷ 0x70 ∷ 0x20 ∷ []) (r .a))
     (cond (eqb (r .kind) 4) (namedLine (0x6b ∷ 0x65 ∷ 0x79 ∷ 0x20 ∷ []) (recordText book text r))
     (cond (eqb (r .kind) 5) endLine
-    (cond (eqb (r .kind) 11) (textLine (recordText book text r))
+    (cond (eqb (r .kind) 11) (textLine (r .width) (recordText book text r))
     (cond (eqb (r .kind) 12) (namedLine (0x65 ∷ 0x6e ∷ 0x75 ∷ 0x6d ∷ 0x20 ∷ []) (recordText book text r))
     (cond (eqb (r .kind) 13) (0x75 ∷ 0x6e ∷ 0x69 ∷ 0x74 ∷ 0x0a ∷ [])
     (numberLine r))))))))

@@ -1,6 +1,6 @@
 // The line of each kind of record.
 ghost use Rattle.print_figures.specs.Puts.{Puts};
-ghost use Rattle.print_record_line.specs.Line.{countedLine, namedLine, sizedStart, intLine, natLine, realLine, textLine, numberLine, lineOf};
+ghost use Rattle.print_record_line.specs.Line.{countedLine, namedLine, sizedStart, intLine, natLine, realLine, textWord, textLine, numberLine, lineOf};
 use enc_utf_8::Put;
 use print_figures::decimal::put_decimal;
 use print_figures::decimal::put_signed;
@@ -78,16 +78,27 @@ fn real_line(p: Put, word: &[u8], k: u8, n: u64, out: &mut [u8]) -> Put
     put_byte(b, b'\n', out)
 }
 
-// A text's bytes; the empty text has no blank after its word.
-fn text_line(p: Put, text: &[u8], out: &mut [u8]) -> Put
-    ensures { λ r. ⌜ Puts (textLine (now (text .entry))) (now (out .entry)) p r (now (out .exit)) ⌝ }
+// The word before a text: byte 1 of its record says whether it was ended.
+fn text_word(p: Put, ended: u8, out: &mut [u8]) -> Put
+    ensures { λ r. ⌜ Puts (textWord ended) (now (out .entry)) p r (now (out .exit)) ⌝ }
 {
-    if text.len() == 0 {
-        return put_bytes(p, b"text\n", out);
+    if ended == 0 {
+        return put_bytes(p, b"clipped", out);
     }
-    let a = put_bytes(p, b"text ", out);
-    let b = put_hex_text(a, text, out);
-    put_byte(b, b'\n', out)
+    put_bytes(p, b"text", out)
+}
+
+// A text's word and its bytes; the empty text has no blank after its word.
+fn text_line(p: Put, ended: u8, text: &[u8], out: &mut [u8]) -> Put
+    ensures { λ r. ⌜ Puts (textLine ended (now (text .entry))) (now (out .entry)) p r (now (out .exit)) ⌝ }
+{
+    let a = text_word(p, ended, out);
+    if text.len() == 0 {
+        return put_byte(a, b'\n', out);
+    }
+    let b = put_byte(a, b' ', out);
+    let c = put_hex_text(b, text, out);
+    put_byte(c, b'\n', out)
 }
 
 // The line of a bool, an integer or a real; another kind has none.
@@ -116,7 +127,7 @@ pub fn line<'a>(p: Put, book: &'a [u8], text: &'a [u8], r: Record, out: &mut [u8
         MAP => counted(p, b"map ", r.a, out),
         KEY => named(p, b"key ", record_text(book, text, r), out),
         MAP_END => put_bytes(p, b"end\n", out),
-        TEXT => text_line(p, record_text(book, text, r), out),
+        TEXT => text_line(p, r.width, record_text(book, text, r), out),
         ENUM => named(p, b"enum ", record_text(book, text, r), out),
         UNIT => put_bytes(p, b"unit\n", out),
         _ => number_line(p, r, out),

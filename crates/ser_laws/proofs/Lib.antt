@@ -4,6 +4,7 @@
 -- (ReadTree), its tape well formed (ReadForm).
 -- The round trip: UTF-16 (WideTrip), the ids of texts (TextId), a leaf (TripLeaf), along both walks (TripWalk), of two calls (RoundTrip), its premises
 -- (Needed). Books: the examples' books.
+-- Tapes that are written alike: along the walk (WriteAlike), along the form (FormAlike), of two calls (Alike).
 mod Plain
 mod Sizes
 mod Ranges
@@ -19,6 +20,9 @@ mod TextId
 mod TripLeaf
 mod TripWalk
 pub mod RoundTrip
+mod WriteAlike
+mod FormAlike
+pub mod Alike
 mod Books
 mod Places
 mod Needed

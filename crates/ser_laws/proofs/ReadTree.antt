@@ -35,7 +35,8 @@ use Rattle.tape.specs.Record.{newRecord, recordBytes}
 use Rattle.de_leaves.specs.declared.leaf.LeafValue.{LeafValue}
 use Rattle.de_leaves.specs.declared.leaf.LeafValue.the-variants as value
 use Rattle.de_leaves.specs.Leaf.{leafAt}
-use Rattle.de_leaf_output.specs.Leaves.{endsAt, traceOf}
+use Rattle.de_leaf_output.specs.Leaves.{endsAt, endByte, traceOf}
+use Rattle.de_leaf_output.proofs.Ended.{end-small}
 use Rattle.enc_text_decoder.specs.Text.{decodedBy}
 use Rattle.de_output.specs.Trace.{Event, rec, text, Trace, done, stop, textBytes, tapeBytes, one, refuse, _then_}
 use Rattle.de_output.proofs.Runs.{text-then, tape-then}
@@ -226,21 +227,21 @@ module _ (book buffer : List ℕ) where
           ranges = l;
         }
 
-    text-leaf : (from : ℕ) (xs : List ℕ) → wellFormed xs ≡ true → Stands buffer from xs
-        → FineLeaf book buffer (record { kind = 11; width = 0; spare = 0; declared = 0; a = from; b = length xs })
-    text-leaf from xs h s =
+    text-leaf : (w from : ℕ) (xs : List ℕ) → w ≤ 1 → wellFormed xs ≡ true → Stands buffer from xs
+        → FineLeaf book buffer (record { kind = 11; width = w; spare = 0; declared = 0; a = from; b = length xs })
+    text-leaf w from xs m h s =
         let e : take (length xs) (drop from buffer) ≡ xs = ap (take (length xs)) (s .is) ∙ take-append-seam xs (s .rest) in
         let l = s .inside in
-        fine-record 11 0 from (length xs) (omega arith) (omega arith) (omega arith) (omega arith) (trees.text refl refl l (rw e h))
+        fine-record 11 w from (length xs) (omega arith) (omega arith) (omega arith) (omega arith) (trees.text refl m l (rw e h))
 
-    text-alone : (left : ℕ) (xs : List ℕ) → wellFormed xs ≡ true → Emits (Value (suc left)) (one (text 0 0 xs))
+    text-alone : (left w : ℕ) (xs : List ℕ) → w ≤ 1 → wellFormed xs ≡ true → Emits (Value (suc left)) (one (text w 0 xs))
     unfolding textBytes tapeBytes depth Fine records trees.recordsBytes
-    text-alone left xs h =
+    text-alone left w xs m h =
         record {
           emits = λ from s. record {
-            tree = leaf (record { kind = 11; width = 0; spare = 0; declared = 0; a = from; b = length xs });
+            tree = leaf (record { kind = 11; width = w; spare = 0; declared = 0; a = from; b = length xs });
             levels = omega arith;
-            fine = text-leaf from xs h (rw append-nil at s);
+            fine = text-leaf w from xs m h (rw append-nil at s);
             bytes = refl;
           };
         }
@@ -269,7 +270,7 @@ module _ (book buffer : List ℕ) where
     value-emits left (value.Double x) mem few f = double-emits left _ (f .fine)
     value-emits left (value.NanSingle n) mem few f = single-emits left n (f .fine)
     value-emits left (value.NanDouble n) mem few f = double-emits left n (f .fine)
-    value-emits left (value.Text d e) mem few f = text-alone left (decodedBy d (take (endsAt e) mem)) (decoded-formed d (take (endsAt e) mem))
+    value-emits left (value.Text d e) mem few f = text-alone left (endByte e) (decodedBy d (take (endsAt e) mem)) (end-small e) (decoded-formed d (take (endsAt e) mem))
     value-emits left (value.Entry n) mem few f =
         let x = f .fine in
         let l = x .inside in

@@ -47,6 +47,7 @@ use Rattle.de_leaves.specs.declared.leaf.LeafValue.the-variants as value
 use Rattle.de_leaves.specs.Leaf as leaves
 use Rattle.de_leaves.specs.Leaf.{kindOfLeaf, entryFrom, unlisted, entryOr, leafAt}
 use Rattle.de_leaf_output.specs.Leaves.{endsAt, traceOf}
+use Rattle.de_leaf_output.proofs.Ended.{end-small}
 use Rattle.enc_utf_8.specs.declared.TextEnd.{TextEnd}
 use Rattle.enc_text_decoder.specs.Text.{decodedBy}
 use Rattle.enc_text_decoder.specs.declared.Decoder.the-variants as decoder
@@ -255,25 +256,25 @@ module _ (book buffer : List ℕ) (width t : ℕ) (mem : List ℕ) (b : Bytes me
       rw (y, q, ← z, e) (ap holds (take-append-drop n mem))
 
   module _ (small : length buffer < 2 ^ 64) (other : k ≡ target.Other) where
-    record-text : (from : ℕ) (xs : List ℕ) → Stands buffer from xs → recordText book buffer (rec-of 11 0 from (length xs)) ≡ xs
+    record-text : (w from : ℕ) (xs : List ℕ) → Stands buffer from xs → recordText book buffer (rec-of 11 w from (length xs)) ≡ xs
     unfolding recordText textPart
-    record-text from xs s =
+    record-text w from xs s =
         rw (le-leb (from + length xs) (length buffer) (s .inside)) (ap (take (length xs)) (s .is) ∙ take-append-seam xs (s .rest))
 
-    goes-one-text : (xs : List ℕ) → textBy (typeIdOf book t) xs mem ≡ holds mem → Emits book buffer LeafBack (one (text 0 0 xs))
+    goes-one-text : (w : ℕ) (xs : List ℕ) → w ≤ 1 → textBy (typeIdOf book t) xs mem ≡ holds mem → Emits book buffer LeafBack (one (text w 0 xs))
     unfolding tapeBytes textBytes leafBy textLeaf
-    goes-one-text xs e =
+    goes-one-text w xs m e =
         record {
           emits = λ from s.
               let u : Stands buffer from xs = rw append-nil at s in
               let l = u .inside in
               record {
-                r = rec-of 11 0 from (length xs);
-                held = held-of 11 0 from (length xs) (omega arith) (omega arith) (omega arith) (omega arith);
-                bytes = append-nil (recordBytes (rec-of 11 0 from (length xs)));
+                r = rec-of 11 w from (length xs);
+                held = held-of 11 w from (length xs) (omega arith) (omega arith) (omega arith) (omega arith);
+                bytes = append-nil (recordBytes (rec-of 11 w from (length xs)));
                 no-array = λ z. omega arith;
                 no-map = λ z. omega arith;
-                writes = rw (other, record-text from xs u) e;
+                writes = rw (other, record-text w from xs u) e;
               };
         }
 
@@ -288,14 +289,14 @@ module _ (book buffer : List ℕ) (width t : ℕ) (mem : List ℕ) (b : Bytes me
 
     goes-narrow : (end : TextEnd) → typeIdOf book t ≡ 30 → Goes (value.Text decoder.Windows1252 end)
     unfolding leafKept textKept
-    goes-narrow end e = record { goes = λ h. goes-one-text _ (narrow-back (endsAt end) e h) }
+    goes-narrow end e = record { goes = λ h. goes-one-text _ _ (end-small end) (narrow-back (endsAt end) e h) }
 
     goes-wide : (end : TextEnd) → typeIdOf book t ≡ 31 → Goes (value.Text decoder.Utf16 end)
     unfolding leafKept textKept
     goes-wide end e =
         record {
           goes = λ h.
-              goes-one-text _ (wide-back (endsAt end) e (and-left (zerosAfter (endsAt end) 2 mem) _ h) (and-right (zerosAfter (endsAt end) 2 mem) _ h));
+              goes-one-text _ _ (end-small end) (wide-back (endsAt end) e (and-left (zerosAfter (endsAt end) 2 mem) _ h) (and-right (zerosAfter (endsAt end) 2 mem) _ h));
         }
 
     goes-text : (typeIdOf book t ≡ 30) ⊎ (typeIdOf book t ≡ 31) → Goes (leaves.textLeaf book t mem)

@@ -18,6 +18,7 @@ use Rattle.ser.specs.Write.{Ctx, ctx, Outcome, went, refused}
 use Rattle.ser.specs.Call.{typeWrite, bookWrite, answerOf, writeCall, WriteIs}
 use Rattle.ser_laws.specs.Touched.{OnlyIn, leavesOf}
 use Rattle.ser_laws.specs.Trip.{isKept}
+use Rattle.ser_laws.specs.Alike.{Records, SameButEnd}
 
 -- "for an accepted write, a leaf being where such a record goes, every output byte outside the leaves that the tape names equals the image's";
 -- the output is as long as the image, and the leaves lie inside it
@@ -68,3 +69,10 @@ RoundTrip =
     → ReadIs (readTrace buffer len width n mem) tape txt r tape′ txt′ → r ≡ reading.Done k m → m ≤ room
     → isKept (de.ctx (take len buffer) width) n mem ≡ true → length output ≡ length mem
     → WriteIs (writeCall buffer len width n mem (length output) (take (24 * k) tape′) (take room txt′)) mem output w new → GivenBack w mem new
+
+-- "the writer takes both and writes alike": two tapes that differ only in byte 1 of texts come to the same, answer and output, also where they are
+-- refused
+abbrev pub EndsIgnored : Type 0
+EndsIgnored =
+    (buffer : List ℕ) (len width n : ℕ) (image : List ℕ) (room : ℕ) (tape tape′ text : List ℕ)
+    → Records SameButEnd tape tape′ → writeCall buffer len width n image room tape text ≡ writeCall buffer len width n image room tape′ text

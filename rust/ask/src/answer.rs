@@ -258,7 +258,10 @@ fn event(value: Value, block: u32) -> String {
         Value::Nat { bits, value } => format!(" u{bits}:{value}"),
         Value::Real32(bits) => format!(" f32:{bits:08X}"),
         Value::Real64(bits) => format!(" f64:{bits:016X}"),
-        Value::Text(text) => format!(" str:{}", hex(text.as_bytes())),
+        Value::Text { text, clipped } => {
+            let word = if clipped { "clipped" } else { "str" };
+            format!(" {word}:{}", hex(text.as_bytes()))
+        }
         Value::Enum(name) => format!(" enum:{}@{block}", hex(name.as_bytes())),
         Value::Unit => " unit".into(),
     }

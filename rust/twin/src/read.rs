@@ -42,12 +42,13 @@ impl<'t> Sink<'t> {
         Ok(())
     }
 
-    fn text(&mut self, text: &str) -> Result<(), Stop> {
+    /// A text, and byte 1 of its record: whether its bytes have a terminator.
+    fn text(&mut self, text: &str, ended: bool) -> Result<(), Stop> {
         let (start, len) = (self.texts, text.len());
         let place = self.text.get_mut(start..start + len).ok_or(Stop::Number(15))?;
         place.copy_from_slice(text.as_bytes());
         self.texts += len;
-        self.record(11, 0, start as u64, len as u64)
+        self.record(11, ended.into(), start as u64, len as u64)
     }
 }
 
@@ -78,12 +79,11 @@ impl Reader<'_, '_> {
             Category::Primitive | Category::SubRange | Category::Bitset => self.number(block::id(book, t), bytes),
             Category::String => {
                 self.same_size(t, bytes)?;
-                let wide = block::id(book, t) == 31;
-                self.sink.text(&if wide {
-                    text::wstring(bytes)
-                } else {
-                    text::string(bytes)
-                })
+                let (text, ended) = match block::id(book, t) == 31 {
+                    true => (text::wstring(bytes), text::wstring_ended(bytes)),
+                    false => (text::string(bytes), text::string_ended(bytes)),
+                };
+                self.sink.text(&text, ended)
             }
             Category::Enum => self.entry(t, bytes),
             Category::Pointer | Category::Reference | Category::Interface => self.pointer(bytes),

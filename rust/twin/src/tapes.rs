@@ -116,7 +116,14 @@ impl Maker<'_> {
     fn text(&mut self, most: usize) {
         let len = self.rng.below(most + 2);
         let text: String = (0..len).map(|_| self.rng.pick(&CHARS)).collect();
-        self.tape.put_text(&text);
+        self.put_text(&text);
+    }
+
+    /// A text, ended or not: no write looks at that.
+    fn put_text(&mut self, text: &str) {
+        let start = self.tape.records.len();
+        self.tape.put_text(text);
+        self.tape.records[start + 1] = self.rng.chance(500).into();
     }
 
     /// A leaf of any kind, by no type.
@@ -196,7 +203,7 @@ impl Maker<'_> {
         match self.rng.chance(300) {
             true => {
                 let name = String::from_utf8_lossy(block::name(book, e)).into_owned();
-                self.tape.put_text(&name);
+                self.put_text(&name);
             }
             false => self.tape.put(12, 0, e.into(), 0),
         }

@@ -67,3 +67,13 @@ pub fn wstring(bytes: &[u8]) -> String {
         .map_or(bytes.len(), |i| 2 * i);
     utf_16_decode(&bytes[..end])
 }
+
+/// Whether a STRING's bytes have a terminator: a zero.
+pub fn string_ended(bytes: &[u8]) -> bool {
+    bytes.contains(&0)
+}
+
+/// Whether a WSTRING's bytes have a terminator: a zero pair at an even place.
+pub fn wstring_ended(bytes: &[u8]) -> bool {
+    (0..bytes.len() / 2).any(|i| bytes[2 * i] == 0 && bytes[2 * i + 1] == 0)
+}

@@ -60,6 +60,7 @@ impl<'f> Form<'f> {
         let r = self.records.next()?;
         let width_fits = match r.kind {
             7 | 8 => matches!(r.width, 1 | 2 | 4 | 8),
+            11 => r.width <= 1,
             _ => r.width == 0,
         };
         (width_fits && r.spare == [0; 6]).then_some(r)

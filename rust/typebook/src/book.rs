@@ -430,9 +430,11 @@ impl<'b> TypeRef<'b> {
     /// let image = file("mem.bin")?;
     /// let recipe = book.root(0)?;
     ///
-    /// // What was read is written back unchanged.
-    /// let tape = recipe.read(8, &image)?;
-    /// assert_eq!(recipe.write(8, &image, &tape)?, image);
+    /// // What was changed is written back; all else keeps its bytes.
+    /// let mut tape = recipe.read(8, &image)?;
+    /// assert_eq!(recipe.write(8, &image, &tape.edits())?, image);
+    /// tape.edit("Tank.Heated", false)?;
+    /// assert_ne!(recipe.write(8, &image, &tape.edits())?, image);
     /// # Ok::<(), Box<dyn std::error::Error>>(())
     /// ```
     ///

@@ -2,7 +2,7 @@
 
 use crate::TypeBook;
 use crate::book::names_of;
-use crate::tape::{RECORD, Tape, record};
+use crate::tape::{ENDED, RECORD, Tape, record};
 use std::collections::HashMap;
 use std::error::Error;
 use std::fmt;
@@ -195,7 +195,7 @@ impl<'b> TapeBuilder<'b> {
         self.value_due()?;
         let start = self.tape.text.len() as u64;
         self.tape.text.extend_from_slice(text.as_bytes());
-        Ok(self.put(11, 0, start, text.len() as u64))
+        Ok(self.put(11, ENDED, start, text.len() as u64))
     }
 
     /// An enumeration's entry, by its name.

@@ -2,7 +2,7 @@
 
 use crate::book::name_in;
 use crate::ffi::total;
-use crate::tape::{RECORD, Tape, Value, record};
+use crate::tape::{ENDED, RECORD, Tape, Value, record};
 use std::error::Error;
 use std::fmt;
 
@@ -133,8 +133,8 @@ impl Tape<'_> {
     /// assert_eq!(tape.at("Pattern[1,2]")?, Value::Int { bits: 16, value: 9 });
     ///
     /// // What was written is read again.
-    /// let again = recipe.read(8, &recipe.write(8, &image, &tape)?)?;
-    /// assert_eq!(again.at("Title")?, Value::Text("Spine 8"));
+    /// let again = recipe.read(8, &recipe.write(8, &image, &tape.edits())?)?;
+    /// assert_eq!(again.at("Title")?, Value::Text { text: "Spine 8", clipped: false });
     ///
     /// // What can't be is an error at once, and the tape stays as it is.
     /// assert_eq!(tape.edit("Nozzles[2].Offset", 40_000), Err(EditError::OutOfRange));
@@ -164,7 +164,7 @@ impl Tape<'_> {
     /// (refusal 17), and texts that fill their field to the last byte (refusal 10).
     ///
     /// ```
-    /// use typebook::TypeBook;
+    /// use typebook::{Refusal, TypeBook};
     /// # let folder = concat!(env!("CARGO_MANIFEST_DIR"), "/../../examples/glue/");
     /// # let file = |name: &str| std::fs::read(format!("{folder}{name}"));
     /// # let book = TypeBook::new(file("book.bin")?)?;
@@ -174,7 +174,11 @@ impl Tape<'_> {
     /// // A map of one field, of an array of three maps, of which the last has one field.
     /// assert_eq!(format!("{:?}", tape.edits()), "[Map(1), Key(\"Nozzles\"), Array(3), Map(0), End, Map(0), End, \
     ///     Map(1), Key(\"Flow\"), Nat { bits: 16, value: 7 }, End, End, End]");
-    /// assert_eq!(recipe.write(8, &image, &tape.edits())?, recipe.write(8, &image, &tape)?);
+    /// assert!(recipe.write(8, &image, &tape.edits()).is_ok());
+    ///
+    /// // The whole tape can't be written: a text in it fills its bytes to the last, and has no room for its zero.
+    /// assert_eq!(tape.at("Operator")?.to_string(), "\"M. Fische\" (clipped)");
+    /// assert_eq!(recipe.write(8, &image, &tape), Err(Refusal::Size));
     /// # Ok::<(), Box<dyn std::error::Error>>(())
     /// ```
     pub fn edits(&self) -> Self {
@@ -292,7 +296,7 @@ impl Tape<'_> {
             (11, New::Text(text)) => {
                 let start = self.text.len() as u64;
                 self.text.extend_from_slice(text.as_bytes());
-                Ok(record(11, 0, start, text.len() as u64))
+                Ok(record(11, ENDED, start, text.len() as u64))
             }
             (12, New::Text(name)) => Ok(record(12, 0, self.entry(at, name)?.into(), 0)),
             (1 | 3, _) => Err(EditError::NotThere),

@@ -7,6 +7,9 @@ use std::fmt;
 
 pub(crate) const RECORD: usize = 24;
 
+/// Byte 1 of a text that is put on a tape by hand: a write gives it its zero.
+pub(crate) const ENDED: u8 = 1;
+
 /// What one record says.
 #[derive(Debug, Clone, Copy, PartialEq)]
 pub enum Value<'t> {
@@ -39,7 +42,12 @@ pub enum Value<'t> {
     /// A real of 8 bytes, by its bits.
     Real64(u64),
     /// A text.
-    Text(&'t str),
+    Text {
+        /// The text itself.
+        text: &'t str,
+        /// No terminator was found in its bytes: the controller may have clipped it. Never so of a text that was put on a tape by hand.
+        clipped: bool,
+    },
     /// The name of an enumeration's entry.
     Enum(&'t str),
     /// The value of a type that holds nothing readable.
@@ -63,7 +71,7 @@ impl Value<'_> {
     }
 }
 
-/// A value without its name: numbers as they are, a text in quotes.
+/// A value without its name: numbers as they are, a text in quotes, with a word after it where it may have been clipped.
 impl fmt::Display for Value<'_> {
     fn fmt(&self, f: &mut fmt::Formatter<'_>) -> fmt::Result {
         match *self {
@@ -76,7 +84,8 @@ impl fmt::Display for Value<'_> {
             Value::Nat { value, .. } => write!(f, "{value}"),
             Value::Real32(bits) => write!(f, "{}", f32::from_bits(bits)),
             Value::Real64(bits) => write!(f, "{}", f64::from_bits(bits)),
-            Value::Text(text) => write!(f, "{text:?}"),
+            Value::Text { text, clipped: false } => write!(f, "{text:?}"),
+            Value::Text { text, clipped: true } => write!(f, "{text:?} (clipped)"),
             Value::Enum(name) => f.write_str(name),
             Value::Unit => f.write_str("-"),
         }
@@ -174,7 +183,8 @@ impl<'b> Tape<'b> {
     }
 
     pub(crate) fn value(&self, at: usize) -> (Option<u32>, Value<'_>) {
-        let bits = 8 * u32::from(self.records[at + 1]);
+        let width = self.records[at + 1];
+        let bits = 8 * u32::from(width);
         let (a, b) = (self.number(at + 8), self.number(at + 16));
         let name = || name_in(self.book, a as u32, total::name);
         match self.records[at] {
@@ -187,7 +197,10 @@ impl<'b> Tape<'b> {
             8 => (None, Value::Nat { bits, value: b }),
             9 => (None, Value::Real32(b as u32)),
             10 => (None, Value::Real64(b)),
-            11 => (None, Value::Text(self.text_part(a, b))),
+            11 => {
+                let (text, clipped) = (self.text_part(a, b), width == 0);
+                (None, Value::Text { text, clipped })
+            }
             12 => (Some(a as u32), Value::Enum(name())),
             13 => (None, Value::Unit),
             kind => unreachable!("no record has the kind {kind}"),

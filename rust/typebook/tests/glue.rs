@@ -1,7 +1,7 @@
 //! The recipes of examples/ and document 01's own example, read from Rust: the lines that the program `adswalk` prints.
 
 use std::path::Path;
-use typebook::{TypeBook, Value};
+use typebook::{Refusal, TypeBook, Value};
 
 #[path = "../examples/plan_save.rs"]
 #[allow(dead_code)]
@@ -20,8 +20,13 @@ fn line(value: Value) -> String {
         Value::Nat { bits, value } => format!("nat {bits} {value}"),
         Value::Real32(bits) => format!("real 4 {bits:08X}"),
         Value::Real64(bits) => format!("real 8 {bits:016X}"),
-        Value::Text("") => "text".into(),
-        Value::Text(text) => format!("text {}", hex(text)),
+        Value::Text { text, clipped } => {
+            let word = if clipped { "clipped" } else { "text" };
+            match text {
+                "" => word.into(),
+                _ => format!("{word} {}", hex(text)),
+            }
+        }
         Value::Enum(name) => format!("enum {name}"),
         Value::Unit => "unit".into(),
     }
@@ -52,10 +57,16 @@ fn the_glue_recipe_edited() {
     let (book, image) = (TypeBook::new(file("book.bin")).expect("valid"), file("mem.bin"));
     let root = book.root(0).expect("a type");
     let mut tape = root.read(8, &image).expect("read");
-    assert_eq!(root.write(8, &image, &tape).as_ref(), Ok(&image));
+    // The operator's name fills its bytes: it is shown as clipped, and has no room for its zero.
+    let clipped = Value::Text {
+        text: "M. Fische",
+        clipped: true,
+    };
+    assert_eq!(tape.at("Operator"), Ok(clipped));
+    assert_eq!(root.write(8, &image, &tape), Err(Refusal::Size));
     assert_eq!(tape.at("Tank.Target"), Ok(Value::Real32(127.5f32.to_bits())));
     tape.edit("Tank.Target", 131.25).expect("a real");
-    let output = root.write(8, &image, &tape).expect("written");
+    let output = root.write(8, &image, &tape.edits()).expect("written");
     let at = image
         .windows(4)
         .position(|w| w == 127.5f32.to_le_bytes())

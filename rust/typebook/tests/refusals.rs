@@ -486,8 +486,14 @@ fn values_of_every_kind() {
         Value::Bool(true),
         Value::Real32(0x7F80_0001),
         Value::Real64(1.5f64.to_bits()),
-        Value::Text("\u{20ac}x"),
-        Value::Text("\u{416}"),
+        Value::Text {
+            text: "\u{20ac}x",
+            clipped: false,
+        },
+        Value::Text {
+            text: "\u{416}",
+            clipped: false,
+        },
         Value::Enum("on"),
         Value::Array(2),
         Value::Int { bits: 16, value: 1 },

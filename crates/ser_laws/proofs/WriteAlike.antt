@@ -1,0 +1,231 @@
+-- The walk of a write looks at a record's kind, A and B, and at byte 1 of no text: over two tapes that agree there it comes to the same. Assumes
+-- nothing.
+use mathlib.Core.Path.{_≡_, refl, sym, ap, _∙_}
+use mathlib.Core.Bool.{Bool, true, false, cond}
+use mathlib.Core.List.{List}
+use Prim.Native.Nat.{ℕ, zero, suc, _+_, _%_, _≤_}
+use native.Mathlib.Omega.{arith}
+use borrow.Author.Tests.{eqb-true, eqb-false, leb-true}
+use lib.ListN.{length, drop}
+use lib.Dec.{leb, ltb, eqb}
+use Rattle.type_book.specs.Book.{sizeOf, countOf}
+use Rattle.type_provider.specs.declared.Found.{Found}
+use Rattle.type_provider.specs.declared.Found.the-variants as found
+use Rattle.type_category.specs.Category.{categoryOf}
+use Rattle.resolvers.specs.Resolve.{resolveAlias}
+use Rattle.resolvers.specs.declared.Resolved.{Resolved}
+use Rattle.resolvers.specs.declared.Resolved.the-variants as resolved
+use Rattle.resolve_field_types.specs.Fields.{resolveField, fieldsCheck}
+use Rattle.resolve_field_types.specs.declared.FieldAnswer.{FieldAnswer}
+use Rattle.resolve_field_types.specs.declared.FieldAnswer.the-variants as answer
+use Rattle.resolve_field_types.specs.declared.FieldsCheck.{FieldsCheck}
+use Rattle.resolve_field_types.specs.declared.FieldsCheck.the-variants as check
+use Rattle.tape_shape.specs.declared.Shape.{Shape}
+use Rattle.tape_shape.specs.declared.Shape.the-variants as shape
+use Rattle.tape_shape.specs.Array.{strideOf}
+use Rattle.ser_named_blocks.specs.Named.{fieldNamed}
+use Rattle.tape.specs.Record.{recordOf, stepAt}
+use Rattle.tape.specs.Text.{recordText}
+use Rattle.tape.specs.declared.record.Record.{Record}
+use Rattle.tape.specs.declared.cursor.Cursor.{Cursor}
+use Rattle.tape.specs.declared.cursor.Step.the-variants as step
+use Rattle.ser_leaf.specs.declared.Target.{Target}
+use Rattle.ser_leaf.specs.Leaf.{Leaf, holds, targetOf, leafBy}
+use Rattle.ser_leaf.specs.Leaf as leaf
+use Rattle.ser.specs.declared.array_writer.Entered.{Entered}
+use Rattle.ser.specs.declared.array_writer.Entered.the-variants as entered
+use Rattle.tape_array_elements.specs.Element.{Content, whole, further, shapeAt, elementItem, elementCheck}
+use Rattle.ser.specs.Write.{Ctx, ctx, Outcome, went, refused, _then_, Child, placed, takenBy, taken, endRecordBy, leafEnd, leafOf, checked, fieldValue, foundValue, keyBy, keyOf, keysFrom, mapBy, mapOf, elementsFrom, elementsBy, dimensionOf, enteredAt, arrayBy, arrayOf, valueBy, itemWalk, walk}
+use Rattle.ser.specs.Call.{typeWrite, rootBy, rootWrite}
+use Rattle.ser_laws.specs.Alike.{Records}
+
+-- two records that are written alike
+pub record WrittenAlike (r s : Record) : Type 0 where
+  pub kind : r .kind ≡ s .kind
+  pub width : (r .kind ≡ 11 → ⊥) → r .width ≡ s .width
+  pub a : r .a ≡ s .a
+  pub b : r .b ≡ s .b
+
+-- ---- two walks that come to the same, at the end of a record
+
+abbrev WholeEnd : Outcome → Type 0
+WholeEnd (went at bytes) = at .at % 24 ≡ 0
+WholeEnd (refused k b bytes) = Unit {0}
+
+pub record Same (o u : Outcome) : Type 0 where
+  pub is : o ≡ u
+  pub whole-end : WholeEnd o
+
+same-refused : (k b : ℕ) (bytes : List ℕ) → Same (refused k b bytes) (refused k b bytes)
+same-refused k b bytes = record { is = refl; whole-end = tt }
+
+same-went : (at : Cursor) (bytes : List ℕ) → at .at % 24 ≡ 0 → Same (went at bytes) (went at bytes)
+same-went at bytes h = record { is = refl; whole-end = h }
+
+same-cond : (t : Bool) {o u o′ u′ : Outcome} → Same o o′ → Same u u′ → Same (cond t o u) (cond t o′ u′)
+same-cond true p q = p
+same-cond false p q = q
+
+same-then : (o o′ : Outcome) (f f′ : Cursor → List ℕ → Outcome) → Same o o′ → ((at : Cursor) (bytes : List ℕ) → at .at % 24 ≡ 0 → Same (f at bytes) (f′ at bytes)) → Same (o then f) (o′ then f′)
+unfolding _then_
+same-then (went at bytes) o′ f f′ p q = rw (sym (p .is)) (q at bytes (p .whole-end))
+same-then (refused k b bytes) o′ f f′ p q = rw (sym (p .is)) (same-refused k b bytes)
+
+same-placed : (from size : ℕ) (bytes : List ℕ) (o o′ : Outcome) → Same o o′ → Same (placed from size bytes o) (placed from size bytes o′)
+unfolding placed
+same-placed from size bytes (went at part) o′ p = rw (sym (p .is)) (same-went at _ (p .whole-end))
+same-placed from size bytes (refused k b part) o′ p = rw (sym (p .is)) (same-refused k b _)
+
+same-checked : (f : FieldsCheck) (bytes : List ℕ) (o o′ : Outcome) → Same o o′ → Same (checked f bytes o) (checked f bytes o′)
+unfolding checked
+same-checked check.Fine bytes o o′ p = p
+same-checked (check.Lacks b) bytes o o′ p = same-refused 7 b bytes
+same-checked check.TooLong bytes o o′ p = same-refused 8 0 bytes
+
+-- ---- a record
+
+module _ (book text : List ℕ) (r s : Record) (w : WrittenAlike r s) where
+  text-alike : recordText book text r ≡ recordText book text s
+  unfolding recordText
+  text-alike = rw (w .kind, w .a, w .b)
+
+  leaf-alike : (width t : ℕ) (k : Target) (old : List ℕ) → leafBy book width t k r text old ≡ leafBy book width t k s text old
+  unfolding leafBy
+  leaf-alike width t k old = by (eqb (r .kind) 11) refl
+    where
+      by : (x : Bool) → eqb (r .kind) 11 ≡ x → leafBy book width t k r text old ≡ leafBy book width t k s text old
+      by true q =
+          let e : r .kind ≡ 11 = eqb-true (r .kind) 11 q in
+          let f : s .kind ≡ 11 = sym (w .kind) ∙ e in
+          rw (text-alike, e, f)
+      by false q = rw (text-alike, w .kind, w .b, w .width (eqb-false (r .kind) 11 q))
+
+-- ---- the walk
+
+module _ (book : List ℕ) (width : ℕ) (text tape tape′ : List ℕ) (alike : Records WrittenAlike tape tape′) where
+  abbrev c : Ctx
+  c = ctx book width tape text
+
+  abbrev c′ : Ctx
+  c′ = ctx book width tape′ text
+
+  -- what follows by a record, where it follows alike by records that are alike
+  same-taken : (at : Cursor) (bytes : List ℕ) (f f′ : Record → Cursor → Outcome) → at .at % 24 ≡ 0
+      → ((r s : Record) (next : Cursor) → WrittenAlike r s → next .at % 24 ≡ 0 → Same (f r next) (f′ s next))
+      → Same (taken tape at bytes f) (taken tape′ at bytes f′)
+  unfolding taken takenBy stepAt
+  same-taken at bytes f f′ h g = rw (← alike .same-length) (by (leb (at .at + 24) (length tape)) refl)
+    where
+      by : (t : Bool) → leb (at .at + 24) (length tape) ≡ t
+          → Same (takenBy bytes f (cond t (step.Record (recordOf (drop (at .at) tape)) (record { at = at .at + 24 })) step.End))
+          (takenBy bytes f′ (cond t (step.Record (recordOf (drop (at .at) tape′)) (record { at = at .at + 24 })) step.End))
+      by true q = g _ _ _ (alike .each (at .at) h (leb-true (at .at + 24) (length tape) q)) (omega arith)
+      by false q = same-refused 16 0 bytes
+
+  same-end : (kind : ℕ) (at : Cursor) (bytes : List ℕ) → at .at % 24 ≡ 0 → Same (taken tape at bytes (endRecordBy kind bytes)) (taken tape′ at bytes (endRecordBy kind bytes))
+  unfolding endRecordBy
+  same-end kind at bytes h =
+      same-taken at bytes _ _ h (λ r s next w n. rw (← w .kind) (same-cond (eqb (r .kind) kind) (same-went next bytes n) (same-refused 16 0 bytes)))
+
+  same-leaf : (next : Cursor) (bytes : List ℕ) → next .at % 24 ≡ 0 → (l : Leaf) → Same (leafEnd next bytes l) (leafEnd next bytes l)
+  unfolding leafEnd
+  same-leaf next bytes h (holds new) = same-went next new h
+  same-leaf next bytes h (leaf.refused n) = same-refused n 0 bytes
+
+  module _ (child child′ : Child) (ih : (i : Content ℕ) (at : Cursor) (bytes : List ℕ) → at .at % 24 ≡ 0 → Same (child i at bytes) (child′ i at bytes)) where
+    -- ---- a map
+
+    field-same : (at : Cursor) (bytes : List ℕ) → at .at % 24 ≡ 0 → (a : FieldAnswer) → Same (fieldValue child at bytes a) (fieldValue child′ at bytes a)
+    unfolding fieldValue
+    field-same at bytes h (answer.Field f) =
+        same-cond (leb (f .offset + f .size) (length bytes)) (same-placed _ _ bytes _ _ (ih (whole (f .resolved)) at _ h)) (same-refused 10 0 bytes)
+    field-same at bytes h (answer.Lacks b) = same-refused 7 b bytes
+    field-same at bytes h answer.TooLong = same-refused 8 0 bytes
+
+    found-same : (at : Cursor) (bytes : List ℕ) → at .at % 24 ≡ 0 → (f : Found) → Same (foundValue child c at bytes f) (foundValue child′ c′ at bytes f)
+    unfolding foundValue
+    found-same at bytes h (found.At f) = field-same at bytes h (resolveField book width f)
+    found-same at bytes h found.Nothing = same-refused 18 0 bytes
+
+    key-same : (t : ℕ) (at : Cursor) (bytes : List ℕ) → at .at % 24 ≡ 0 → Same (keyOf child c t at bytes) (keyOf child′ c′ t at bytes)
+    unfolding keyOf keyBy
+    key-same t at bytes h =
+        same-taken at bytes _ _ h
+        (λ r s next w n. rw (← text-alike book text r s w, ← w .kind) (same-cond (eqb (r .kind) 4) (found-same next bytes n (fieldNamed book t (recordText book text r))) (same-refused 16 0 bytes)))
+
+    keys-same : (t k : ℕ) (at : Cursor) (bytes : List ℕ) → at .at % 24 ≡ 0 → Same (keysFrom child c t k at bytes) (keysFrom child′ c′ t k at bytes)
+    unfolding keysFrom
+    keys-same t zero at bytes h = same-end 5 at bytes h
+    keys-same t (suc k) at bytes h = same-then _ _ _ _ (key-same t at bytes h) (λ next mid n. keys-same t k next mid n)
+
+    map-same : (t k : ℕ) (at : Cursor) (bytes : List ℕ) → at .at % 24 ≡ 0 → (s : Shape) → Same (mapBy child c t k at bytes s) (mapBy child′ c′ t k at bytes s)
+    unfolding mapBy
+    map-same t k at bytes h shape.Map =
+        same-cond (eqb (length bytes) (sizeOf book t)) (same-checked (fieldsCheck book width t) bytes _ _ (keys-same t k at bytes h)) (same-refused 10 0 bytes)
+    map-same t k at bytes h shape.Array = same-refused 17 0 bytes
+    map-same t k at bytes h shape.Leaf = same-refused 17 0 bytes
+
+    -- ---- an array
+
+    elements-same : (item : Content ℕ) (stride n i from k : ℕ) (at : Cursor) (bytes : List ℕ) → at .at % 24 ≡ 0
+        → Same (elementsFrom child c item stride n i from k at bytes) (elementsFrom child′ c′ item stride n i from k at bytes)
+    unfolding elementsFrom
+    elements-same item stride n i from zero at bytes h = same-cond (ltb i n) (same-refused 17 0 bytes) (same-end 2 at bytes h)
+    elements-same item stride n i from (suc k) at bytes h =
+        same-cond (ltb i n)
+        (same-then _ _ _ _ (same-placed from stride bytes _ _ (ih item at _ h)) (λ next mid m. elements-same item stride n (i + 1) (from + stride) k next mid m))
+        (same-refused 17 0 bytes)
+
+    dimension-same : (d t e : ℕ) (at : Cursor) (bytes : List ℕ) → at .at % 24 ≡ 0 → Same (dimensionOf child c d t e at bytes) (dimensionOf child′ c′ d t e at bytes)
+    unfolding dimensionOf elementsBy
+    dimension-same d t e at bytes h =
+        same-checked (elementCheck book width d t e) bytes _ _
+        (same-taken at bytes _ _ h
+        (λ r s next w n.
+        rw (← w .kind, ← w .a)
+        (same-cond (eqb (r .kind) 1) (elements-same (elementItem book d t e) (strideOf book d t e) (countOf book t d) 0 0 (r .a) next bytes n) (same-refused 17 0 bytes))))
+
+    entered-same : (t : ℕ) (at : Cursor) (bytes : List ℕ) → at .at % 24 ≡ 0 → (x : Entered) → Same (arrayBy child c t at bytes x) (arrayBy child′ c′ t at bytes x)
+    unfolding arrayBy
+    entered-same t at bytes h (entered.Element e) = dimension-same 0 t e at bytes h
+    entered-same t at bytes h (entered.Stop n b) = same-refused n b bytes
+
+    array-same : (t : ℕ) (at : Cursor) (bytes : List ℕ) → at .at % 24 ≡ 0 → Same (arrayOf child c t at bytes) (arrayOf child′ c′ t at bytes)
+    unfolding arrayOf
+    array-same t at bytes h = entered-same t at bytes h (enteredAt book width t (length bytes))
+
+    -- ---- a value
+
+    value-same : (t : ℕ) (at : Cursor) (bytes : List ℕ) → at .at % 24 ≡ 0 → (r s : Record) (next : Cursor) → WrittenAlike r s → next .at % 24 ≡ 0
+        → Same (valueBy child c t at bytes r next) (valueBy child′ c′ t at bytes s next)
+    unfolding valueBy mapOf leafOf
+    value-same t at bytes h r s next w n =
+        rw (← leaf-alike book text r s w width t (targetOf (categoryOf book width t)) bytes, ← w .kind, ← w .a)
+        (same-cond (eqb (r .kind) 1) (array-same t at bytes h)
+        (same-cond (eqb (r .kind) 3) (map-same t (r .a) next bytes n (shapeAt book width t)) (same-leaf next bytes n _)))
+
+    item-same : (i : Content ℕ) (at : Cursor) (bytes : List ℕ) → at .at % 24 ≡ 0 → Same (itemWalk child c i at bytes) (itemWalk child′ c′ i at bytes)
+    unfolding itemWalk
+    item-same (whole t) at bytes h = same-taken at bytes _ _ h (value-same t at bytes h)
+    item-same (further d t e) at bytes h = dimension-same d t e at bytes h
+
+  pub walk-same : (left : ℕ) (i : Content ℕ) (at : Cursor) (bytes : List ℕ) → at .at % 24 ≡ 0 → Same (walk c left i at bytes) (walk c′ left i at bytes)
+  unfolding walk
+  walk-same zero i at bytes h = same-refused 16 0 bytes
+  walk-same (suc left) i at bytes h = item-same (walk c left) (walk c′ left) (walk-same left) i at bytes h
+
+  -- what is written of a resolved type
+  pub type-same : (t : ℕ) (image : List ℕ) → typeWrite c t image ≡ typeWrite c′ t image
+  unfolding typeWrite
+  type-same t image = walk-same 64 (whole t) (record { at = 0 }) image refl .is
+
+  root-by-same : (image : List ℕ) (r : Resolved) → rootBy c image r ≡ rootBy c′ image r
+  unfolding rootBy
+  root-by-same image (resolved.Base t) = type-same t image
+  root-by-same image (resolved.Lacks b) = refl
+  root-by-same image resolved.TooLong = refl
+
+  -- and of a root
+  pub root-same : (n : ℕ) (image : List ℕ) → rootWrite c n image ≡ rootWrite c′ n image
+  unfolding rootWrite
+  root-same n image = root-by-same image (resolveAlias book width n)
