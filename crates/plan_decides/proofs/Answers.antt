@@ -3,9 +3,8 @@ use mathlib.Core.Path.{_≡_, refl, sym, _∙_}
 use mathlib.Core.Bool.{Bool, true, false, cond}
 use mathlib.Core.Logic.{_↔_}
 use mathlib.Core.List.{List, [], _∷_}
-use Prim.Native.Nat.{ℕ, zero, suc, _≤_}
+use Prim.Native.Nat.{ℕ, zero, suc}
 use native.Mathlib.Omega.{arith}
-use borrow.Author.Tests.{le-leb}
 use lib.ListN.{length}
 use lib.Seq.{take-length}
 use Rattle.type_book.specs.Book.{typeNameOf}
@@ -18,7 +17,7 @@ use Rattle.type_book_check.specs.Check.{atRoot}
 use Rattle.resolve_walk.specs.Walk.{Walk, over, full, met}
 use Rattle.resolve_walk.specs.Reads.{listed}
 use Rattle.resolve_walk.specs.Reached.{Needed}
-use Rattle.resolve_walk.specs.Scratch.{zeroed}
+use Rattle.resolve_walk.specs.Scratch.{scratchFits, zeroed}
 use Rattle.resolve_missing_types.specs.Needs.{Defined}
 use Rattle.resolve_read_modify_write.proofs.Numbers.{rmw-is, rmw-says}
 use Rattle.resolve_read_modify_write.specs.declared.Rmw.{Rmw}
@@ -86,7 +85,7 @@ unfolding sweptFrom
 from-first book = refl
 
 module _ (c : List ℕ) (width root : ℕ) (name : List ℕ) (w : Theirs c width name) (defines : (x : List ℕ) → Needed c width name x → Defined c x)
-    (sc : List ℕ) (long : 8192 ≤ length sc) where
+    (sc : List ℕ) (long : scratchFits sc ≡ true) where
   -- an ask that lists none
   module _ (s : Ours) (o : Sound c root name s) (e : listed (walkAt width root s) ≡ []) where
     abbrev r : Rmw
@@ -99,21 +98,21 @@ module _ (c : List ℕ) (width root : ℕ) (name : List ℕ) (w : Theirs c width
     unfolding rmwCall atRoot rmwAnswer
     called =
         record {
-          answer = rmw-says _ _ (rw (root-check c width root name w s o, le-leb 8192 (length sc) long));
-          scratch = rw (root-check c width root name w s o, le-leb 8192 (length sc) long);
+          answer = rmw-says _ _ (rw (root-check c width root name w s o, long));
+          scratch = rw (root-check c width root name w s o, long);
         }
 
     decide : (a : Rmw) → r ≡ a → Answered c width root name (ruled a s)
     unfolding ruled rmwNumbers
     decide rmw.Yes q =
-        let k = close .keeps sc (le-leb 8192 (length sc) long) r (zeroed sc) called in
+        let k = close .keeps sc long r (zeroed sc) called in
         record { answer = true; final = s; is = refl; right = (λ y. k .0 (rmw-says _ _ q), λ b. refl); closed = close }
     decide rmw.No q =
-        let k = close .keeps sc (le-leb 8192 (length sc) long) r (zeroed sc) called in
+        let k = close .keeps sc long r (zeroed sc) called in
         record { answer = false; final = s; is = refl; right = (λ y. true-no y, λ b. no-yes (sym q ∙ rmw-is _ _ (k .1 b))); closed = close }
-    decide (rmw.NotFound b) q = let z : refusalOf (rmwNumbers r) ≡ 0 = close .decides sc (le-leb 8192 (length sc) long) r (zeroed sc) called in let y : _≡_ {A = ℕ} 7 0 = rw q at z in absurd (omega arith)
+    decide (rmw.NotFound b) q = let z : refusalOf (rmwNumbers r) ≡ 0 = close .decides sc long r (zeroed sc) called in let y : _≡_ {A = ℕ} 7 0 = rw q at z in absurd (omega arith)
     decide (rmw.Refused n) q =
-        let z : refusalOf (rmwNumbers r) ≡ 0 = close .decides sc (le-leb 8192 (length sc) long) r (zeroed sc) called in
+        let z : refusalOf (rmwNumbers r) ≡ 0 = close .decides sc long r (zeroed sc) called in
         absurd (numbered (bookOf s) width (walkAt width root s) n q (rw q at z))
 
   -- an ask that lists some: the adds go on
@@ -175,9 +174,9 @@ unfolding orNext
 zero-next k = refl
 
 module _ (c : List ℕ) (width root : ℕ) (s : Ours) (sc : List ℕ) where
-  unrefused : Theirs c width (rootName root s) → Sound c root (rootName root s) s → 8192 ≤ length sc → planRefusal (s .buffer) (s .len) c (length c) root sc ≡ 0
+  unrefused : Theirs c width (rootName root s) → Sound c root (rootName root s) s → scratchFits sc ≡ true → planRefusal (s .buffer) (s .len) c (length c) root sc ≡ 0
   unfolding planRefusal rootNumbers bookNumbers
-  unrefused w o h = rw (root-check c width root (rootName root s) w s o, w .valid, le-leb 8192 (length sc) h) (zero-next (orNext 0 0) ∙ zero-next 0)
+  unrefused w o h = rw (root-check c width root (rootName root s) w s o, w .valid, h) (zero-next (orNext 0 0) ∙ zero-next 0)
 
   from : (n : ℕ) → n ≡ 0 → planOf n (s .buffer) (s .len) c (length c) width root ≡ planFrom c width root 18 s
   unfolding planOf

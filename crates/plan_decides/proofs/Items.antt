@@ -2,10 +2,10 @@
 use mathlib.Core.Path.{_≡_, refl, sym, ap, _∙_, subst}
 use mathlib.Core.Bool.{Bool, true, false, cond}
 use mathlib.Core.List.{List, [], _∷_, _++_, append-nil, append-assoc}
-use Prim.Native.Nat.{ℕ, zero, suc, _+_, _-_, _≤_}
+use Prim.Native.Nat.{ℕ, zero, suc, _+_, _-_}
 use native.Mathlib.Omega.{arith}
-use borrow.Author.Tests.{eqb-true, eqb-false, le-leb}
-use lib.ListN.{length, replicate, length-replicate}
+use borrow.Author.Tests.{eqb-true, eqb-false}
+use lib.ListN.{replicate}
 use Rattle.type_book_check.specs.declared.BookCheck.the-variants.{Valid}
 use Rattle.type_book_check.specs.Check.{checkBook}
 use Rattle.type_cache.proofs.Appends.{call-done, call-refused, buffer-kept}
@@ -19,6 +19,7 @@ use Rattle.type_cache.specs.Append.{appendRefusal}
 use Rattle.type_cache.specs.Same.{definitionOf}
 use Rattle.resolvers.proofs.Chains.{found-type}
 use Rattle.resolve_walk.specs.Reads.{listed, whole}
+use Rattle.resolve_walk.specs.Scratch.{scratchFits, listFits}
 use Rattle.resolve_read_modify_write.specs.declared.Rmw.{Rmw}
 use Rattle.resolve_read_modify_write.specs.declared.Rmw.the-variants as rmw
 use Rattle.resolve_read_modify_write.specs.Reads.{rmwOf}
@@ -139,11 +140,11 @@ apart-lacking b s t z e = let q : _≡_ {A = ℕ} 0 1 = cc in omega arith
 apart-refused : (n : ℕ) (s : Ours) (t : Bool) (z : Ours) → refused n s ≡ decided t z → ⊥
 apart-refused n s t z e = let q : _≡_ {A = ℕ} 0 1 = cc in omega arith
 
-module _ (c : List ℕ) (width root : ℕ) (sc list : List ℕ) (p : 8192 ≤ length sc) (q : 4096 ≤ length list) where
+module _ (c : List ℕ) (width root : ℕ) (sc list : List ℕ) (p : scratchFits sc ≡ true) (q : listFits list ≡ true) where
   -- an ask alone, after which nothing is decided
   asked : (s : Ours) (o : Decision) → s ≡ outcomeOurs o → ((t : Bool) (z : Ours) → o ≡ decided t z → listed (walkAt width root s) ≡ []) → Made c width root s o
   unfolding afterCalls
-  asked s o e h = record { items = ask sc list ∷ []; given = more {i = ask sc list} (le-leb 8192 (length sc) p, le-leb 4096 (length list) q) none; left = e; none = λ t z y. here (h t z y) }
+  asked s o e h = record { items = ask sc list ∷ []; given = more {i = ask sc list} (p, q) none; left = e; none = λ t z y. here (h t z y) }
 
   later-both : (is js : List Call) (s : Ours) → ListedNone c width root (afterCalls c is s) js → ListedNone c width root s (is ++ js)
   unfolding afterCalls
@@ -156,7 +157,7 @@ module _ (c : List ℕ) (width root : ℕ) (sc list : List ℕ) (p : 8192 ≤ le
   goes-on s z o a m =
       record {
         items = ask sc list ∷ (a .items ++ m .items);
-        given = more {i = ask sc list} (le-leb 8192 (length sc) p, le-leb 4096 (length list) q) (each-both c (a .items) (m .items) s (a .given) (rw (a .left) (m .given)));
+        given = more {i = ask sc list} (p, q) (each-both c (a .items) (m .items) s (a .given) (rw (a .left) (m .given)));
         left = after-both c (a .items) (m .items) s ∙ ap (afterCalls c (m .items)) (a .left) ∙ m .left;
         none = λ t y e. later (later-both (a .items) (m .items) s (rw (a .left) (m .none t y e)));
       }
@@ -165,7 +166,7 @@ module _ (c : List ℕ) (width root : ℕ) (sc list : List ℕ) (p : 8192 ≤ le
   ended : (s z : Ours) (o : Decision) → Adds c s z → z ≡ outcomeOurs o → ((t : Bool) (y : Ours) → o ≡ decided t y → ⊥) → Made c width root s o
   unfolding afterCalls
   ended s z o a e h =
-      record { items = ask sc list ∷ a .items; given = more {i = ask sc list} (le-leb 8192 (length sc) p, le-leb 4096 (length list) q) (a .given); left = a .left ∙ e; none = λ t y k. absurd (h t y k) }
+      record { items = ask sc list ∷ a .items; given = more {i = ask sc list} (p, q) (a .given); left = a .left ∙ e; none = λ t y k. absurd (h t y k) }
 
   next-made : (go : Ours → Decision) → ((z : Ours) → Made c width root z (go z)) → (s : Ours) (a : Adding) → Adds c s (endOf a) → Made c width root s (nextRound go a)
   unfolding nextRound outcomeOurs
@@ -254,5 +255,5 @@ pub plan-keeps : PlanKeeps
 unfolding PlanKeeps
 plan-keeps c width root k s v =
     let m : Made c width root s (planFrom c width root k s) =
-    rounds-made c width root (replicate 8192 0) (replicate 4096 0) (omega (arith, length-replicate {A = ℕ} 8192 0)) (omega (arith, length-replicate {A = ℕ} 4096 0)) k s in
+    rounds-made c width root (replicate 8192 0) (replicate 4096 0) refl refl k s in
     subst (λ (z : Ours). Extends s z) (m .left) (extends-after c (m .items) s v)

@@ -4,8 +4,9 @@ use mathlib.Core.Path.{_≡_}
 use mathlib.Core.Bool.{Bool, true}
 use mathlib.Core.Logic.{_↔_}
 use mathlib.Core.List.{List, []}
-use Prim.Native.Nat.{ℕ, _≤_}
+use Prim.Native.Nat.{ℕ}
 use lib.ListN.{length, take}
+use Rattle.resolve_walk.specs.Scratch.{scratchFits}
 use Rattle.closure.specs.Calls.{Ours}
 use Rattle.closure.specs.Demand.{rootName, Premises, BlockReached, Closed}
 use Rattle.plan_adds.specs.Adds.{ours}
@@ -22,4 +23,4 @@ pub record Decides (c : List ℕ) (width root : ℕ) (s : Ours) (sc : List ℕ) 
 
 -- the claim: the premises are the demand's own. That our definitions equal the controller's is one of them; no call tests it
 unfoldable pub PlanDecides : Type 0
-PlanDecides = (c : List ℕ) (width root : ℕ) (s : Ours) (sc : List ℕ) → Premises c width root s [] → 8192 ≤ length sc → Decides c width root s sc
+PlanDecides = (c : List ℕ) (width root : ℕ) (s : Ours) (sc : List ℕ) → Premises c width root s [] → scratchFits sc ≡ true → Decides c width root s sc

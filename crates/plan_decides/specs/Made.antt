@@ -1,11 +1,11 @@
 -- The list of asks and adds that a plan makes, in the words of demand 3. Assumes nothing.
 use mathlib.Core.Path.{_≡_}
-use mathlib.Core.Bool.{Bool}
+use mathlib.Core.Bool.{Bool, true}
 use mathlib.Core.List.{List, _++_}
-use Prim.Native.Nat.{ℕ, _≤_}
-use lib.ListN.{length}
+use Prim.Native.Nat.{ℕ}
 use Rattle.type_book_check.specs.declared.BookCheck.the-variants.{Valid}
 use Rattle.type_book_check.specs.Check.{checkBook}
+use Rattle.resolve_walk.specs.Scratch.{scratchFits, listFits}
 use Rattle.closure.specs.Calls.{Ours, bookOf, Call, afterCalls, Each}
 use Rattle.closure.specs.Demand.{Lent, ListedNone}
 use Rattle.plan_save.specs.Rounds.{Decision, decided, planFrom}
@@ -21,7 +21,7 @@ pub record Made (c : List ℕ) (width root : ℕ) (s : Ours) (o : Decision) : Ty
 
 -- the claim: whatever the books hold, the rounds are such a list. sc and list are what is lent to the asks
 unfoldable pub PlanMade : Type 0
-PlanMade = (c : List ℕ) (width root k : ℕ) (s : Ours) (sc list : List ℕ) → 8192 ≤ length sc → 4096 ≤ length list
+PlanMade = (c : List ℕ) (width root k : ℕ) (s : Ours) (sc list : List ℕ) → scratchFits sc ≡ true → listFits list ≡ true
     → Made c width root s (planFrom c width root k s)
 
 -- our book is valid, and is the old one with whole definitions after it, or the old one: each call of a list left it so

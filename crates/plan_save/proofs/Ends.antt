@@ -1,10 +1,10 @@
 -- The call: one law for each way out. Assumes nothing.
 use mathlib.Core.Path.{_≡_, refl, sym, ap, _∙_}
-use mathlib.Core.Bool.{Bool, true, false, cond, _&&_}
+use mathlib.Core.Bool.{Bool, true, false, cond, not, _&&_}
 use mathlib.Core.List.{List, [], _∷_}
-use Prim.Native.Nat.{ℕ, zero, suc, _≤_, _<_}
+use Prim.Native.Nat.{ℕ, zero, suc}
 use native.Mathlib.Omega.{arith}
-use borrow.Author.Tests.{eq-eqb, ne-eqb, eqb-false, le-leb, lt-leb}
+use borrow.Author.Tests.{eq-eqb, ne-eqb, eqb-false, not-true, not-false}
 use lib.ListN.{length, take, replicate}
 use lib.Dec.{eqb, ltb}
 use Rattle.type_book.specs.Book.{blocks, isType}
@@ -98,18 +98,18 @@ module _ (buffer : List ℕ) (len : ℕ) (root : ℕ) (c : checkRoot buffer len 
       pub at-cut : theirs ≡ length (take theirs controller)
       at-cut = book-cut controller theirs (zero-valid (checkBook controller theirs) (sym ek ∙ z))
 
-      pub at-short : length sc < 8192
+      pub at-short : (g : Bool) → g ≡ scratchFits sc → not g ≡ true
           → PlanIs (planRefusal buffer len controller theirs root sc) buffer len controller theirs width root sc hints (plan.Refused 6 len) buffer sc hints
-      at-short h =
-          rw (after-root, or-next k (cond (scratchFits sc) 0 6) z, lt-leb 8192 (length sc) h)
+      at-short g e h =
+          rw (after-root, or-next k (cond (scratchFits sc) 0 6) z, sym e ∙ not-true g h)
           (refused-all 6 buffer len controller theirs width root sc hints (λ q. omega arith))
 
-      pub at-done : 8192 ≤ length sc → (r : Plan) (after sc′ hints′ : List ℕ)
+      pub at-done : (g : Bool) → g ≡ scratchFits sc → not g ≡ false → (r : Plan) (after sc′ hints′ : List ℕ)
           → PlannedIn (planFrom (take theirs controller) width root 18 (ours buffer len)) sc hints r after sc′ hints′
           → PlanIs (planRefusal buffer len controller theirs root sc) buffer len controller theirs width root sc hints r after sc′ hints′
       unfolding planOf
-      at-done h r after sc′ hints′ p =
-          rw (after-root, or-next k (cond (scratchFits sc) 0 6) z, le-leb 8192 (length sc) h)
+      at-done g e h r after sc′ hints′ p =
+          rw (after-root, or-next k (cond (scratchFits sc) 0 6) z, sym e ∙ not-false g h)
           (record {
             answer = numbers-said r after _ (p .is);
             bytes = bytes-said r after _ (p .is);
