@@ -31,7 +31,7 @@ import time
 from random import Random
 
 from answers import oracle
-from document_02 import completed, plain as plain_tape
+from document_02 import UNDECLARED, completed, plain as plain_tape
 from tape_form import formed, spoiled
 
 REQUESTS = ("cat", "alias", "indir", "rmw", "missing", "fields", "read")
@@ -88,7 +88,7 @@ class Comparison:
         self.differing.append((len(data), request, made.width, data.hex(), made.root, more, theirs, ours))
 
     def by_document_02(self, told, made, data, memory):
-        """An accepted read's events with what document 02 adds to them: `clipped` for a text without a terminator."""
+        """An accepted read's events with what document 02 adds to them: `clipped` for a text without a terminator, each value's declared block."""
         words = told.split()
         if words[0] != "ok":
             return told
@@ -96,6 +96,8 @@ class Comparison:
         for i, at in enumerate(range(0, len(tape), 24), 1):
             if tape[at] == 11 and tape[at + 1] == 0:
                 words[i] = words[i].replace("str:", "clipped:", 1)
+            if tape[at] not in UNDECLARED:
+                words[i] += f"^{int.from_bytes(tape[at + 4:at + 8], 'little')}"
         return " ".join(words)
 
     def ask_write(self, request, made, data, image, tape, text):

@@ -3,9 +3,9 @@
 
     python3 tools/document_02.py FILE ...    brings files of recorded cases (crates/vectors/data) up to document 02
 
-Reads: byte 1 of each text is 1 if its bytes have a terminator, else 0, worked out along the recorded tape from book and memory. Writes: a recorded
-16 of a tape that now has its form becomes the answer that the original gave to the same call with the tape of document 01, if the file has that
-call, else the case goes.
+Reads: byte 1 of each text is 1 if its bytes have a terminator, else 0, and bytes 4 to 7 of each value are the block of its type as it was named, both
+worked out along the recorded tape from book and memory. Writes: a recorded 16 of a tape that now has its form becomes the answer that the original
+gave to the same call with the tape of document 01, if the file has that call, else the case goes.
 """
 
 import struct
@@ -17,6 +17,8 @@ from tape_form import formed
 BLOCK, RECORD = 512, 24
 ARRAY, MAP, KEY, TEXT = 1, 3, 4, 11
 WSTRING = 31
+# Ends and keys declare no type.
+UNDECLARED = (2, 4, 5)
 
 
 class Types:
@@ -64,13 +66,17 @@ class Along:
     def __init__(self, types, tape):
         self.types, self.tape, self.at = types, bytearray(tape), 0
 
+    def declare(self, block):
+        self.tape[self.at + 4:self.at + 8] = u32(block)
+        self.at += RECORD
+
     def value(self, named, part):
         here, kind = self.at, self.tape[self.at]
         t = self.types.resolved(named)
         if kind == ARRAY:
-            self.dimension(t, 0, part)
+            self.dimension(named, t, 0, part)
             return
-        self.at += RECORD
+        self.declare(named)
         if kind == MAP:
             while self.tape[self.at] == KEY:
                 field = struct.unpack_from("<Q", self.tape, self.at + 8)[0]
@@ -81,16 +87,16 @@ class Along:
         elif kind == TEXT:
             self.tape[here + 1] = ended(self.types.number(t, 4) == WSTRING, part)
 
-    def dimension(self, t, d, part):
+    def dimension(self, named, t, d, part):
         count = self.types.number(t, 20 + 4 * d)
-        self.at += RECORD
+        self.declare(named)
         for i in range(count):
             stride = len(part) // count
             inner = part[i * stride:(i + 1) * stride]
             if d + 1 == self.types.data[BLOCK * t + 2]:
                 self.value(self.types.named(t), inner)
             else:
-                self.dimension(t, d + 1, inner)
+                self.dimension(t, t, d + 1, inner)
         self.at += RECORD
 
 
@@ -103,11 +109,13 @@ def completed(book, root, memory, tape):
 
 
 def plain(tape):
-    """A tape as document 01 has it, where it differs from it in what document 02 adds alone."""
+    """A tape as document 01 has it, where it has its form."""
     tape = bytearray(tape)
     for at in range(0, len(tape) - RECORD + 1, RECORD):
         if tape[at] == TEXT and tape[at + 1] == 1:
             tape[at + 1] = 0
+        if tape[at] not in UNDECLARED:
+            tape[at + 4:at + 8] = bytes(4)
     return bytes(tape)
 
 

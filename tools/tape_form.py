@@ -6,7 +6,7 @@ import struct
 
 BLOCK, RECORD, LEVELS = 512, 24, 64
 ARRAY, ARRAY_END, MAP, KEY, MAP_END, BOOL, SIGNED, UNSIGNED, SINGLE, DOUBLE, TEXT, ENTRY, UNIT = range(1, 14)
-FIELD_BLOCK, ENTRY_BLOCK = 2, 3
+TYPE_BLOCK, FIELD_BLOCK, ENTRY_BLOCK = 1, 2, 3
 
 
 class Fault(Exception):
@@ -26,8 +26,12 @@ class Form:
         record = self.tape[self.at:self.at + RECORD]
         hold(len(record) == RECORD)
         self.at += RECORD
-        kind, width, spare, a, b = struct.unpack("<BB6sQQ", record)
-        hold(spare == bytes(6))
+        kind, width, spare, declared, a, b = struct.unpack("<BBHIQQ", record)
+        hold(spare == 0)
+        if kind in (ARRAY_END, KEY, MAP_END):
+            hold(declared == 0)
+        else:
+            self.block(declared, TYPE_BLOCK)
         hold(width in (1, 2, 4, 8) if kind in (SIGNED, UNSIGNED) else width == 0 or width == 1 and kind == TEXT)
         return kind, width, a, b
 

@@ -176,7 +176,8 @@ uint8_t gateway_plan_save(uint8_t *buffer, size_t buffer_len, size_t len, const 
 /* Reads the memory by the root's type.
  * 0: values: the number of records and of text bytes; `tape` starts with the records of 24 bytes, `text` with the text bytes, the rest of
  * each as before. Else 1 to 5, 7, 8, 10 to 15; tape and text are then all zero. Byte 1 of a text's record is 1 if a terminator was
- * found in its bytes, 0 if not: then the controller may have clipped it. */
+ * found in its bytes, 0 if not: then the controller may have clipped it. Bytes 4 to 7 of a value's record are the block of its type as
+ * it was named, before aliases; those of ends and keys are 0. */
 uint8_t gateway_read(const uint8_t *buffer, size_t buffer_len, size_t len, uint8_t width, uint64_t root, const uint8_t *memory,
                      size_t memory_len, uint8_t *tape, size_t tape_len, uint8_t *text, size_t text_len, uint64_t *values,
                      size_t values_len);
@@ -189,7 +190,8 @@ uint8_t gateway_read_in(const uint8_t *book, size_t book_len, const uint32_t *in
 /* ---- write */
 
 /* Writes a tape with its text over a memory's image, by the root's type, into `output`; fields that the tape does not name keep the
- * image's bytes. What `output` holds before does not matter. Byte 1 of a text is 0 or 1, which makes no difference.
+ * image's bytes. What `output` holds before does not matter. Byte 1 of a text is 0 or 1, bytes
+ * 4 to 7 of a value any type block: they make no difference.
  * 0: `output`, as long as the image, holds the new bytes; nothing is laid over `values`.
  * Else, in this order: 1 to 5; 10 where output and image are not of one length; 16 where the tape has not its form; then in the order
  * of the walk 7, 8, 10, 13, 17, 18, 19. After any refusal, 1 to 5 too, an output as long as the image equals the image, one of another

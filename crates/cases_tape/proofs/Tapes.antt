@@ -9,7 +9,7 @@ use Rattle.enc_integer.specs.Integer.{twosComplement, fitsSigned, fitsUnsigned}
 use Rattle.enc_utf_8.specs.Utf8.{decodeFrom, leading, following, afterReply, noError}
 use Rattle.tape.specs.declared.record.Record.{Record}
 use Rattle.tape.specs.Record.{recordBytes, recordOf, stepAt}
-use Rattle.tape_form.specs.Ranges.{unused, isWidth, blockIs, textIn, onlyA, empty, namesBlock, onlyB, sized, integerFine, textual, leafBy, leafFine}
+use Rattle.tape_form.specs.Ranges.{unused, undeclared, isWidth, blockIs, declares, textIn, onlyA, empty, namesBlock, opens, closes, isKey, onlyB, sized, integerFine, textual, leafBy, leafFine}
 use Rattle.tape_form.specs.Form.{withRecord, formOnward, closingRecord, several, memberAt, recordShape, bodyBy, valueAt, atTapeEnd, formed}
 use Rattle.tape_form.specs.Tree.{with-A, recordsBytes}
 
@@ -24,6 +24,10 @@ text = 0xff ∷ 0x41 ∷ 0xff ∷ []
 -- a record of kind, width, A and B
 abbrev rec : ℕ → ℕ → ℕ → ℕ → Record
 rec k w a b = record { kind = k; width = w; spare = 0; declared = 0; a = a; b = b }
+
+-- a record of kind, with bytes 4 to 7 and A
+abbrev typed : ℕ → ℕ → ℕ → Record
+typed k d a = record { kind = k; width = 0; spare = 0; declared = d; a = a; b = 0 }
 
 -- whether some records are a tape
 abbrev is : List Record → Bool
@@ -49,18 +53,18 @@ numbers :
     ∷ true ∷ false ∷ true ∷ false
     ∷ true ∷ false ∷ true ∷ false
     ∷ true ∷ false ∷ true ∷ false ∷ []
-unfolding formed atTapeEnd valueAt bodyBy recordShape memberAt several closingRecord formOnward withRecord leafFine leafBy textual integerFine sized onlyB namesBlock empty onlyA textIn blockIs isWidth unused recordsBytes recordBytes recordOf stepAt leValue leBytes twosComplement fitsSigned fitsUnsigned
+unfolding formed atTapeEnd valueAt bodyBy recordShape memberAt several closingRecord formOnward withRecord leafFine leafBy textual integerFine sized onlyB namesBlock empty onlyA textIn blockIs isWidth unused undeclared declares opens closes isKey recordsBytes recordBytes recordOf stepAt leValue leBytes twosComplement fitsSigned fitsUnsigned
 numbers = refl
 
--- texts inside, at the end, outside and not UTF-8; entries and keys by the kind of their block
+-- texts inside, ended or not, at the end, outside and not UTF-8; entries and keys by the kind of their block
 places :
-    is (rec 11 0 1 1 ∷ []) ∷ is (rec 11 0 3 0 ∷ []) ∷ is (rec 11 0 4 0 ∷ []) ∷ is (rec 11 0 0 1 ∷ []) ∷ is (rec 11 0 1 (2 ^ 64 - 1) ∷ [])
+    is (rec 11 0 1 1 ∷ []) ∷ is (rec 11 1 1 1 ∷ []) ∷ is (rec 11 2 1 1 ∷ []) ∷ is (rec 13 1 0 0 ∷ []) ∷ is (rec 11 0 3 0 ∷ []) ∷ is (rec 11 0 4 0 ∷ []) ∷ is (rec 11 0 0 1 ∷ []) ∷ is (rec 11 0 1 (2 ^ 64 - 1) ∷ [])
     ∷ is (rec 12 0 2 0 ∷ []) ∷ is (rec 12 0 1 0 ∷ []) ∷ is (rec 12 0 3 0 ∷ [])
     ∷ is (with-A 3 1 ∷ with-A 4 1 ∷ unit ∷ with-A 5 0 ∷ []) ∷ is (with-A 3 1 ∷ with-A 4 2 ∷ unit ∷ with-A 5 0 ∷ []) ∷ []
-    ≡ true ∷ true ∷ false ∷ false ∷ false
+    ≡ true ∷ true ∷ false ∷ false ∷ true ∷ false ∷ false ∷ false
     ∷ true ∷ false ∷ false
     ∷ true ∷ false ∷ []
-unfolding formed atTapeEnd valueAt bodyBy recordShape memberAt several closingRecord formOnward withRecord leafFine leafBy textual integerFine sized onlyB namesBlock empty onlyA textIn blockIs isWidth unused recordsBytes recordBytes recordOf stepAt leValue leBytes decodeFrom leading following afterReply noError
+unfolding formed atTapeEnd valueAt bodyBy recordShape memberAt several closingRecord formOnward withRecord leafFine leafBy textual integerFine sized onlyB namesBlock empty onlyA textIn blockIs isWidth unused undeclared declares opens closes isKey recordsBytes recordBytes recordOf stepAt leValue leBytes decodeFrom leading following afterReply noError
 places = refl
 
 -- counts of elements and of keys; no value, half a value, two values, and 23 bytes
@@ -71,13 +75,14 @@ balance :
     ≡ true ∷ false ∷ false ∷ false
     ∷ true ∷ false
     ∷ false ∷ false ∷ false ∷ false ∷ false ∷ []
-unfolding formed atTapeEnd valueAt bodyBy recordShape memberAt several closingRecord formOnward withRecord leafFine leafBy textual integerFine sized onlyB namesBlock empty onlyA textIn blockIs isWidth unused recordsBytes recordBytes recordOf stepAt leValue leBytes
+unfolding formed atTapeEnd valueAt bodyBy recordShape memberAt several closingRecord formOnward withRecord leafFine leafBy textual integerFine sized onlyB namesBlock empty onlyA textIn blockIs isWidth unused undeclared declares opens closes isKey recordsBytes recordBytes recordOf stepAt leValue leBytes
 balance = refl
 
--- 64 arrays, the innermost empty; with a unit in it; bytes 2 to 7 in use
+-- 64 arrays, the innermost empty; with a unit in it; bytes 2 and 3 in use; bytes 4 to 7 a field block, past the book, or used in an end or a key
 levels :
     is (nested 64 0 []) ∷ is (nested 64 1 (unit ∷ [])) ∷ is (nested 63 1 (unit ∷ []))
-    ∷ is (record { kind = 13; width = 0; spare = 1; declared = 0; a = 0; b = 0 } ∷ []) ∷ is (record { kind = 13; width = 0; spare = 0; declared = 1; a = 0; b = 0 } ∷ []) ∷ []
-    ≡ true ∷ false ∷ true ∷ false ∷ false ∷ []
-unfolding formed atTapeEnd valueAt bodyBy recordShape memberAt several closingRecord formOnward withRecord leafFine leafBy textual integerFine sized onlyB namesBlock empty onlyA textIn blockIs isWidth unused recordsBytes recordBytes recordOf stepAt leValue leBytes
+    ∷ is (record { kind = 13; width = 0; spare = 1; declared = 0; a = 0; b = 0 } ∷ []) ∷ is (typed 13 1 0 ∷ []) ∷ is (typed 13 3 0 ∷ [])
+    ∷ is (with-A 1 0 ∷ typed 2 1 0 ∷ []) ∷ is (with-A 3 1 ∷ typed 4 1 1 ∷ unit ∷ with-A 5 0 ∷ []) ∷ []
+    ≡ true ∷ false ∷ true ∷ false ∷ false ∷ false ∷ false ∷ false ∷ []
+unfolding formed atTapeEnd valueAt bodyBy recordShape memberAt several closingRecord formOnward withRecord leafFine leafBy textual integerFine sized onlyB namesBlock empty onlyA textIn blockIs isWidth unused undeclared declares opens closes isKey recordsBytes recordBytes recordOf stepAt leValue leBytes
 levels = refl

@@ -79,25 +79,25 @@ not-into-int = refl
 
 -- a tape with its form is walked
 formed-set : bookWrite (ctx book 8 (one 2 2 7) []) 0 4 image ≡ went (record { at = 96 }) (0xfe ∷ 0xff ∷ 0x07 ∷ 0x00 ∷ [])
-unfolding call.bookWrite form.formed form.atTapeEnd form.valueAt form.bodyBy form.recordShape form.memberAt form.several form.closingRecord form.formOnward form.withRecord ranges.leafFine ranges.leafBy ranges.textual ranges.integerFine ranges.sized ranges.onlyB ranges.namesBlock ranges.empty ranges.onlyA ranges.textIn ranges.blockIs ranges.isWidth ranges.unused integer.fitsUnsigned call.typeWrite call.rootBy call.rootWrite write._then_ write.placed write.takenBy write.taken write.endRecordBy write.leafEnd write.leafOf element.shapeAt write.checked write.fieldValue write.foundValue write.keyBy write.keyOf write.keysFrom write.mapBy write.mapOf write.valueBy write.itemWalk write.walk leaf.exactly leaf.integerBy leaf.integerLeaf leaf.leafBy integer.twosComplement integer.twosBits integer.fitsSigned integer.fitsId integer.writeInteger integer.integerBytes named.namedFrom tape-record.recordBytes tape-record.recordOf tape-record.stepAt tape-text.nameIn tape-text.recordText fields.fieldOf fields.fieldFound fields.resolveField fields.fieldThen fields.fieldsFrom fields.fieldsCheck type-book-book.isNamed find.findFrom find.find resolve.isFollowed resolve.chainOnward resolve.follow block sumOf le.leValue le.leBytes type-book-book.sameName type-names-names.isPointerName category.isPointer category.isReference type-names-names.isSubRangeName category.isAlias category.orElse type-names-names.isPrimitiveName category.isUnion category.methodsCategory category.fieldsCategory category.isEmptyStruct category.bareCategory category.sizeCategory category.complexCategory category.simpleCategory category.categoryOf type-names-text.isOneOf type-names-text.startsWith type-names-text.contains type-id.idOf
+unfolding call.bookWrite form.formed form.atTapeEnd form.valueAt form.bodyBy form.recordShape form.memberAt form.several form.closingRecord form.formOnward form.withRecord ranges.leafFine ranges.leafBy ranges.textual ranges.integerFine ranges.sized ranges.onlyB ranges.namesBlock ranges.empty ranges.onlyA ranges.textIn ranges.blockIs ranges.isWidth ranges.unused ranges.undeclared ranges.declares ranges.opens ranges.closes ranges.isKey integer.fitsUnsigned call.typeWrite call.rootBy call.rootWrite write._then_ write.placed write.takenBy write.taken write.endRecordBy write.leafEnd write.leafOf element.shapeAt write.checked write.fieldValue write.foundValue write.keyBy write.keyOf write.keysFrom write.mapBy write.mapOf write.valueBy write.itemWalk write.walk leaf.exactly leaf.integerBy leaf.integerLeaf leaf.leafBy integer.twosComplement integer.twosBits integer.fitsSigned integer.fitsId integer.writeInteger integer.integerBytes named.namedFrom tape-record.recordBytes tape-record.recordOf tape-record.stepAt tape-text.nameIn tape-text.recordText fields.fieldOf fields.fieldFound fields.resolveField fields.fieldThen fields.fieldsFrom fields.fieldsCheck type-book-book.isNamed find.findFrom find.find resolve.isFollowed resolve.chainOnward resolve.follow block sumOf le.leValue le.leBytes type-book-book.sameName type-names-names.isPointerName category.isPointer category.isReference type-names-names.isSubRangeName category.isAlias category.orElse type-names-names.isPrimitiveName category.isUnion category.methodsCategory category.fieldsCategory category.isEmptyStruct category.bareCategory category.sizeCategory category.complexCategory category.simpleCategory category.categoryOf type-names-text.isOneOf type-names-text.startsWith type-names-text.contains type-id.idOf
 formed-set = refl
 
 -- a count of two keys over one, of an unknown name: 16 before 18
 form-before-name : bookWrite (ctx book 8 (short 3) []) 0 4 image ≡ refused 16 0 image
-unfolding call.bookWrite form.formed form.atTapeEnd form.valueAt form.bodyBy form.recordShape form.memberAt form.several form.closingRecord form.formOnward form.withRecord ranges.leafFine ranges.leafBy ranges.textual ranges.integerFine ranges.sized ranges.onlyB ranges.namesBlock ranges.empty ranges.onlyA ranges.textIn ranges.blockIs ranges.isWidth ranges.unused integer.fitsUnsigned call.typeWrite call.rootBy call.rootWrite write._then_ write.placed write.takenBy write.taken write.endRecordBy write.leafEnd write.leafOf element.shapeAt write.checked write.fieldValue write.foundValue write.keyBy write.keyOf write.keysFrom write.mapBy write.mapOf write.valueBy write.itemWalk write.walk leaf.exactly leaf.integerBy leaf.integerLeaf leaf.leafBy integer.twosComplement integer.twosBits integer.fitsSigned integer.fitsId integer.writeInteger integer.integerBytes named.namedFrom tape-record.recordBytes tape-record.recordOf tape-record.stepAt tape-text.nameIn tape-text.recordText fields.fieldOf fields.fieldFound fields.resolveField fields.fieldThen fields.fieldsFrom fields.fieldsCheck type-book-book.isNamed find.findFrom find.find resolve.isFollowed resolve.chainOnward resolve.follow block sumOf le.leValue le.leBytes type-book-book.sameName type-names-names.isPointerName category.isPointer category.isReference type-names-names.isSubRangeName category.isAlias category.orElse type-names-names.isPrimitiveName category.isUnion category.methodsCategory category.fieldsCategory category.isEmptyStruct category.bareCategory category.sizeCategory category.complexCategory category.simpleCategory category.categoryOf type-names-text.isOneOf type-names-text.startsWith type-names-text.contains type-id.idOf
+unfolding call.bookWrite form.formed form.atTapeEnd form.valueAt form.bodyBy form.recordShape form.memberAt form.several form.closingRecord form.formOnward form.withRecord ranges.leafFine ranges.leafBy ranges.textual ranges.integerFine ranges.sized ranges.onlyB ranges.namesBlock ranges.empty ranges.onlyA ranges.textIn ranges.blockIs ranges.isWidth ranges.unused ranges.undeclared ranges.declares ranges.opens ranges.closes ranges.isKey integer.fitsUnsigned call.typeWrite call.rootBy call.rootWrite write._then_ write.placed write.takenBy write.taken write.endRecordBy write.leafEnd write.leafOf element.shapeAt write.checked write.fieldValue write.foundValue write.keyBy write.keyOf write.keysFrom write.mapBy write.mapOf write.valueBy write.itemWalk write.walk leaf.exactly leaf.integerBy leaf.integerLeaf leaf.leafBy integer.twosComplement integer.twosBits integer.fitsSigned integer.fitsId integer.writeInteger integer.integerBytes named.namedFrom tape-record.recordBytes tape-record.recordOf tape-record.stepAt tape-text.nameIn tape-text.recordText fields.fieldOf fields.fieldFound fields.resolveField fields.fieldThen fields.fieldsFrom fields.fieldsCheck type-book-book.isNamed find.findFrom find.find resolve.isFollowed resolve.chainOnward resolve.follow block sumOf le.leValue le.leBytes type-book-book.sameName type-names-names.isPointerName category.isPointer category.isReference type-names-names.isSubRangeName category.isAlias category.orElse type-names-names.isPrimitiveName category.isUnion category.methodsCategory category.fieldsCategory category.isEmptyStruct category.bareCategory category.sizeCategory category.complexCategory category.simpleCategory category.categoryOf type-names-text.isOneOf type-names-text.startsWith type-names-text.contains type-id.idOf
 form-before-name = refl
 
 -- 40,000 in two signed bytes has no form: 16 before 19
 form-before-range : bookWrite (ctx book 8 (one 1 2 40000) []) 0 4 image ≡ refused 16 0 image
-unfolding call.bookWrite form.formed form.atTapeEnd form.valueAt form.bodyBy form.recordShape form.memberAt form.several form.closingRecord form.formOnward form.withRecord ranges.leafFine ranges.leafBy ranges.textual ranges.integerFine ranges.sized ranges.onlyB ranges.namesBlock ranges.empty ranges.onlyA ranges.textIn ranges.blockIs ranges.isWidth ranges.unused integer.fitsUnsigned call.typeWrite call.rootBy call.rootWrite write._then_ write.placed write.takenBy write.taken write.endRecordBy write.leafEnd write.leafOf element.shapeAt write.checked write.fieldValue write.foundValue write.keyBy write.keyOf write.keysFrom write.mapBy write.mapOf write.valueBy write.itemWalk write.walk leaf.exactly leaf.integerBy leaf.integerLeaf leaf.leafBy integer.twosComplement integer.twosBits integer.fitsSigned integer.fitsId integer.writeInteger integer.integerBytes named.namedFrom tape-record.recordBytes tape-record.recordOf tape-record.stepAt tape-text.nameIn tape-text.recordText fields.fieldOf fields.fieldFound fields.resolveField fields.fieldThen fields.fieldsFrom fields.fieldsCheck type-book-book.isNamed find.findFrom find.find resolve.isFollowed resolve.chainOnward resolve.follow block sumOf le.leValue le.leBytes type-book-book.sameName type-names-names.isPointerName category.isPointer category.isReference type-names-names.isSubRangeName category.isAlias category.orElse type-names-names.isPrimitiveName category.isUnion category.methodsCategory category.fieldsCategory category.isEmptyStruct category.bareCategory category.sizeCategory category.complexCategory category.simpleCategory category.categoryOf type-names-text.isOneOf type-names-text.startsWith type-names-text.contains type-id.idOf
+unfolding call.bookWrite form.formed form.atTapeEnd form.valueAt form.bodyBy form.recordShape form.memberAt form.several form.closingRecord form.formOnward form.withRecord ranges.leafFine ranges.leafBy ranges.textual ranges.integerFine ranges.sized ranges.onlyB ranges.namesBlock ranges.empty ranges.onlyA ranges.textIn ranges.blockIs ranges.isWidth ranges.unused ranges.undeclared ranges.declares ranges.opens ranges.closes ranges.isKey integer.fitsUnsigned call.typeWrite call.rootBy call.rootWrite write._then_ write.placed write.takenBy write.taken write.endRecordBy write.leafEnd write.leafOf element.shapeAt write.checked write.fieldValue write.foundValue write.keyBy write.keyOf write.keysFrom write.mapBy write.mapOf write.valueBy write.itemWalk write.walk leaf.exactly leaf.integerBy leaf.integerLeaf leaf.leafBy integer.twosComplement integer.twosBits integer.fitsSigned integer.fitsId integer.writeInteger integer.integerBytes named.namedFrom tape-record.recordBytes tape-record.recordOf tape-record.stepAt tape-text.nameIn tape-text.recordText fields.fieldOf fields.fieldFound fields.resolveField fields.fieldThen fields.fieldsFrom fields.fieldsCheck type-book-book.isNamed find.findFrom find.find resolve.isFollowed resolve.chainOnward resolve.follow block sumOf le.leValue le.leBytes type-book-book.sameName type-names-names.isPointerName category.isPointer category.isReference type-names-names.isSubRangeName category.isAlias category.orElse type-names-names.isPrimitiveName category.isUnion category.methodsCategory category.fieldsCategory category.isEmptyStruct category.bareCategory category.sizeCategory category.complexCategory category.simpleCategory category.categoryOf type-names-text.isOneOf type-names-text.startsWith type-names-text.contains type-id.idOf
 form-before-range = refl
 
--- bytes 4 to 7 of a record are zero, or 16: the walk alone would not see them
-declared-not-zero : bookWrite (ctx book 8 wide []) 0 4 image ≡ refused 16 0 image
-unfolding call.bookWrite form.formed form.atTapeEnd form.valueAt form.bodyBy form.recordShape form.memberAt form.several form.closingRecord form.formOnward form.withRecord ranges.leafFine ranges.leafBy ranges.textual ranges.integerFine ranges.sized ranges.onlyB ranges.namesBlock ranges.empty ranges.onlyA ranges.textIn ranges.blockIs ranges.isWidth ranges.unused integer.fitsUnsigned call.typeWrite call.rootBy call.rootWrite write._then_ write.placed write.takenBy write.taken write.endRecordBy write.leafEnd write.leafOf element.shapeAt write.checked write.fieldValue write.foundValue write.keyBy write.keyOf write.keysFrom write.mapBy write.mapOf write.valueBy write.itemWalk write.walk leaf.exactly leaf.integerBy leaf.integerLeaf leaf.leafBy integer.twosComplement integer.twosBits integer.fitsSigned integer.fitsId integer.writeInteger integer.integerBytes named.namedFrom tape-record.recordBytes tape-record.recordOf tape-record.stepAt tape-text.nameIn tape-text.recordText fields.fieldOf fields.fieldFound fields.resolveField fields.fieldThen fields.fieldsFrom fields.fieldsCheck type-book-book.isNamed find.findFrom find.find resolve.isFollowed resolve.chainOnward resolve.follow block sumOf le.leValue le.leBytes type-book-book.sameName type-names-names.isPointerName category.isPointer category.isReference type-names-names.isSubRangeName category.isAlias category.orElse type-names-names.isPrimitiveName category.isUnion category.methodsCategory category.fieldsCategory category.isEmptyStruct category.bareCategory category.sizeCategory category.complexCategory category.simpleCategory category.categoryOf type-names-text.isOneOf type-names-text.startsWith type-names-text.contains type-id.idOf
-declared-not-zero = refl
+-- bytes 4 to 7 of a value are a type block, or 16: the walk alone would not see them
+declared-field : bookWrite (ctx book 8 wide []) 0 4 image ≡ refused 16 0 image
+unfolding call.bookWrite form.formed form.atTapeEnd form.valueAt form.bodyBy form.recordShape form.memberAt form.several form.closingRecord form.formOnward form.withRecord ranges.leafFine ranges.leafBy ranges.textual ranges.integerFine ranges.sized ranges.onlyB ranges.namesBlock ranges.empty ranges.onlyA ranges.textIn ranges.blockIs ranges.isWidth ranges.unused ranges.undeclared ranges.declares ranges.opens ranges.closes ranges.isKey integer.fitsUnsigned call.typeWrite call.rootBy call.rootWrite write._then_ write.placed write.takenBy write.taken write.endRecordBy write.leafEnd write.leafOf element.shapeAt write.checked write.fieldValue write.foundValue write.keyBy write.keyOf write.keysFrom write.mapBy write.mapOf write.valueBy write.itemWalk write.walk leaf.exactly leaf.integerBy leaf.integerLeaf leaf.leafBy integer.twosComplement integer.twosBits integer.fitsSigned integer.fitsId integer.writeInteger integer.integerBytes named.namedFrom tape-record.recordBytes tape-record.recordOf tape-record.stepAt tape-text.nameIn tape-text.recordText fields.fieldOf fields.fieldFound fields.resolveField fields.fieldThen fields.fieldsFrom fields.fieldsCheck type-book-book.isNamed find.findFrom find.find resolve.isFollowed resolve.chainOnward resolve.follow block sumOf le.leValue le.leBytes type-book-book.sameName type-names-names.isPointerName category.isPointer category.isReference type-names-names.isSubRangeName category.isAlias category.orElse type-names-names.isPrimitiveName category.isUnion category.methodsCategory category.fieldsCategory category.isEmptyStruct category.bareCategory category.sizeCategory category.complexCategory category.simpleCategory category.categoryOf type-names-text.isOneOf type-names-text.startsWith type-names-text.contains type-id.idOf
+declared-field = refl
 
 -- an output of another length: 10 before 16
 length-before-form : bookWrite (ctx book 8 (short 3) []) 0 3 image ≡ refused 10 0 image
-unfolding call.bookWrite form.formed form.atTapeEnd form.valueAt form.bodyBy form.recordShape form.memberAt form.several form.closingRecord form.formOnward form.withRecord ranges.leafFine ranges.leafBy ranges.textual ranges.integerFine ranges.sized ranges.onlyB ranges.namesBlock ranges.empty ranges.onlyA ranges.textIn ranges.blockIs ranges.isWidth ranges.unused integer.fitsUnsigned call.typeWrite call.rootBy call.rootWrite write._then_ write.placed write.takenBy write.taken write.endRecordBy write.leafEnd write.leafOf element.shapeAt write.checked write.fieldValue write.foundValue write.keyBy write.keyOf write.keysFrom write.mapBy write.mapOf write.valueBy write.itemWalk write.walk leaf.exactly leaf.integerBy leaf.integerLeaf leaf.leafBy integer.twosComplement integer.twosBits integer.fitsSigned integer.fitsId integer.writeInteger integer.integerBytes named.namedFrom tape-record.recordBytes tape-record.recordOf tape-record.stepAt tape-text.nameIn tape-text.recordText fields.fieldOf fields.fieldFound fields.resolveField fields.fieldThen fields.fieldsFrom fields.fieldsCheck type-book-book.isNamed find.findFrom find.find resolve.isFollowed resolve.chainOnward resolve.follow block sumOf le.leValue le.leBytes type-book-book.sameName type-names-names.isPointerName category.isPointer category.isReference type-names-names.isSubRangeName category.isAlias category.orElse type-names-names.isPrimitiveName category.isUnion category.methodsCategory category.fieldsCategory category.isEmptyStruct category.bareCategory category.sizeCategory category.complexCategory category.simpleCategory category.categoryOf type-names-text.isOneOf type-names-text.startsWith type-names-text.contains type-id.idOf
+unfolding call.bookWrite form.formed form.atTapeEnd form.valueAt form.bodyBy form.recordShape form.memberAt form.several form.closingRecord form.formOnward form.withRecord ranges.leafFine ranges.leafBy ranges.textual ranges.integerFine ranges.sized ranges.onlyB ranges.namesBlock ranges.empty ranges.onlyA ranges.textIn ranges.blockIs ranges.isWidth ranges.unused ranges.undeclared ranges.declares ranges.opens ranges.closes ranges.isKey integer.fitsUnsigned call.typeWrite call.rootBy call.rootWrite write._then_ write.placed write.takenBy write.taken write.endRecordBy write.leafEnd write.leafOf element.shapeAt write.checked write.fieldValue write.foundValue write.keyBy write.keyOf write.keysFrom write.mapBy write.mapOf write.valueBy write.itemWalk write.walk leaf.exactly leaf.integerBy leaf.integerLeaf leaf.leafBy integer.twosComplement integer.twosBits integer.fitsSigned integer.fitsId integer.writeInteger integer.integerBytes named.namedFrom tape-record.recordBytes tape-record.recordOf tape-record.stepAt tape-text.nameIn tape-text.recordText fields.fieldOf fields.fieldFound fields.resolveField fields.fieldThen fields.fieldsFrom fields.fieldsCheck type-book-book.isNamed find.findFrom find.find resolve.isFollowed resolve.chainOnward resolve.follow block sumOf le.leValue le.leBytes type-book-book.sameName type-names-names.isPointerName category.isPointer category.isReference type-names-names.isSubRangeName category.isAlias category.orElse type-names-names.isPrimitiveName category.isUnion category.methodsCategory category.fieldsCategory category.isEmptyStruct category.bareCategory category.sizeCategory category.complexCategory category.simpleCategory category.categoryOf type-names-text.isOneOf type-names-text.startsWith type-names-text.contains type-id.idOf
 length-before-form = refl

@@ -36,7 +36,7 @@ use Rattle.de_output.specs.declared.Step.{Step}
 use Rattle.de_output.specs.declared.Step.the-variants.{Stop}
 use Rattle.tape_shape.specs.declared.Shape.{Shape}
 use Rattle.tape_shape.specs.declared.Shape.the-variants as shape
-use Rattle.tape.specs.Record.{newRecord}
+use Rattle.tape.specs.Record.{newRecord, declaring}
 use Rattle.de_output.specs.Trace.{rec, one, From, Halts}
 use Rattle.tape_array_elements.specs.Element.{whole, elementItem, shapeAt, shapeCheck, elementCheck, ElementChecked}
 use Rattle.tape_array_elements.proofs.Items.{item-last, item-further}
@@ -81,7 +81,7 @@ module _ (c : Ctx) (left : ℕ) (x : Typed) (mem : List ℕ) {tape txt : List �
     unfolding shapeWalk
     value-array q h = from-as (walks.walk-shape c left mem x shape.Array n (sym q ∙ shape-is c (x .resolved) k (x .category) ey ek)) h
 
-    pub value-leaf : {tape′ txt′ : List ℕ} → k ≡ shape.Leaf → From (traceOf (leafAt (c .book) (c .width) (x .resolved) mem) mem) tape txt s r tape′ txt′ → From (walk c left (whole x) mem) tape txt s r tape′ txt′
+    pub value-leaf : {tape′ txt′ : List ℕ} → k ≡ shape.Leaf → From (traceOf (x .named) (leafAt (c .book) (c .width) (x .resolved) mem) mem) tape txt s r tape′ txt′ → From (walk c left (whole x) mem) tape txt s r tape′ txt′
     unfolding shapeWalk leafOf
     value-leaf q h = from-as (walks.walk-shape c left mem x shape.Leaf n (sym q ∙ shape-is c (x .resolved) k (x .category) ey ek)) h
 
@@ -165,7 +165,7 @@ module _ (child : Child) (c : Ctx) (t n : ℕ) (mem : List ℕ) where
   members-again i q l v = rest-next q (walks.members-more child c mem t i n l) v
 
 module _ (child : Child) (c : Ctx) (x : Typed) (n : ℕ) (mem : List ℕ) where
-  module _ (e : n ≡ fieldsOf (c .book) (x .resolved)) {tape tape₁ tape₂ txt txt₁ txt₂ : List ℕ} {s first here : Step} (h : From (one (rec (newRecord 3 0 n 0))) tape txt s first tape₁ txt₁) (i : ℕ)
+  module _ (e : n ≡ fieldsOf (c .book) (x .resolved)) {tape tape₁ tape₂ txt txt₁ txt₂ : List ℕ} {s first here : Step} (h : From (one (rec (declaring (x .named) (newRecord 3 0 n 0)))) tape txt s first tape₁ txt₁) (i : ℕ)
       (q : Rest (membersFrom child c mem (x .resolved + 1) n) tape₁ txt₁ first (membersFrom child c mem (x .resolved + 1 + i) (n - i)) tape₂ txt₂ here) where
     pub members-end : {tape₃ txt₃ : List ℕ} {r : Step} → n ≤ i → From (one (rec (newRecord 5 0 0 0))) tape₂ txt₂ here r tape₃ txt₃ → From (membersOf child c x mem) tape txt s r tape₃ txt₃
     members-end l y = from-as (walks.members-of child c mem x n e) (chain h (q .finish _ _ _ (from-as (walks.members-none child c mem (x .resolved) i n l) y)))
@@ -222,24 +222,24 @@ module _ (child : Child) (c : Ctx) (x : Typed) (size : ℕ) (sz : size ≡ sizeO
         array-other h y = from-as (walks.array-at child c mem x size sz ev f (found-is _ _ ef) n en k (resolved-is _ _ (q .is)) ∙ rw (z, ← p, h)) (halted y)
 
         pub array-base : (w : AdsTypeCategory) → w ≡ categoryOf (c .book) (c .width) e → {tape′ txt′ : List ℕ} → b ≡ true
-            → From (dimensionOf child c 0 (x .resolved) (record { named = n; resolved = e; category = w }) mem) tape txt s r tape′ txt′ → From (arrayOf child c x mem) tape txt s r tape′ txt′
+            → From (dimensionOf child c (x .named) 0 (x .resolved) (record { named = n; resolved = e; category = w }) mem) tape txt s r tape′ txt′ → From (arrayOf child c x mem) tape txt s r tape′ txt′
         unfolding elementBy
         array-base w ew h y = from-as (walks.array-at child c mem x size sz ev f (found-is _ _ ef) n en k (resolved-is _ _ (q .is)) ∙ rw (z, ← p, h, ← ew)) y
 
 -- ---- dimension
 
-module _ (child : Child) (c : Ctx) (d t : ℕ) (e : Typed) (mem : List ℕ) {tape txt : List ℕ} {s r : Step} (k : FieldsCheck) (before after : List ℕ) (p : ElementChecked (c .book) (c .width) d t (e .resolved) before k after) where
-  pub dimension-fine : {tape′ txt′ : List ℕ} → k ≡ check.Fine → From (elementsOf child c d t e mem) tape txt s r tape′ txt′ → From (dimensionOf child c d t e mem) tape txt s r tape′ txt′
+module _ (child : Child) (c : Ctx) (m d t : ℕ) (e : Typed) (mem : List ℕ) {tape txt : List ℕ} {s r : Step} (k : FieldsCheck) (before after : List ℕ) (p : ElementChecked (c .book) (c .width) d t (e .resolved) before k after) where
+  pub dimension-fine : {tape′ txt′ : List ℕ} → k ≡ check.Fine → From (elementsOf child c m d t e mem) tape txt s r tape′ txt′ → From (dimensionOf child c m d t e mem) tape txt s r tape′ txt′
   unfolding checked
-  dimension-fine z h = from-as (walks.dimension-by child c mem d t e check.Fine (sym z ∙ p .is)) h
+  dimension-fine z h = from-as (walks.dimension-by child c mem m d t e check.Fine (sym z ∙ p .is)) h
 
-  pub dimension-lacks : (b : ℕ) → k ≡ check.Lacks b → Halts s 7 b r → From (dimensionOf child c d t e mem) tape txt s r tape txt
+  pub dimension-lacks : (b : ℕ) → k ≡ check.Lacks b → Halts s 7 b r → From (dimensionOf child c m d t e mem) tape txt s r tape txt
   unfolding checked
-  dimension-lacks b z h = from-as (walks.dimension-by child c mem d t e (check.Lacks b) (sym z ∙ p .is) ∙ rw (check-lacks b)) (halted h)
+  dimension-lacks b z h = from-as (walks.dimension-by child c mem m d t e (check.Lacks b) (sym z ∙ p .is) ∙ rw (check-lacks b)) (halted h)
 
-  pub dimension-endless : k ≡ check.TooLong → Halts s 8 0 r → From (dimensionOf child c d t e mem) tape txt s r tape txt
+  pub dimension-endless : k ≡ check.TooLong → Halts s 8 0 r → From (dimensionOf child c m d t e mem) tape txt s r tape txt
   unfolding checked
-  dimension-endless z h = from-as (walks.dimension-by child c mem d t e check.TooLong (sym z ∙ p .is) ∙ rw check-long) (halted h)
+  dimension-endless z h = from-as (walks.dimension-by child c mem m d t e check.TooLong (sym z ∙ p .is) ∙ rw check-long) (halted h)
 
 -- ---- elements
 
@@ -256,16 +256,16 @@ module _ (child : Child) (book : List ℕ) (d t : ℕ) (e : Typed) (n : ℕ) (me
       let y : stride ≡ strideOf book d t (e .resolved) = a .step (omega arith) in
       rw y (rest-next q (walks.elements-more child (elementItem book d t e) mem (strideOf book d t (e .resolved)) from i n l) (rw (z, y) at v))
 
-module _ (child : Child) (c : Ctx) (d t : ℕ) (e : Typed) (n : ℕ) (mem : List ℕ) where
-  module _ (z : n ≡ countOf (c .book) t d) {tape tape₁ tape₂ txt txt₁ txt₂ : List ℕ} {s first here : Step} (h : From (one (rec (newRecord 1 0 n 0))) tape txt s first tape₁ txt₁) (from i : ℕ)
+module _ (child : Child) (c : Ctx) (m d t : ℕ) (e : Typed) (n : ℕ) (mem : List ℕ) where
+  module _ (z : n ≡ countOf (c .book) t d) {tape tape₁ tape₂ txt txt₁ txt₂ : List ℕ} {s first here : Step} (h : From (one (rec (declaring m (newRecord 1 0 n 0)))) tape txt s first tape₁ txt₁) (from i : ℕ)
       (q : Rest (elementsFrom child (elementItem (c .book) d t e) (strideOf (c .book) d t (e .resolved)) mem 0 n) tape₁ txt₁ first (elementsFrom child (elementItem (c .book) d t e) (strideOf (c .book) d t (e .resolved)) mem from (n - i)) tape₂ txt₂ here) where
-    pub elements-end : {tape₃ txt₃ : List ℕ} {r : Step} → n ≤ i → From (one (rec (newRecord 2 0 0 0))) tape₂ txt₂ here r tape₃ txt₃ → From (elementsOf child c d t e mem) tape txt s r tape₃ txt₃
+    pub elements-end : {tape₃ txt₃ : List ℕ} {r : Step} → n ≤ i → From (one (rec (newRecord 2 0 0 0))) tape₂ txt₂ here r tape₃ txt₃ → From (elementsOf child c m d t e mem) tape txt s r tape₃ txt₃
     elements-end l x =
-        from-as (walks.elements-of child c mem d t e n z)
+        from-as (walks.elements-of child c mem m d t e n z)
         (chain h (q .finish _ _ _ (from-as (walks.elements-none child (elementItem (c .book) d t e) mem (strideOf (c .book) d t (e .resolved)) from i n l) x)))
 
-    pub elements-stop : (k b : ℕ) → here ≡ Stop k b → From (elementsOf child c d t e mem) tape txt s here tape₂ txt₂
-    elements-stop k b y = from-as (walks.elements-of child c mem d t e n z) (chain h (q .finish here tape₂ txt₂ (from-held k b y)))
+    pub elements-stop : (k b : ℕ) → here ≡ Stop k b → From (elementsOf child c m d t e mem) tape txt s here tape₂ txt₂
+    elements-stop k b y = from-as (walks.elements-of child c mem m d t e n z) (chain h (q .finish here tape₂ txt₂ (from-held k b y)))
 
 -- ---- element
 
@@ -276,7 +276,7 @@ module _ (c : Ctx) (left d t : ℕ) (e : Typed) (mem : List ℕ) {tape txt : Lis
   pub element-deep : b ≡ false → left ≡ 0 → Halts s 14 0 r → From (walk c left (elementItem (c .book) d t e) mem) tape txt s r tape txt
   element-deep h z x = from-as (walks.walk-deep c left mem (elementItem (c .book) d t e) z) (halted x)
 
-  pub element-further : {tape′ txt′ : List ℕ} → b ≡ false → (left ≡ 0 → ⊥) → From (dimensionOf (walk c (left - 1)) c (d + 1) t e mem) tape txt s r tape′ txt′
+  pub element-further : {tape′ txt′ : List ℕ} → b ≡ false → (left ≡ 0 → ⊥) → From (dimensionOf (walk c (left - 1)) c t (d + 1) t e mem) tape txt s r tape′ txt′
       → From (walk c left (elementItem (c .book) d t e) mem) tape txt s r tape′ txt′
   element-further h n x = rw (item-further (c .book) d t e b q h) (from-as (walks.walk-further c left mem (d + 1) t e n) x)
 

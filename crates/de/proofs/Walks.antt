@@ -22,7 +22,7 @@ use Rattle.resolve_field_types.specs.declared.ResolvedField.{ResolvedField}
 use Rattle.resolve_field_types.specs.declared.FieldAnswer.{FieldAnswer}
 use Rattle.tape_shape.specs.declared.Shape.{Shape}
 use Rattle.tape_shape.specs.Array.{strideOf}
-use Rattle.tape.specs.Record.{newRecord}
+use Rattle.tape.specs.Record.{newRecord, declaring}
 use Rattle.de_output.specs.Trace.{Trace, rec, one, refuse, _then_}
 use Rattle.tape_array_elements.specs.Element.{Content, whole, further, cut, elementItem, shapeAt, elementCheck}
 use Rattle.de.specs.declared.reading.Typed.{Typed}
@@ -44,7 +44,7 @@ module _ (c : Ctx) (left : ℕ) (mem : List ℕ) where
       let e : left ≡ suc (left - 1) = omega arith in
       ap (λ (l : ℕ). walk c l (whole x) mem) e ∙ rw q
 
-  pub walk-further : (d t : ℕ) (e : Typed) → (left ≡ 0 → ⊥) → walk c left (further d t e) mem ≡ dimensionOf (walk c (left - 1)) c d t e mem
+  pub walk-further : (d t : ℕ) (e : Typed) → (left ≡ 0 → ⊥) → walk c left (further d t e) mem ≡ dimensionOf (walk c (left - 1)) c t d t e mem
   unfolding walk itemWalk
   walk-further d t e n =
       let q : left ≡ suc (left - 1) = omega arith in
@@ -101,7 +101,7 @@ module _ (child : Child) (c : Ctx) (mem : List ℕ) where
   unfolding membersFrom
   members-none t i n h = let e : n - i ≡ 0 = omega arith in rw e
 
-  pub members-of : (x : Typed) (n : ℕ) → n ≡ fieldsOf (c .book) (x .resolved) → membersOf child c x mem ≡ one (rec (newRecord 3 0 n 0)) then membersFrom child c mem (x .resolved + 1) n
+  pub members-of : (x : Typed) (n : ℕ) → n ≡ fieldsOf (c .book) (x .resolved) → membersOf child c x mem ≡ one (rec (declaring (x .named) (newRecord 3 0 n 0))) then membersFrom child c mem (x .resolved + 1) n
   unfolding membersOf
   members-of x n e = rw e
 
@@ -123,7 +123,7 @@ module _ (child : Child) (c : Ctx) (mem : List ℕ) where
     array-odd h = rw (← s, ne-eqb (length mem) size h)
 
     module _ (h : length mem ≡ size) (f : Found) (ef : f ≡ find (c .book) (typeNameOf (c .book) (x .resolved))) where
-      array-even : arrayOf child c x mem ≡ arrayBy child c (x .resolved) mem f
+      array-even : arrayOf child c x mem ≡ arrayBy child c x mem f
       unfolding arrayOf
       array-even = rw (← s, eq-eqb (length mem) size h, ef)
 
@@ -131,18 +131,18 @@ module _ (child : Child) (c : Ctx) (mem : List ℕ) where
       unfolding arrayBy
       array-nothing e = array-even ∙ rw (e, lacks-numbers (x .resolved))
 
-      pub array-at : (n : ℕ) → f ≡ At n → (r : Resolved) → r ≡ resolveAlias (c .book) (c .width) n → arrayOf child c x mem ≡ elementBy child c (x .resolved) n mem r
+      pub array-at : (n : ℕ) → f ≡ At n → (r : Resolved) → r ≡ resolveAlias (c .book) (c .width) n → arrayOf child c x mem ≡ elementBy child c x n mem r
       unfolding arrayBy
       array-at n e r q = array-even ∙ rw (e, q)
 
-  pub elements-of : (d t : ℕ) (e : Typed) (n : ℕ) → n ≡ countOf (c .book) t d
-      → elementsOf child c d t e mem ≡ one (rec (newRecord 1 0 n 0)) then elementsFrom child (elementItem (c .book) d t e) (strideOf (c .book) d t (e .resolved)) mem 0 n
+  pub elements-of : (m d t : ℕ) (e : Typed) (n : ℕ) → n ≡ countOf (c .book) t d
+      → elementsOf child c m d t e mem ≡ one (rec (declaring m (newRecord 1 0 n 0))) then elementsFrom child (elementItem (c .book) d t e) (strideOf (c .book) d t (e .resolved)) mem 0 n
   unfolding elementsOf
-  elements-of d t e n q = rw q
+  elements-of m d t e n q = rw q
 
-  pub dimension-by : (d t : ℕ) (e : Typed) (k : FieldsCheck) → k ≡ elementCheck (c .book) (c .width) d t (e .resolved) → dimensionOf child c d t e mem ≡ checked k (elementsOf child c d t e mem)
+  pub dimension-by : (m d t : ℕ) (e : Typed) (k : FieldsCheck) → k ≡ elementCheck (c .book) (c .width) d t (e .resolved) → dimensionOf child c m d t e mem ≡ checked k (elementsOf child c m d t e mem)
   unfolding dimensionOf
-  dimension-by d t e k q = rw q
+  dimension-by m d t e k q = rw q
 
 module _ (child : Child) (item : Content Typed) (mem : List ℕ) (stride : ℕ) where
   pub elements-all : (n : ℕ) → elementsFrom child item stride mem 0 n ≡ elementsFrom child item stride mem 0 (n - 0)

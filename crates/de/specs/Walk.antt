@@ -1,4 +1,5 @@
--- What a read emits, type by type (document 01: "The tape", the access files, deserializer.rs). Assumes nothing.
+-- What a read emits, type by type (document 01: "The tape", the access files, deserializer.rs; document 02, change request 8).
+-- Assumes nothing.
 use mathlib.Core.Bool.{cond}
 use mathlib.Core.List.{List}
 use Prim.Native.Nat.{ℕ, zero, suc, _+_}
@@ -25,7 +26,7 @@ use Rattle.tape_array_elements.specs.Element.{Content, whole, further, cut, ele
 use Rattle.de.specs.declared.reading.Typed.{Typed}
 use Rattle.de_leaves.specs.Leaf.{leafAt}
 use Rattle.de_leaf_output.specs.Leaves.{traceOf}
-use Rattle.tape.specs.Record.{newRecord}
+use Rattle.tape.specs.Record.{newRecord, declaring}
 use Rattle.de_output.specs.Trace.{Trace, rec, one, refuse, _then_}
 
 -- what is read and never written
@@ -46,8 +47,8 @@ abbrev pub Child : Type 0
 Child = Content Typed → List ℕ → Trace
 
 -- a value that is read as a whole
-unfoldable pub leafOf : Ctx → ℕ → List ℕ → Trace
-leafOf c t mem = traceOf (leafAt (c .book) (c .width) t mem) mem
+unfoldable pub leafOf : Ctx → Typed → List ℕ → Trace
+leafOf c x mem = traceOf (x .named) (leafAt (c .book) (c .width) (x .resolved) mem) mem
 
 -- the refusal that an answer's numbers tell, with the block that 7 carries, else 0
 abbrev pub refuseBy : List ℕ → Trace
@@ -77,10 +78,11 @@ unfoldable pub membersFrom : Child → Ctx → List ℕ → ℕ → ℕ → Trac
 membersFrom child c mem f zero = one (rec (newRecord 5 0 0 0))
 membersFrom child c mem f (suc k) = memberOf child c mem f then membersFrom child c mem (f + 1) k
 
--- the map record, the fields in order, the end record
+-- the map record, which declares the type as it was named, the fields in order, the end record
 unfoldable pub membersOf : Child → Ctx → Typed → List ℕ → Trace
 membersOf child c x mem =
-    one (rec (newRecord 3 0 (fieldsOf (c .book) (x .resolved)) 0)) then membersFrom child c mem (x .resolved + 1) (fieldsOf (c .book) (x .resolved))
+    one (rec (declaring (x .named) (newRecord 3 0 (fieldsOf (c .book) (x .resolved)) 0))) then
+    membersFrom child c mem (x .resolved + 1) (fieldsOf (c .book) (x .resolved))
 
 -- 10 unless the bytes are as many as the type says; all fields are resolved before the map record
 unfoldable pub mapOf : Child → Ctx → Typed → List ℕ → Trace
@@ -94,33 +96,34 @@ unfoldable pub elementsFrom : Child → Content Typed → ℕ → List ℕ → �
 elementsFrom child item stride mem from zero = one (rec (newRecord 2 0 0 0))
 elementsFrom child item stride mem from (suc k) = child item (cut from stride mem) then elementsFrom child item stride mem (from + stride) k
 
--- dimension d of array t with elements of type e: the array record with its count, its elements in order, the end record
-unfoldable pub elementsOf : Child → Ctx → ℕ → ℕ → Typed → List ℕ → Trace
-elementsOf child c d t e mem =
-    one (rec (newRecord 1 0 (countOf (c .book) t d) 0)) then
+-- dimension d of array t with elements of type e: the array record with its count, which declares block n, its elements in order, the end record
+unfoldable pub elementsOf : Child → Ctx → ℕ → ℕ → ℕ → Typed → List ℕ → Trace
+elementsOf child c n d t e mem =
+    one (rec (declaring n (newRecord 1 0 (countOf (c .book) t d) 0))) then
     elementsFrom child (elementItem (c .book) d t e) (strideOf (c .book) d t (e .resolved)) mem 0 (countOf (c .book) t d)
 
 -- one dimension: in the last one the element's fields are resolved before the array record
-unfoldable pub dimensionOf : Child → Ctx → ℕ → ℕ → Typed → List ℕ → Trace
-dimensionOf child c d t e mem = checked (elementCheck (c .book) (c .width) d t (e .resolved)) (elementsOf child c d t e mem)
+unfoldable pub dimensionOf : Child → Ctx → ℕ → ℕ → ℕ → Typed → List ℕ → Trace
+dimensionOf child c n d t e mem = checked (elementCheck (c .book) (c .width) d t (e .resolved)) (elementsOf child c n d t e mem)
 
--- by what the aliases of the element's type, named at block n, come to: 10 unless the whole array's bytes are as many as there are
-unfoldable pub elementBy : Child → Ctx → ℕ → ℕ → List ℕ → Resolved → Trace
-elementBy child c t n mem (resolved.Base e) =
-    cond (eqb (arrayBytes (c .book) t e) (length mem)) (dimensionOf child c 0 t (typedOf c n e) mem) (refuse 10 0)
-elementBy child c t n mem (resolved.Lacks b) = refuseBy (resolvedNumbers (resolved.Lacks b))
-elementBy child c t n mem resolved.TooLong = refuseBy (resolvedNumbers resolved.TooLong)
+-- by what the aliases of the element's type, named at block n, come to: 10 unless the whole array's bytes are as many as there are; the first
+-- dimension declares the array as it was named
+unfoldable pub elementBy : Child → Ctx → Typed → ℕ → List ℕ → Resolved → Trace
+elementBy child c x n mem (resolved.Base e) =
+    cond (eqb (arrayBytes (c .book) (x .resolved) e) (length mem)) (dimensionOf child c (x .named) 0 (x .resolved) (typedOf c n e) mem) (refuse 10 0)
+elementBy child c x n mem (resolved.Lacks b) = refuseBy (resolvedNumbers (resolved.Lacks b))
+elementBy child c x n mem resolved.TooLong = refuseBy (resolvedNumbers resolved.TooLong)
 
--- by what the look-up of the element's name found: nothing is 7 with array t's block
-unfoldable pub arrayBy : Child → Ctx → ℕ → List ℕ → Found → Trace
-arrayBy child c t mem (At n) = elementBy child c t n mem (resolveAlias (c .book) (c .width) n)
-arrayBy child c t mem Nothing = refuseBy (resolvedNumbers (resolved.Lacks t))
+-- by what the look-up of the element's name found: nothing is 7 with the resolved array's block
+unfoldable pub arrayBy : Child → Ctx → Typed → List ℕ → Found → Trace
+arrayBy child c x mem (At n) = elementBy child c x n mem (resolveAlias (c .book) (c .width) n)
+arrayBy child c x mem Nothing = refuseBy (resolvedNumbers (resolved.Lacks (x .resolved)))
 
 -- 10 unless the bytes are as many as the type says; then the element's type is looked up
 unfoldable pub arrayOf : Child → Ctx → Typed → List ℕ → Trace
 arrayOf child c x mem =
     cond (eqb (length mem) (sizeOf (c .book) (x .resolved)))
-    (arrayBy child c (x .resolved) mem (find (c .book) (typeNameOf (c .book) (x .resolved))))
+    (arrayBy child c x mem (find (c .book) (typeNameOf (c .book) (x .resolved))))
     (refuse 10 0)
 
 -- ---- a value
@@ -129,12 +132,12 @@ arrayOf child c x mem =
 unfoldable pub shapeWalk : Child → Ctx → Typed → List ℕ → Shape → Trace
 shapeWalk child c x mem shape.Map = mapOf child c x mem
 shapeWalk child c x mem shape.Array = arrayOf child c x mem
-shapeWalk child c x mem shape.Leaf = leafOf c (x .resolved) mem
+shapeWalk child c x mem shape.Leaf = leafOf c x mem
 
--- what some bytes hold: a value, read by its type's shape, or a further dimension of an array
+-- what some bytes hold: a value, read by its type's shape, or a further dimension of array t, which declares t itself
 unfoldable pub itemWalk : Child → Ctx → Content Typed → List ℕ → Trace
 itemWalk child c (whole x) mem = shapeWalk child c x mem (shapeAt (c .book) (c .width) (x .resolved))
-itemWalk child c (further d t e) mem = dimensionOf child c d t e mem
+itemWalk child c (further d t e) mem = dimensionOf child c t d t e mem
 
 -- `left` is the number of levels left: with none, 14
 unfoldable pub walk : Ctx → ℕ → Child

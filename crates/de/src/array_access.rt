@@ -64,6 +64,7 @@ pub(crate) fn array(
                     category,
                 };
                 let p = Place {
+                    named: v.typed.named,
                     d: 0,
                     t,
                     element,
@@ -90,7 +91,7 @@ pub(crate) fn dimension(
     text: &mut [u8],
 ) -> Step
     requires { ⌜ ValidBook (now book) × (isType (now book) (p .element .resolved) ≡ true) × (p .element .category ≡ categoryOf (now book) (p .width) (p .element .resolved)) × Fills (now book) (p .d) (p .t) (p .element .resolved) (length (now bytes)) ⌝ }
-    ensures { λ r. ⌜ From (dimensionOf (walk (ctx (now (book .entry)) (p .width)) (p .left)) (ctx (now (book .entry)) (p .width)) (p .d) (p .t) (p .element) (now (bytes .entry))) (now (tape .entry)) (now (text .entry)) s r (now (tape .exit)) (now (text .exit)) ⌝ }
+    ensures { λ r. ⌜ From (dimensionOf (walk (ctx (now (book .entry)) (p .width)) (p .left)) (ctx (now (book .entry)) (p .width)) (p .named) (p .d) (p .t) (p .element) (now (bytes .entry))) (now (tape .entry)) (now (text .entry)) s r (now (tape .exit)) (now (text .exit)) ⌝ }
 {
     let element = p.element;
     let category = element.category;
@@ -124,10 +125,10 @@ pub(crate) fn elements(
     text: &mut [u8],
 ) -> Step
     requires { ⌜ ValidBook (now book) × (isType (now book) (p .element .resolved) ≡ true) × (p .element .category ≡ categoryOf (now book) (p .width) (p .element .resolved)) × GivenElement (ctx (now book) (p .width)) (p .d) (p .t) (p .element .resolved) (now plan) × Fills (now book) (p .d) (p .t) (p .element .resolved) (length (now bytes)) ⌝ }
-    ensures { λ r. ⌜ From (elementsOf (walk (ctx (now (book .entry)) (p .width)) (p .left)) (ctx (now (book .entry)) (p .width)) (p .d) (p .t) (p .element) (now (bytes .entry))) (now (tape .entry)) (now (text .entry)) s r (now (tape .exit)) (now (text .exit)) ⌝ }
+    ensures { λ r. ⌜ From (elementsOf (walk (ctx (now (book .entry)) (p .width)) (p .left)) (ctx (now (book .entry)) (p .width)) (p .named) (p .d) (p .t) (p .element) (now (bytes .entry))) (now (tape .entry)) (now (text .entry)) s r (now (tape .exit)) (now (text .exit)) ⌝ }
 {
     let n = type_book::block::count(book, p.t, p.d) as usize;
-    let mut here = put_frame(s, tape, text, ARRAY, n as u64);
+    let mut here = put_frame(s, tape, text, ARRAY, p.named, n as u64);
     let stride = stride_of(n, bytes.len());
     let mut from: usize = 0;
     let mut i: usize = 0;
@@ -140,7 +141,7 @@ pub(crate) fn elements(
         from = to;
         i += 1;
     }
-    put_frame(here, tape, text, ARRAY_END, 0)
+    put_frame(here, tape, text, ARRAY_END, 0, 0)
 }
 
 // What one index of a dimension holds (`next_element_seed`): an element, or the next dimension one level deeper.
@@ -170,6 +171,7 @@ pub(crate) fn element(
         return stop(s, 14, 0);
     }
     let next = Place {
+        named: p.t,
         d: p.d + 1,
         t: p.t,
         element: typed,

@@ -56,6 +56,7 @@ pub(crate) fn value(
             s,
             book,
             v.width,
+            typed.named,
             typed.resolved,
             category,
             bytes,

@@ -72,7 +72,7 @@ pub(crate) fn members(
 {
     let t = v.typed.resolved;
     let n = type_book::block::fields(book, t);
-    let mut here = put_frame(s, tape, text, MAP, n as u64);
+    let mut here = put_frame(s, tape, text, MAP, v.typed.named, n as u64);
     let mut i: u32 = 0;
     while i < n {
         let Step::Next(_, _) = here else {
@@ -87,7 +87,7 @@ pub(crate) fn members(
         here = member(here, book, index, m, bytes, tape, text);
         i += 1;
     }
-    put_frame(here, tape, text, MAP_END, 0)
+    put_frame(here, tape, text, MAP_END, 0, 0)
 }
 
 // What a field is in the bytes of its struct, by its entry of a plan: 10 where it passes their end.
@@ -129,7 +129,7 @@ pub(crate) fn member(
     requires { ⌜ ValidBook (now book) × PlanEntry (now book) (m .width) (m .f) (m .entry) ⌝ }
     ensures { λ r. ⌜ From (memberOf (walk (ctx (now (book .entry)) (m .width)) (m .left)) (ctx (now (book .entry)) (m .width)) (now (bytes .entry)) (m .f)) (now (tape .entry)) (now (text .entry)) s r (now (tape .exit)) (now (text .exit)) ⌝ }
 {
-    let key = put_frame(s, tape, text, KEY, m.f as u64);
+    let key = put_frame(s, tape, text, KEY, 0, m.f as u64);
     let part = part_of(book, index, m, bytes);
     match part {
         Part::Value(typed, from, to) => {

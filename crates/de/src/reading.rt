@@ -23,8 +23,9 @@ pub struct Member {
     pub left: usize,
 }
 
-// Dimension d of array t, and the type of the array's elements.
+// Dimension d of array t, the block that its record declares, and the type of the array's elements.
 pub struct Place {
+    pub named: u32,
     pub d: u8,
     pub t: u32,
     pub element: Typed,

@@ -24,11 +24,11 @@ pub end-small : (e : TextEnd) → endByte e ≤ 1
 end-small (Terminated n) = omega arith
 end-small (Unterminated n) = omega arith
 
-module _ (book : List ℕ) (width t : ℕ) (mem : List ℕ) (as-text : kindOfLeaf (categoryOf book width t) ≡ kind.Text) (size : length mem ≡ sizeOf book t) where
+module _ (book : List ℕ) (width named t : ℕ) (mem : List ℕ) (as-text : kindOfLeaf (categoryOf book width t) ≡ kind.Text) (size : length mem ≡ sizeOf book t) where
   byte-is : endByte (endBy (decoderOf book t) mem) ≡ truthNumber (terminated (decoderOf book t) mem)
   byte-is = ap truthNumber (found-terminated (decoderOf book t) mem)
 
-  pub text-trace : traceOf (leafAt book width t mem) mem
-      ≡ one (text (truthNumber (terminated (decoderOf book t) mem)) 0 (decodedBy (decoderOf book t) (take (endsAt (endBy (decoderOf book t) mem)) mem)))
+  pub text-trace : traceOf named (leafAt book width t mem) mem
+      ≡ one (text (truthNumber (terminated (decoderOf book t) mem)) named (decodedBy (decoderOf book t) (take (endsAt (endBy (decoderOf book t) mem)) mem)))
   unfolding leafAt leafBy kindLeaf textLeaf
   text-trace = rw (as-text, eq-eqb (length mem) (sizeOf book t) size, byte-is)

@@ -12,7 +12,7 @@ use Rattle.enc_float.specs.declared.Real.the-variants as real
 use Rattle.enc_utf_8.specs.declared.TextEnd.{TextEnd}
 use Rattle.enc_text_decoder.specs.Text.{decodedBy}
 use Rattle.enc_text_decoder.specs.declared.Decoder.{Decoder}
-use Rattle.tape.specs.Record.{newRecord}
+use Rattle.tape.specs.Record.{newRecord, declaring}
 use Rattle.tape.specs.declared.record.Record.{Record}
 use Rattle.type_category.specs.Category.{categoryOf}
 use Rattle.type_category.specs.declared.type_category.AdsTypeCategory.{AdsTypeCategory}
@@ -46,19 +46,19 @@ form-double r x n e q h = rw (e, h, q)
 pub form-text : {v : LeafValue} (d : Decoder) (t : TextEnd) (w n : ℕ) → v ≡ leaf.Text d t → w ≡ endByte t → n ≡ endsAt t → form.Text w d n ≡ formOf v
 form-text d t w n e b q = rw (e, b, q)
 
-module _ (mem : List ℕ) {tape txt : List ℕ} {s r : Step} (v : LeafValue) (f : LeafForm) (q : f ≡ formOf v) where
-  pub leaf-record : {tape′ txt′ : List ℕ} (x : Record) → f ≡ form.Record x → From (one (rec x)) tape txt s r tape′ txt′ → From (traceOf v mem) tape txt s r tape′ txt′
-  leaf-record x e h = rw (← q, e) h
+module _ (m : ℕ) (mem : List ℕ) {tape txt : List ℕ} {s r : Step} (v : LeafValue) (f : LeafForm) (q : f ≡ formOf v) where
+  pub leaf-record : {tape′ txt′ : List ℕ} (x y : Record) → f ≡ form.Record x → y ≡ declaring m x → From (one (rec y)) tape txt s r tape′ txt′ → From (traceOf m v mem) tape txt s r tape′ txt′
+  leaf-record x y e d h = rw (← q, e, ← d) h
 
-  pub leaf-text : {tape′ txt′ : List ℕ} (w : ℕ) (d : Decoder) (n : ℕ) (part : List ℕ) → f ≡ form.Text w d n → part ≡ take n mem → From (one (text w 0 (decodedBy d part))) tape txt s r tape′ txt′ → From (traceOf v mem) tape txt s r tape′ txt′
+  pub leaf-text : {tape′ txt′ : List ℕ} (w : ℕ) (d : Decoder) (n : ℕ) (part : List ℕ) → f ≡ form.Text w d n → part ≡ take n mem → From (one (text w m (decodedBy d part))) tape txt s r tape′ txt′ → From (traceOf m v mem) tape txt s r tape′ txt′
   leaf-text w d n part e z h = rw (← q, e, ← z) h
 
-  pub leaf-refused : (k : ℕ) → f ≡ form.Refused k → Halts s k 0 r → From (traceOf v mem) tape txt s r tape txt
+  pub leaf-refused : (k : ℕ) → f ≡ form.Refused k → Halts s k 0 r → From (traceOf m v mem) tape txt s r tape txt
   leaf-refused k e h = rw (← q, e) (halted h)
 
 -- the value of type t, by a category that is its own
-pub leaf-at : (book : List ℕ) (width t : ℕ) (mem : List ℕ) {tape tape′ txt txt′ : List ℕ} {s r : Step} (v : LeafValue) (y : AdsTypeCategory) → y ≡ categoryOf book width t → v ≡ leafBy book width t y mem → From (traceOf v mem) tape txt s r tape′ txt′ → From (traceOf (leafAt book width t mem) mem) tape txt s r tape′ txt′
-leaf-at book width t mem v y k e h = rw (← leaf-own book width t mem y v k e) h
+pub leaf-at : (book : List ℕ) (width n t : ℕ) (mem : List ℕ) {tape tape′ txt txt′ : List ℕ} {s r : Step} (v : LeafValue) (y : AdsTypeCategory) → y ≡ categoryOf book width t → v ≡ leafBy book width t y mem → From (traceOf n v mem) tape txt s r tape′ txt′ → From (traceOf n (leafAt book width t mem) mem) tape txt s r tape′ txt′
+leaf-at book width n t mem v y k e h = rw (← leaf-own book width t mem y v k e) h
 
 -- ---- the first bytes
 

@@ -14,21 +14,21 @@ use Rattle.enc_float.specs.declared.Real.{Real}
 use Rattle.enc_float.proofs.Reals.{single-by, double-by, single-back, double-back, read-single, read-double}
 use Rattle.type_book.specs.Book.{typeIdOf}
 use Rattle.type_category.specs.Category.{categoryOf}
-use Rattle.tape.specs.Record.{newRecord}
+use Rattle.tape.specs.Record.{newRecord, declaring}
 use Rattle.de_leaves.specs.declared.leaf.LeafKind.the-variants as kind
 use Rattle.de_leaves.specs.Leaf.{kindOfLeaf, realLeaf, realOr, numberLeaf, kindLeaf, leafBy, leafAt}
 use Rattle.de_output.specs.Trace.{rec, one}
 use Rattle.de_leaf_output.specs.Leaves.{traceOf}
 
-module _ (mem : List ℕ) where
-  single-trace : (n : ℕ) → traceOf (realLeaf (singleOf n)) mem ≡ one (rec (newRecord 9 0 0 (realBits (singleOf n))))
-  single-trace n = single-by (λ (v : Real). traceOf (realLeaf v) mem ≡ one (rec (newRecord 9 0 0 (realBits v)))) (λ m. refl) (λ x. refl) n
+module _ (m : ℕ) (mem : List ℕ) where
+  single-trace : (n : ℕ) → traceOf m (realLeaf (singleOf n)) mem ≡ one (rec (declaring m (newRecord 9 0 0 (realBits (singleOf n)))))
+  single-trace n = single-by (λ (v : Real). traceOf m (realLeaf v) mem ≡ one (rec (declaring m (newRecord 9 0 0 (realBits v))))) (λ m. refl) (λ x. refl) n
 
-  double-trace : (n : ℕ) → traceOf (realLeaf (doubleOf n)) mem ≡ one (rec (newRecord 10 0 0 (realBits (doubleOf n))))
-  double-trace n = double-by (λ (v : Real). traceOf (realLeaf v) mem ≡ one (rec (newRecord 10 0 0 (realBits v)))) (λ m. refl) (λ x. refl) n
+  double-trace : (n : ℕ) → traceOf m (realLeaf (doubleOf n)) mem ≡ one (rec (declaring m (newRecord 10 0 0 (realBits (doubleOf n)))))
+  double-trace n = double-by (λ (v : Real). traceOf m (realLeaf v) mem ≡ one (rec (declaring m (newRecord 10 0 0 (realBits v))))) (λ m. refl) (λ x. refl) n
 
 -- a resolved type t that is read by its id
-module _ (book : List ℕ) (width t : ℕ) (mem : List ℕ) (by-id : kindOfLeaf (categoryOf book width t) ≡ kind.Number) (bytes : Bytes mem) where
+module _ (book : List ℕ) (width m t : ℕ) (mem : List ℕ) (by-id : kindOfLeaf (categoryOf book width t) ≡ kind.Number) (bytes : Bytes mem) where
   by-number : leafAt book width t mem ≡ numberLeaf book t mem
   unfolding leafAt leafBy kindLeaf
   by-number = rw by-id
@@ -41,13 +41,13 @@ module _ (book : List ℕ) (width t : ℕ) (mem : List ℕ) (by-id : kindOfLeaf 
   unfolding numberLeaf realOr
   double-leaf e l = rw (e, ← named Real64 tt 5 refl, ← read-double mem l)
 
-  pub real32-trace : typeIdOf book t ≡ 4 → length mem ≡ 4 → traceOf (leafAt book width t mem) mem ≡ one (rec (newRecord 9 0 0 (leValue mem)))
+  pub real32-trace : typeIdOf book t ≡ 4 → length mem ≡ 4 → traceOf m (leafAt book width t mem) mem ≡ one (rec (declaring m (newRecord 9 0 0 (leValue mem))))
   real32-trace e l =
       let h : leValue mem < 256 ^ 4 = leValue-below 4 mem bytes (omega arith) in
       let z : leValue mem % 2 ^ 32 ≡ leValue mem = omega arith in
-      rw (by-number, single-leaf e l, z) (single-trace mem (leValue mem) ∙ rw (single-back (leValue mem) (omega arith)))
+      rw (by-number, single-leaf e l, z) (single-trace m mem (leValue mem) ∙ rw (single-back (leValue mem) (omega arith)))
 
-  pub real64-trace : typeIdOf book t ≡ 5 → length mem ≡ 8 → traceOf (leafAt book width t mem) mem ≡ one (rec (newRecord 10 0 0 (leValue mem)))
+  pub real64-trace : typeIdOf book t ≡ 5 → length mem ≡ 8 → traceOf m (leafAt book width t mem) mem ≡ one (rec (declaring m (newRecord 10 0 0 (leValue mem))))
   real64-trace e l =
       let h : leValue mem < 256 ^ 8 = leValue-below 8 mem bytes (omega arith) in
-      rw (by-number, double-leaf e l) (double-trace mem (leValue mem) ∙ rw (double-back (leValue mem) (omega arith)))
+      rw (by-number, double-leaf e l) (double-trace m mem (leValue mem) ∙ rw (double-back (leValue mem) (omega arith)))

@@ -1,4 +1,5 @@
--- What a leaf's value is on the tape (document 01, "The tape"; document 02, change request 2). Assumes nothing.
+-- What a leaf's value is on the tape (document 01, "The tape"; document 02, change requests 2 and 8). Assumes
+-- nothing.
 use mathlib.Core.Bool.{cond}
 use mathlib.Core.List.{List}
 use Prim.Native.Nat.{ℕ}
@@ -10,7 +11,7 @@ use Rattle.enc_utf_8.specs.declared.TextEnd.{TextEnd}
 use Rattle.enc_utf_8.specs.declared.TextEnd.the-variants.{Terminated, Unterminated}
 use Rattle.enc_text_decoder.specs.Text.{decodedBy}
 use Rattle.enc_text_decoder.specs.Ended.{wasFound}
-use Rattle.tape.specs.Record.{newRecord}
+use Rattle.tape.specs.Record.{newRecord, declaring}
 use Rattle.de_leaves.specs.declared.leaf.LeafValue.{LeafValue}
 use Rattle.de_leaves.specs.declared.leaf.LeafValue.the-variants as leaf
 use Rattle.de_leaf_output.specs.declared.LeafForm.{LeafForm}
@@ -40,12 +41,12 @@ formOf (leaf.Entry n) = form.Record (newRecord 12 0 n 0)
 formOf leaf.Unit = form.Record (newRecord 13 0 0 0)
 formOf (leaf.Refused k) = form.Refused k
 
--- a text is the first n of the leaf's bytes, decoded
-abbrev pub formTrace : LeafForm → List ℕ → Trace
-formTrace (form.Record r) mem = one (rec r)
-formTrace (form.Text w d n) mem = one (text w 0 (decodedBy d (take n mem)))
-formTrace (form.Refused k) mem = refuse k 0
+-- a text is the first n of the leaf's bytes, decoded; its record, or that of any other leaf, declares block b
+abbrev pub formTrace : ℕ → LeafForm → List ℕ → Trace
+formTrace b (form.Record r) mem = one (rec (declaring b r))
+formTrace b (form.Text w d n) mem = one (text w b (decodedBy d (take n mem)))
+formTrace b (form.Refused k) mem = refuse k 0
 
--- what a leaf's value emits
-abbrev pub traceOf : LeafValue → List ℕ → Trace
-traceOf v mem = formTrace (formOf v) mem
+-- what a leaf's value emits, where its type was named at block b
+abbrev pub traceOf : ℕ → LeafValue → List ℕ → Trace
+traceOf b v mem = formTrace b (formOf v) mem

@@ -91,23 +91,33 @@ fn form_of(value: LeafValue) -> LeafForm
     }
 }
 
-// Writes what a leaf's bytes stand for, after a step.
-pub fn put_leaf(s: Step, value: LeafValue, bytes: &[u8], tape: &mut [u8], text: &mut [u8]) -> Step
-    ensures { λ r. ⌜ From (traceOf value (now (bytes .entry))) (now (tape .entry)) (now (text .entry)) s r (now (tape .exit)) (now (text .exit)) ⌝ }
+// Writes what a leaf's bytes stand for, after a step, with the block of its type as it was named.
+pub fn put_leaf(
+    s: Step,
+    named: u32,
+    value: LeafValue,
+    bytes: &[u8],
+    tape: &mut [u8],
+    text: &mut [u8],
+) -> Step
+    ensures { λ r. ⌜ From (traceOf named value (now (bytes .entry))) (now (tape .entry)) (now (text .entry)) s r (now (tape .exit)) (now (text .exit)) ⌝ }
 {
     let form = form_of(value);
     match form {
-        LeafForm::Record(r) => put(s, tape, text, r),
-        LeafForm::Text(w, decoder, n) => put_text(s, w, 0, decoder, first(bytes, n), tape, text),
+        LeafForm::Record(r) => put(s, tape, text, r.declaring(named)),
+        LeafForm::Text(w, decoder, n) => {
+            put_text(s, w, named, decoder, first(bytes, n), tape, text)
+        }
         LeafForm::Refused(k) => stop(s, k, 0),
     }
 }
 
-// The value of a type that is neither struct nor array.
+// The value of type t, named at block `named`, that is neither struct nor array.
 pub fn leaf(
     s: Step,
     book: &[u8],
     width: u8,
+    named: u32,
     t: u32,
     category: AdsTypeCategory,
     bytes: &[u8],
@@ -115,10 +125,11 @@ pub fn leaf(
     text: &mut [u8],
 ) -> Step
     requires { ⌜ (t + fieldsOf (now book) t + entriesOf (now book) t < 65536) × (category ≡ categoryOf (now book) width t) ⌝ }
-    ensures { λ r. ⌜ From (traceOf (leafAt (now (book .entry)) width t (now (bytes .entry))) (now (bytes .entry))) (now (tape .entry)) (now (text .entry)) s r (now (tape .exit)) (now (text .exit)) ⌝ }
+    ensures { λ r. ⌜ From (traceOf named (leafAt (now (book .entry)) width t (now (bytes .entry))) (now (bytes .entry))) (now (tape .entry)) (now (text .entry)) s r (now (tape .exit)) (now (text .exit)) ⌝ }
 {
     put_leaf(
         s,
+        named,
         de_leaves::leaf::leaf_by(book, width, t, category, bytes),
         bytes,
         tape,

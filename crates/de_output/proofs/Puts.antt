@@ -9,7 +9,7 @@ use Rattle.enc_utf_8.specs.Buffer.{splice, fitsIn, Wrote}
 use Rattle.enc_utf_8.specs.declared.Put.{Put}
 use Rattle.enc_utf_8.specs.declared.Put.the-variants as put
 use Rattle.enc_utf_8.proofs.Splices.{splice-none, fits-none, fits-not, next-full, Went, went, stayed}
-use Rattle.tape.specs.Record.{recordBytes}
+use Rattle.tape.specs.Record.{recordBytes, declaring}
 use Rattle.tape.specs.declared.record.Record.{Record}
 use Rattle.tape.proofs.Records.{length-record}
 use lib.Dec.{leb}
@@ -143,9 +143,9 @@ text-order h e = omega (arith, went h e .place)
 pub put-next : {t : Trace} {tape tape′ txt txt′ : List ℕ} {s r : Step} (at from : ℕ) → s ≡ Next at from → Ran t tape txt at from r tape′ txt′ → From t tape txt s r tape′ txt′
 put-next at from e h = from-next at from e h
 
--- a record that was made is put
-pub put-made : {t : Record} {tape tape′ txt txt′ : List ℕ} {s next : Step} (r : Record) → r ≡ t → From (one (rec r)) tape txt s next tape′ txt′ → From (one (rec t)) tape txt s next tape′ txt′
-put-made r e h = rw e at h
+-- a record that was made, and declares a block, is put
+pub put-declared : {t : Record} {n : ℕ} {tape tape′ txt txt′ : List ℕ} {s next : Step} (r q : Record) → r ≡ t → q ≡ declaring n r → From (one (rec q)) tape txt s next tape′ txt′ → From (one (rec (declaring n t))) tape txt s next tape′ txt′
+put-declared r q e d h = rw (d, e) at h
 
 -- ---- room for a record
 

@@ -4,7 +4,7 @@ ghost use Prim.Native.Nat.{_+_, _-_, _≤_};
 ghost use lib.Dec.{leb};
 ghost use lib.ListN.{length};
 ghost use Rattle.enc_utf_8.specs.Buffer.{Wrote};
-ghost use Rattle.tape.specs.Record.{newRecord, recordBytes};
+ghost use Rattle.tape.specs.Record.{newRecord, declaring, recordBytes};
 ghost use Rattle.enc_text_decoder.specs.Text.{decodedBy};
 ghost use Rattle.de_output.specs.Answer.{readRefusal, Finished};
 ghost use Rattle.de_output.specs.Trace.{From, Halts, one, rec, text as textEvent, textRecord};
@@ -55,11 +55,17 @@ pub fn put(s: Step, tape: &mut [u8], text: &mut [u8], r: Record) -> Step
     }
 }
 
-// Writes a frame record, after a step: that of an array, a map, a key or an end, which have A alone.
-pub fn put_frame(s: Step, tape: &mut [u8], text: &mut [u8], kind: u8, a: u64) -> Step
-    ensures { λ r. ⌜ From (one (rec (newRecord kind 0 a 0))) (now (tape .entry)) (now (text .entry)) s r (now (tape .exit)) (now (text .exit)) ⌝ }
+// Writes a frame record, after a step: that of an array or a map, with the block of its type as it was named, of a key or an end, with 0;
+// and with A, and nothing else.
+pub fn put_frame(s: Step, tape: &mut [u8], text: &mut [u8], kind: u8, declared: u32, a: u64) -> Step
+    ensures { λ r. ⌜ From (one (rec (declaring declared (newRecord kind 0 a 0)))) (now (tape .entry)) (now (text .entry)) s r (now (tape .exit)) (now (text .exit)) ⌝ }
 {
-    put(s, tape, text, Record::new(kind, 0, a, 0))
+    put(
+        s,
+        tape,
+        text,
+        Record::new(kind, 0, a, 0).declaring(declared),
+    )
 }
 
 // Whether the tape has room for a record at this place.

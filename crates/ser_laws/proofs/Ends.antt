@@ -1,6 +1,6 @@
 -- The walk of a write follows the walk over the form of its tape: it never meets 16, and ends where that ends. Assumes nothing.
 use mathlib.Core.Path.{_≡_, refl, ap, _∙_}
-use mathlib.Core.Bool.{Bool, true, false, cond}
+use mathlib.Core.Bool.{Bool, true, false, cond, _&&_}
 use mathlib.Core.List.{List}
 use Prim.Native.Nat.{ℕ, zero, suc, _+_}
 use native.Mathlib.Omega.{arith}
@@ -32,7 +32,7 @@ use Rattle.tape.specs.declared.cursor.Step.{Step}
 use Rattle.tape.specs.declared.cursor.Step.the-variants as step
 use Rattle.tape_form.specs.declared.form.Place.{Place}
 use Rattle.tape_form.specs.declared.form.Place.the-variants.{At, Broken}
-use Rattle.tape_form.specs.Ranges.{onlyA, empty, namesBlock, leafFine}
+use Rattle.tape_form.specs.Ranges.{declares, onlyA, empty, namesBlock, opens, closes, isKey, leafFine}
 use Rattle.tape_form.specs.Ranges as ranges
 use Rattle.tape_form.specs.Form.{formed, withRecord, formOnward, closingRecord, several, memberAt, valueAt, atTapeEnd}
 use Rattle.tape_form.specs.Form as form
@@ -120,17 +120,31 @@ empty-kind : (k : ℕ) (r : Record) → empty k r ≡ true → r .kind ≡ k
 unfolding empty
 empty-kind k r h = only-kind k r (and-left (onlyA k r) _ h)
 
+closes-kind : (k : ℕ) (r : Record) → closes k r ≡ true → r .kind ≡ k
+unfolding closes
+closes-kind k r h = empty-kind k r (and-left (empty k r) _ h)
+
 names-kind : (book : List ℕ) (k kind : ℕ) (r : Record) → namesBlock book k kind r ≡ true → r .kind ≡ k
 unfolding namesBlock
 names-kind book k kind r h = only-kind k r (and-left (onlyA k r) _ h)
 
-only-other : (k : ℕ) (r : Record) → (r .kind ≡ k → ⊥) → onlyA k r ≡ false
-unfolding onlyA
-only-other k r h = rw (ne-eqb (r .kind) k h)
+key-kind : (book : List ℕ) (r : Record) → isKey book r ≡ true → r .kind ≡ 4
+unfolding isKey
+key-kind book r h = names-kind book 4 2 r (and-left (namesBlock book 4 2 r) _ h)
+
+opens-other : (book : List ℕ) (k : ℕ) (r : Record) → (r .kind ≡ k → ⊥) → opens book k r ≡ false
+unfolding opens onlyA
+opens-other book k r h = rw (ne-eqb (r .kind) k h)
+
+and-never : (b : Bool) → (b && false) ≡ false
+and-never true = refl
+and-never false = refl
 
 no-leaf : (book text : List ℕ) (r : Record) (k : ℕ) → r .kind ≡ k → ranges.leafBy book text r k ≡ false → leafFine book text r ≡ false
 unfolding leafFine
-no-leaf book text r k e h = ap (ranges.leafBy book text r) e ∙ h
+no-leaf book text r k e h =
+    let z : ranges.leafBy book text r (r .kind) ≡ false = ap (ranges.leafBy book text r) e ∙ h in
+    rw z (and-never (declares book r))
 
 one-no-leaf : (book text : List ℕ) (r : Record) → ranges.leafBy book text r 1 ≡ false
 unfolding ranges.leafBy
@@ -144,23 +158,23 @@ three-no-leaf book text r = refl
 module _ (c : form.Ctx) (child : form.Child) (r : Record) (mid next : Cursor) (h : form.bodyBy c child (form.recordShape c r) mid ≡ At next) where
   array-form : r .kind ≡ 1 → several c child 2 (r .a) mid ≡ At next
   unfolding form.recordShape form.bodyBy
-  array-form e = by (onlyA 1 r) refl
+  array-form e = by (opens (c .book) 1 r) refl
     where
-      by : (b : Bool) → onlyA 1 r ≡ b → several c child 2 (r .a) mid ≡ At next
+      by : (b : Bool) → opens (c .book) 1 r ≡ b → several c child 2 (r .a) mid ≡ At next
       by true q = rw q at h
       by false q =
-          let o : onlyA 3 r ≡ false = only-other 3 r (λ z. omega (arith, z, e)) in
+          let o : opens (c .book) 3 r ≡ false = opens-other (c .book) 3 r (λ z. omega (arith, z, e)) in
           let l : leafFine (c .book) (c .text) r ≡ false = no-leaf (c .book) (c .text) r 1 e (one-no-leaf (c .book) (c .text) r) in
           broken-at (rw (q, o, l) at h)
 
   map-form : r .kind ≡ 3 → several c (memberAt c child) 5 (r .a) mid ≡ At next
   unfolding form.recordShape form.bodyBy
-  map-form e = by (onlyA 3 r) refl
+  map-form e = by (opens (c .book) 3 r) refl
     where
-      o : onlyA 1 r ≡ false
-      o = only-other 1 r (λ z. omega (arith, z, e))
+      o : opens (c .book) 1 r ≡ false
+      o = opens-other (c .book) 1 r (λ z. omega (arith, z, e))
 
-      by : (b : Bool) → onlyA 3 r ≡ b → several c (memberAt c child) 5 (r .a) mid ≡ At next
+      by : (b : Bool) → opens (c .book) 3 r ≡ b → several c (memberAt c child) 5 (r .a) mid ≡ At next
       by true q = rw (o, q) at h
       by false q =
           let l : leafFine (c .book) (c .text) r ≡ false = no-leaf (c .book) (c .text) r 3 e (three-no-leaf (c .book) (c .text) r) in
@@ -174,11 +188,11 @@ module _ (c : form.Ctx) (child : form.Child) (r : Record) (mid next : Cursor) (h
   unfolding form.recordShape form.bodyBy
   leaf-form a b = by (leafFine (c .book) (c .text) r) refl
     where
-      o : onlyA 1 r ≡ false
-      o = only-other 1 r a
+      o : opens (c .book) 1 r ≡ false
+      o = opens-other (c .book) 1 r a
 
-      u : onlyA 3 r ≡ false
-      u = only-other 3 r b
+      u : opens (c .book) 3 r ≡ false
+      u = opens-other (c .book) 3 r b
 
       by : (b : Bool) → leafFine (c .book) (c .text) r ≡ b → LeafForm
       by true q = let z : At mid ≡ At next = rw (o, u, q) at h in record { fine = q; same = let y : mid ≡ next = cc in ap (λ (i : Cursor). i .at) y }
@@ -236,8 +250,8 @@ ends-closing : (c : Ctx) (k : ℕ) (at next : Cursor) (bytes : List ℕ) → clo
 unfolding closingRecord endRecordBy
 ends-closing c k at next bytes h =
     let t = took (stepAt (c .tape) (at .at)) _ next h in
-    let p = passed (empty k (t .r)) (At (t .mid)) next (t .goes) in
-    let q : t .r .kind ≡ k = empty-kind k (t .r) (p .test) in
+    let p = passed (closes k (t .r)) (At (t .mid)) next (t .goes) in
+    let q : t .r .kind ≡ k = closes-kind k (t .r) (p .test) in
     let e : At (t .mid) ≡ At next = p .goes in
     let m : t .mid ≡ next = cc in
     ends-taken (c .tape) (next .at) at bytes _ (t .r) (t .mid) (t .is) (rw (eq-eqb (t .r .kind) k q) (ends-went (next .at) (t .mid) bytes (ap (λ (i : Cursor). i .at) m)))
@@ -268,8 +282,8 @@ module _ (c : Ctx) (left : ℕ) (child : Child) (ih : Follows c left child) wher
   unfolding memberAt keyOf keyBy
   key-ends t at next bytes h =
       let k = took (stepAt (c .tape) (at .at)) _ next h in
-      let p = passed (namesBlock (c .book) 4 2 (k .r)) _ next (k .goes) in
-      let q : k .r .kind ≡ 4 = names-kind (c .book) 4 2 (k .r) (p .test) in
+      let p = passed (isKey (c .book) (k .r)) _ next (k .goes) in
+      let q : k .r .kind ≡ 4 = key-kind (c .book) (k .r) (p .test) in
       ends-taken (c .tape) (next .at) at bytes _ (k .r) (k .mid) (k .is)
       (rw (eq-eqb (k .r .kind) 4 q) (found-ends (k .mid) next bytes (p .goes) (fieldNamed (c .book) t (recordText (c .book) (c .text) (k .r)))))
 

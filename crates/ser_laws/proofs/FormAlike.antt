@@ -13,7 +13,7 @@ use Rattle.tape.specs.declared.cursor.Cursor.{Cursor}
 use Rattle.tape.specs.declared.cursor.Step.the-variants as step
 use Rattle.tape_form.specs.declared.form.Place.{Place}
 use Rattle.tape_form.specs.declared.form.Place.the-variants.{At, Broken}
-use Rattle.tape_form.specs.Ranges.{unused, textIn, onlyA, empty, namesBlock, textual, leafBy, leafFine}
+use Rattle.tape_form.specs.Ranges.{unused, undeclared, declares, blockIs, textIn, onlyA, empty, namesBlock, opens, closes, isKey, textual, leafBy, leafFine}
 use Rattle.tape_form.specs.Form.{Ctx, ctx, Child, withRecord, formOnward, closingRecord, several, memberAt, Shape, elements, members, alone, wrong, recordShape, bodyBy, valueAt, atTapeEnd, formed}
 use Rattle.ser_laws.specs.Alike.{Records, SameButEnd}
 
@@ -44,18 +44,26 @@ module _ (r s : Record) (w : SameButEnd r s) where
   unfolding textual unused
   textual-same text e =
       let b = w .ended e in
-      rw (le-leb (r .width) 1 (b .0), le-leb (s .width) 1 (b .1), w .spare, w .declared, w .a, w .b)
+      rw (le-leb (r .width) 1 (b .0), le-leb (s .width) 1 (b .1), w .spare, w .a, w .b)
 
-  leaf-same : (book text : List ℕ) → leafFine book text r ≡ leafFine book text s
-  unfolding leafFine leafBy
-  leaf-same book text = by (eqb (r .kind) 11) refl
+  declares-same : (book : List ℕ) → declares book r ≡ declares book s
+  unfolding declares
+  declares-same book = ap (blockIs book 1) (w .declared)
+
+  ranged-same : (book text : List ℕ) → leafBy book text r (r .kind) ≡ leafBy book text s (s .kind)
+  unfolding leafBy
+  ranged-same book text = by (eqb (r .kind) 11) refl
     where
-      by : (t : Bool) → eqb (r .kind) 11 ≡ t → leafFine book text r ≡ leafFine book text s
+      by : (t : Bool) → eqb (r .kind) 11 ≡ t → leafBy book text r (r .kind) ≡ leafBy book text s (s .kind)
       by true q =
           let e : r .kind ≡ 11 = eqb-true (r .kind) 11 q in
           let f : s .kind ≡ 11 = sym (w .kind) ∙ e in
           ap (leafBy book text r) e ∙ textual-same text e ∙ sym (ap (leafBy book text s) f)
-      by false q = ap (leafFine book text) (equal (eqb-false (r .kind) 11 q))
+      by false q = ap (λ (x : Record). leafBy book text x (x .kind)) (equal (eqb-false (r .kind) 11 q))
+
+  leaf-same : (book text : List ℕ) → leafFine book text r ≡ leafFine book text s
+  unfolding leafFine
+  leaf-same book text = rw (declares-same book, ranged-same book text)
 
   only-same : (k : ℕ) → (k ≡ 11 → ⊥) → onlyA k r ≡ onlyA k s
   only-same k n = test-same (onlyA k) (only-not k n)
@@ -68,9 +76,21 @@ module _ (r s : Record) (w : SameButEnd r s) where
   unfolding namesBlock
   names-same book k kind n = rw (only-same k n, w .a)
 
+  opens-same : (book : List ℕ) (k : ℕ) → (k ≡ 11 → ⊥) → opens book k r ≡ opens book k s
+  unfolding opens
+  opens-same book k n = rw (only-same k n, declares-same book)
+
+  closes-same : (k : ℕ) → (k ≡ 11 → ⊥) → closes k r ≡ closes k s
+  unfolding closes undeclared
+  closes-same k n = rw (empty-same k n, w .declared)
+
+  key-same : (book : List ℕ) → isKey book r ≡ isKey book s
+  unfolding isKey undeclared
+  key-same book = rw (names-same book 4 2 (λ e. omega arith), w .declared)
+
   shape-same : (c : Ctx) → recordShape c r ≡ recordShape c s
   unfolding recordShape
-  shape-same c = rw (only-same 1 (λ e. omega arith), only-same 3 (λ e. omega arith), leaf-same (c .book) (c .text), w .a)
+  shape-same c = rw (opens-same (c .book) 1 (λ e. omega arith), opens-same (c .book) 3 (λ e. omega arith), leaf-same (c .book) (c .text), w .a)
 
 -- ---- two walks over the form that come to the same place, the end of a record
 
@@ -118,7 +138,7 @@ module _ (book text tape tape′ : List ℕ) (alike : Records SameButEnd tape ta
 
   closing-same : (k : ℕ) → (k ≡ 11 → ⊥) → (here : Cursor) → here .at % 24 ≡ 0 → SamePlace (closingRecord c k here) (closingRecord c′ k here)
   unfolding closingRecord
-  closing-same k x here h = same-taken here _ _ h (λ r s next w n. rw (← empty-same r s w k x) (same-cond (empty k r) (same-at next n)))
+  closing-same k x here h = same-taken here _ _ h (λ r s next w n. rw (← closes-same r s w k x) (same-cond (closes k r) (same-at next n)))
 
   module _ (item item′ : Child) (ih : (here : Cursor) → here .at % 24 ≡ 0 → SamePlace (item here) (item′ here)) where
     several-same : (k : ℕ) → (k ≡ 11 → ⊥) → (n : ℕ) (here : Cursor) → here .at % 24 ≡ 0 → SamePlace (several c item k n here) (several c′ item′ k n here)
@@ -128,7 +148,7 @@ module _ (book text tape tape′ : List ℕ) (alike : Records SameButEnd tape ta
 
     member-same : (here : Cursor) → here .at % 24 ≡ 0 → SamePlace (memberAt c item here) (memberAt c′ item′ here)
     unfolding memberAt
-    member-same here h = same-taken here _ _ h (λ r s next w n. rw (← names-same r s w book 4 2 (λ e. omega arith)) (same-cond (namesBlock book 4 2 r) (ih next n)))
+    member-same here h = same-taken here _ _ h (λ r s next w n. rw (← key-same r s w book) (same-cond (isKey book r) (ih next n)))
 
   body-same : (item item′ : Child) → ((here : Cursor) → here .at % 24 ≡ 0 → SamePlace (item here) (item′ here)) → (x : Shape) (next : Cursor) → next .at % 24 ≡ 0
       → SamePlace (bodyBy c item x next) (bodyBy c′ item′ x next)

@@ -47,12 +47,12 @@ record Reads (book : List ℕ) (t : Trace) : Type 0 where
 reads-refused : (book : List ℕ) (n b : ℕ) → Reads book (refuse n b)
 reads-refused book n b = record { forms = λ buffer l. record { emits = tt } }
 
-by-root : (book : List ℕ) (width n : ℕ) (mem : List ℕ) → ValidBook book → Bytes book → Bytes mem → (r : Resolved)
+by-root : (book : List ℕ) (width n : ℕ) (mem : List ℕ) → ValidBook book → Bytes book → Bytes mem → isType book n ≡ true → (r : Resolved)
     → ((u : ℕ) → r ≡ resolved.Base u → isType book u ≡ true) → Reads book (rootBy (ctx book width) n mem r)
 unfolding rootBy resolvedNumbers
-by-root book width n mem v p b (resolved.Base t) h = record { forms = λ buffer l. walk-emits book buffer l v p width 64 (whole (typedOf (ctx book width) n t)) mem (h t refl) b }
-by-root book width n mem v p b (resolved.Lacks k) h = reads-refused book 7 k
-by-root book width n mem v p b resolved.TooLong h = reads-refused book 8 0
+by-root book width n mem v p b y (resolved.Base t) h = record { forms = λ buffer l. walk-emits book buffer l v p width 64 (whole (typedOf (ctx book width) n t)) mem (record { resolved = h t refl; named = y }) b }
+by-root book width n mem v p b y (resolved.Lacks k) h = reads-refused book 7 k
+by-root book width n mem v p b y resolved.TooLong h = reads-refused book 8 0
 
 by-check : (buffer : List ℕ) (len width n : ℕ) (mem : List ℕ) → Bytes buffer → Bytes mem → Reads (take len buffer) (readTrace buffer len width n mem)
 unfolding readTrace rootTrace
@@ -61,7 +61,7 @@ by-check buffer len width n mem p b =
     (λ k e. reads-refused (take len buffer) k 0)
     (λ m e.
     let v = root-valid buffer len n m e in
-    by-root (take len buffer) width m mem (v .valid) (bytes-take len buffer p) b (resolveAlias (take len buffer) width m)
+    by-root (take len buffer) width m mem (v .valid) (bytes-take len buffer p) b (v .kind) (resolveAlias (take len buffer) width m)
     (base-typed (take len buffer) width m (v .kind)))
 
 -- ---- the buffers

@@ -38,26 +38,26 @@ record Same (o : Outcome) (mem : List ℕ) : Type 0 where
 
 module _ (book buffer tape : List ℕ) (small : length buffer < 2 ^ 64) (width : ℕ) (mem : List ℕ) (b : Bytes mem) (es : List Event)
     (records : tape ≡ tapeBytes 0 es) (texts : Stands buffer 0 (textBytes es)) where
-  by-type : ValidBook book → Bytes book → (n t : ℕ) → isType book t ≡ true → trip.walkKept (de.ctx book width) 64 (whole t) mem ≡ true
+  by-type : ValidBook book → Bytes book → (n t : ℕ) → isType book n ≡ true → isType book t ≡ true → trip.walkKept (de.ctx book width) 64 (whole t) mem ≡ true
       → de.walk (de.ctx book width) 64 (whole (de.typedOf (de.ctx book width) n t)) mem ≡ done es → Same (typeWrite (ser.ctx book width tape buffer) t mem) mem
   unfolding typeWrite
-  by-type v p n t y h e =
+  by-type v p n t x y h e =
       let g : Emits book buffer (Back book buffer tape (ser.walk (ser.ctx book width tape buffer) 64 (whole t)) mem) (done es) =
-      rw e at (walk-back book buffer tape small v p width 64 (whole (de.typedOf (de.ctx book width) n t)) mem y b h) in
+      rw e at (walk-back book buffer tape small v p width 64 (whole (de.typedOf (de.ctx book width) n t)) mem (record { resolved = y; named = x }) b h) in
       record { at = _; is = g .emits 0 texts .back 0 [] (records ∙ sym (append-nil (tapeBytes 0 es))) }
 
-  by-root : ValidBook book → Bytes book → (n : ℕ) → (r : Resolved) → ((u : ℕ) → r ≡ resolved.Base u → isType book u ≡ true) → trip.rootKept (de.ctx book width) mem r ≡ true
+  by-root : ValidBook book → Bytes book → (n : ℕ) → isType book n ≡ true → (r : Resolved) → ((u : ℕ) → r ≡ resolved.Base u → isType book u ≡ true) → trip.rootKept (de.ctx book width) mem r ≡ true
       → reading.rootBy (de.ctx book width) n mem r ≡ done es → Same (rootBy (ser.ctx book width tape buffer) mem r) mem
   unfolding reading.rootBy rootBy trip.rootKept resolvedNumbers
-  by-root v p n (resolved.Base t) y h e = by-type v p n t (y t refl) h e
-  by-root v p n (resolved.Lacks k) y h e = different cc
-  by-root v p n resolved.TooLong y h e = different cc
+  by-root v p n x (resolved.Base t) y h e = by-type v p n t x (y t refl) h e
+  by-root v p n x (resolved.Lacks k) y h e = different cc
+  by-root v p n x resolved.TooLong y h e = different cc
 
   book-same : ValidBook book → Bytes book → (n : ℕ) → isType book n ≡ true → trip.isKept (de.ctx book width) n mem ≡ true → reading.rootTrace (de.ctx book width) n mem ≡ done es
       → formed book tape buffer ≡ true → Same (bookWrite (ser.ctx book width tape buffer) n (length mem) mem) mem
   unfolding bookWrite rootWrite reading.rootTrace trip.isKept
   book-same v p n y h e f =
-      let s = by-root v p n (resolveAlias book width n) (base-typed book width n y) h e in
+      let s = by-root v p n y (resolveAlias book width n) (base-typed book width n y) h e in
       record { at = s .at; is = rw (eq-eqb (length mem) (length mem) refl, f) (s .is) }
 
 call-same : (buffer : List ℕ) (len width n : ℕ) (mem tape text : List ℕ) → Bytes buffer → Bytes mem → length text < 2 ^ 64 → (es : List Event) → tape ≡ tapeBytes 0 es → Stands text 0 (textBytes es)

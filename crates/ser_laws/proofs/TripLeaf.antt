@@ -62,12 +62,12 @@ use Rattle.ser_laws.proofs.WideTrip.{wide-again}
 use Rattle.ser_laws.proofs.TextId.{text-id}
 use Rattle.ser_laws.proofs.ReadTree.{Stands, Emits, pow-most, bytes-take}
 
--- a record with nothing in bytes 2 to 7
-abbrev pub rec-of : ℕ → ℕ → ℕ → ℕ → Record
-rec-of k w a b = record { kind = k; width = w; spare = 0; declared = 0; a = a; b = b }
+-- a record that declares a block, with nothing in bytes 2 and 3
+abbrev pub rec-of : ℕ → ℕ → ℕ → ℕ → ℕ → Record
+rec-of m k w a b = record { kind = k; width = w; spare = 0; declared = m; a = a; b = b }
 
-pub held-of : (k w a b : ℕ) → k < 256 → w < 256 → a < 2 ^ 64 → b < 2 ^ 64 → Held (rec-of k w a b)
-held-of k w a b hk hw ha hb = record { kind = hk; width = hw; spare = omega arith; declared = omega arith; a = ha; b = hb }
+pub held-of : (m k w a b : ℕ) → m < 2 ^ 32 → k < 256 → w < 256 → a < 2 ^ 64 → b < 2 ^ 64 → Held (rec-of m k w a b)
+held-of m k w a b hm hk hw ha hb = record { kind = hk; width = hw; spare = omega arith; declared = hm; a = ha; b = hb }
 
 exactly-back : (bs old : List ℕ) → bs ≡ old → exactly bs old ≡ holds old
 unfolding exactly
@@ -96,7 +96,7 @@ five-real : idOf 5 ≡ Real64
 unfolding idOf
 five-real = refl
 
-module _ (book buffer : List ℕ) (width t : ℕ) (mem : List ℕ) (b : Bytes mem) (k : Target) where
+module _ (book buffer : List ℕ) (decl : ℕ) (below : decl < 2 ^ 32) (width t : ℕ) (mem : List ℕ) (b : Bytes mem) (k : Target) where
   -- the record of a leaf, which written over its bytes gives them back
   pub record LeafBack (from : ℕ) (es : List Event) : Type 0 where
     pub r : Record
@@ -107,7 +107,7 @@ module _ (book buffer : List ℕ) (width t : ℕ) (mem : List ℕ) (b : Bytes me
     pub writes : leafBy book width t k r buffer mem ≡ holds mem
 
   pub record Goes (v : LeafValue) : Type 0 where
-    pub goes : leafKept book t mem v ≡ true → Emits book buffer LeafBack (traceOf v mem)
+    pub goes : leafKept book t mem v ≡ true → Emits book buffer LeafBack (traceOf decl v mem)
 
   goes-refused : (n : ℕ) → Goes (value.Refused n)
   goes-refused n = record { goes = λ h. record { emits = tt } }
@@ -117,11 +117,11 @@ module _ (book buffer : List ℕ) (width t : ℕ) (mem : List ℕ) (b : Bytes me
   goes-cond false v w p q = q refl
 
   -- one record
-  goes-one : (kind w a n : ℕ) → Held (rec-of kind w a n) → (kind ≡ 1 → ⊥) → (kind ≡ 3 → ⊥) → leafBy book width t k (rec-of kind w a n) buffer mem ≡ holds mem
-      → Emits book buffer LeafBack (one (rec (rec-of kind w a n)))
+  goes-one : (kind w a n : ℕ) → Held (rec-of decl kind w a n) → (kind ≡ 1 → ⊥) → (kind ≡ 3 → ⊥) → leafBy book width t k (rec-of decl kind w a n) buffer mem ≡ holds mem
+      → Emits book buffer LeafBack (one (rec (rec-of decl kind w a n)))
   unfolding tapeBytes
   goes-one kind w a n h p q e =
-      record { emits = λ from s. record { r = rec-of kind w a n; held = h; bytes = append-nil (recordBytes (rec-of kind w a n)); no-array = p; no-map = q; writes = e } }
+      record { emits = λ from s. record { r = rec-of decl kind w a n; held = h; bytes = append-nil (recordBytes (rec-of decl kind w a n)); no-array = p; no-map = q; writes = e } }
 
   -- ---- integers
 
@@ -142,13 +142,13 @@ module _ (book buffer : List ℕ) (width t : ℕ) (mem : List ℕ) (b : Bytes me
         by (read.Value (integer.Signed w n)) e f =
             let x = f .fine in
             let m = x .most in
-            record { goes = λ h. goes-one 7 w 0 n (held-of 7 w 0 n (omega arith) (omega arith) (omega arith) (rw (x .is) (bits-small (x .number)))) (λ z. omega arith) (λ z. omega arith) (integer-writes (integer.Signed w n) e) }
+            record { goes = λ h. goes-one 7 w 0 n (held-of decl 7 w 0 n below (omega arith) (omega arith) (omega arith) (rw (x .is) (bits-small (x .number)))) (λ z. omega arith) (λ z. omega arith) (integer-writes (integer.Signed w n) e) }
         by (read.Value (integer.Unsigned w n)) e f =
             let x = f .fine in
             let m = x .most in
             let l = x .small in
             let o : 2 ^ (8 * w) ≤ 2 ^ 64 = pow-most w m in
-            record { goes = λ h. goes-one 8 w 0 n (held-of 8 w 0 n (omega arith) (omega arith) (omega arith) (omega arith)) (λ z. omega arith) (λ z. omega arith) (integer-writes (integer.Unsigned w n) e) }
+            record { goes = λ h. goes-one 8 w 0 n (held-of decl 8 w 0 n below (omega arith) (omega arith) (omega arith) (omega arith)) (λ z. omega arith) (λ z. omega arith) (integer-writes (integer.Unsigned w n) e) }
         by read.Size e f = goes-refused 10
         by read.Unsupported e f = goes-refused 11
 
@@ -161,9 +161,9 @@ module _ (book buffer : List ℕ) (width t : ℕ) (mem : List ℕ) (b : Bytes me
       rw (eq-eqb (typeIdOf book t) (realId d) e) (exactly-back (leBytes (realBytes d) n) mem z)
 
   module _ (d : typeIdOf book t ≡ 4) (l : length mem ≡ 4) where
-    single-goes : (n : ℕ) → n ≡ leValue mem → n < 2 ^ 32 → Emits book buffer LeafBack (one (rec (rec-of 9 0 0 n)))
+    single-goes : (n : ℕ) → n ≡ leValue mem → n < 2 ^ 32 → Emits book buffer LeafBack (one (rec (rec-of decl 9 0 0 n)))
     unfolding leafBy
-    single-goes n q s = goes-one 9 0 0 n (held-of 9 0 0 n (omega arith) (omega arith) (omega arith) (omega arith)) (λ z. omega arith) (λ z. omega arith) (real-writes false n d q l)
+    single-goes n q s = goes-one 9 0 0 n (held-of decl 9 0 0 n below (omega arith) (omega arith) (omega arith) (omega arith)) (λ z. omega arith) (λ z. omega arith) (real-writes false n d q l)
 
     goes-single : Goes (leaves.realLeaf (realOf false (leValue mem)))
     unfolding realOf singleOf
@@ -181,9 +181,9 @@ module _ (book buffer : List ℕ) (width t : ℕ) (mem : List ℕ) (b : Bytes me
         by false e = record { goes = λ h. single-goes _ (e ∙ small) (rw (e, small) s) }
 
   module _ (d : typeIdOf book t ≡ 5) (l : length mem ≡ 8) where
-    double-goes : (n : ℕ) → n ≡ leValue mem → n < 2 ^ 64 → Emits book buffer LeafBack (one (rec (rec-of 10 0 0 n)))
+    double-goes : (n : ℕ) → n ≡ leValue mem → n < 2 ^ 64 → Emits book buffer LeafBack (one (rec (rec-of decl 10 0 0 n)))
     unfolding leafBy
-    double-goes n q s = goes-one 10 0 0 n (held-of 10 0 0 n (omega arith) (omega arith) (omega arith) (omega arith)) (λ z. omega arith) (λ z. omega arith) (real-writes true n d q l)
+    double-goes n q s = goes-one 10 0 0 n (held-of decl 10 0 0 n below (omega arith) (omega arith) (omega arith) (omega arith)) (λ z. omega arith) (λ z. omega arith) (real-writes true n d q l)
 
     goes-double : Goes (leaves.realLeaf (realOf true (leValue mem)))
     unfolding realOf doubleOf
@@ -229,9 +229,9 @@ module _ (book buffer : List ℕ) (width t : ℕ) (mem : List ℕ) (b : Bytes me
   bool-byte (suc zero) l = refl
   bool-byte (suc (suc n)) l = absurd (omega arith)
 
-  bool-held : (x : Bool) → Held (rec-of 6 0 0 (cond x 1 0))
-  bool-held true = held-of 6 0 0 1 (omega arith) (omega arith) (omega arith) (omega arith)
-  bool-held false = held-of 6 0 0 0 (omega arith) (omega arith) (omega arith) (omega arith)
+  bool-held : (x : Bool) → Held (rec-of decl 6 0 0 (cond x 1 0))
+  bool-held true = held-of decl 6 0 0 1 below (omega arith) (omega arith) (omega arith) (omega arith)
+  bool-held false = held-of decl 6 0 0 0 below (omega arith) (omega arith) (omega arith) (omega arith)
 
   goes-bool : typeIdOf book t ≡ 33 → Goes (leaves.boolLeaf mem)
   unfolding leaves.boolLeaf leafKept leafBy boolLeaf
@@ -256,22 +256,22 @@ module _ (book buffer : List ℕ) (width t : ℕ) (mem : List ℕ) (b : Bytes me
       rw (y, q, ← z, e) (ap holds (take-append-drop n mem))
 
   module _ (small : length buffer < 2 ^ 64) (other : k ≡ target.Other) where
-    record-text : (w from : ℕ) (xs : List ℕ) → Stands buffer from xs → recordText book buffer (rec-of 11 w from (length xs)) ≡ xs
+    record-text : (w from : ℕ) (xs : List ℕ) → Stands buffer from xs → recordText book buffer (rec-of decl 11 w from (length xs)) ≡ xs
     unfolding recordText textPart
     record-text w from xs s =
         rw (le-leb (from + length xs) (length buffer) (s .inside)) (ap (take (length xs)) (s .is) ∙ take-append-seam xs (s .rest))
 
-    goes-one-text : (w : ℕ) (xs : List ℕ) → w ≤ 1 → textBy (typeIdOf book t) xs mem ≡ holds mem → Emits book buffer LeafBack (one (text w 0 xs))
+    goes-one-text : (w : ℕ) (xs : List ℕ) → w ≤ 1 → textBy (typeIdOf book t) xs mem ≡ holds mem → Emits book buffer LeafBack (one (text w decl xs))
     unfolding tapeBytes textBytes leafBy textLeaf
-    goes-one-text w xs m e =
+    goes-one-text w xs o e =
         record {
           emits = λ from s.
               let u : Stands buffer from xs = rw append-nil at s in
               let l = u .inside in
               record {
-                r = rec-of 11 w from (length xs);
-                held = held-of 11 w from (length xs) (omega arith) (omega arith) (omega arith) (omega arith);
-                bytes = append-nil (recordBytes (rec-of 11 w from (length xs)));
+                r = rec-of decl 11 w from (length xs);
+                held = held-of decl 11 w from (length xs) below (omega arith) (omega arith) (omega arith) (omega arith);
+                bytes = append-nil (recordBytes (rec-of decl 11 w from (length xs)));
                 no-array = λ z. omega arith;
                 no-map = λ z. omega arith;
                 writes = rw (other, record-text w from xs u) e;
@@ -317,7 +317,7 @@ module _ (book buffer : List ℕ) (width t : ℕ) (mem : List ℕ) (b : Bytes me
     entry-back (At m) h = exactly-back (valueOf book m) mem (same-eq (valueOf book m) mem h)
     entry-back Nothing h = different cc
 
-    name-text : (n : ℕ) → n < blocks book → recordText book buffer (rec-of 12 0 n 0) ≡ nameOf book n
+    name-text : (n : ℕ) → n < blocks book → recordText book buffer (rec-of decl 12 0 n 0) ≡ nameOf book n
     unfolding recordText nameIn
     name-text n i = rw (lt-ltb n 65536 (omega (arith, i, few)))
 
@@ -326,7 +326,7 @@ module _ (book buffer : List ℕ) (width t : ℕ) (mem : List ℕ) (b : Bytes me
     goes-entry n i =
         record {
           goes = λ h.
-              goes-one 12 0 n 0 (held-of 12 0 n 0 (omega arith) (omega arith) (omega (arith, i, few)) (omega arith)) (λ z. omega arith) (λ z. omega arith)
+              goes-one 12 0 n 0 (held-of decl 12 0 n 0 below (omega arith) (omega arith) (omega (arith, i, few)) (omega arith)) (λ z. omega arith) (λ z. omega arith)
               (rw (enum, name-text n i, eq-eqb (length mem) (sizeOf book t) l) (entry-back (entryNamed book t (nameOf book n)) h));
         }
 
@@ -369,34 +369,34 @@ module _ (book buffer : List ℕ) (width t : ℕ) (mem : List ℕ) (b : Bytes me
 
 -- ---- a leaf, by its category
 
-module _ (book buffer : List ℕ) (small : length buffer < 2 ^ 64) (valid : ValidBook book) (width t : ℕ) (y : isType book t ≡ true) (mem : List ℕ) (b : Bytes mem) where
+module _ (book buffer : List ℕ) (small : length buffer < 2 ^ 64) (valid : ValidBook book) (decl : ℕ) (below : decl < 2 ^ 32) (width t : ℕ) (y : isType book t ≡ true) (mem : List ℕ) (b : Bytes mem) where
   abbrev GoesAs : AdsTypeCategory → Type 0
-  GoesAs c = Goes book buffer width t mem b (targetOf c) (leaves.kindLeaf book width t mem (kindOfLeaf c))
+  GoesAs c = Goes book buffer decl below width t mem b (targetOf c) (leaves.kindLeaf book width t mem (kindOfLeaf c))
 
-  unit-goes : (k : Target) → Goes book buffer width t mem b k value.Unit
+  unit-goes : (k : Target) → Goes book buffer decl below width t mem b k value.Unit
   unfolding leafKept
   unit-goes k = record { goes = λ h. different cc }
 
   by-category : (c : AdsTypeCategory) → categoryOf book width t ≡ c → GoesAs c
   unfolding leaves.kindLeaf
   by-category category.None e = unit-goes _
-  by-category category.Primitive e = goes-number book buffer width t mem b _ refl
-  by-category category.Alias e = goes-refused book buffer width t mem b _ 11
-  by-category category.Enum e = goes-enum book buffer width t mem b _ (valid-size book valid .few) refl (enum-fine book mem b valid width t y)
-  by-category category.Array e = goes-refused book buffer width t mem b _ 11
-  by-category category.Struct e = goes-refused book buffer width t mem b _ 11
-  by-category category.FunctionBlock e = goes-refused book buffer width t mem b _ 11
-  by-category category.Program e = goes-refused book buffer width t mem b _ 11
-  by-category category.Function e = goes-refused book buffer width t mem b _ 11
-  by-category category.SubRange e = goes-number book buffer width t mem b _ refl
-  by-category category.String e = goes-text book buffer width t mem b _ small refl (text-id book width t e)
-  by-category category.Bitset e = goes-number book buffer width t mem b _ refl
-  by-category category.Pointer e = goes-pointer book buffer width t mem b _ refl
-  by-category category.Union e = goes-refused book buffer width t mem b _ 11
-  by-category category.Reference e = goes-pointer book buffer width t mem b _ refl
-  by-category category.Interface e = goes-pointer book buffer width t mem b _ refl
+  by-category category.Primitive e = goes-number book buffer decl below width t mem b _ refl
+  by-category category.Alias e = goes-refused book buffer decl below width t mem b _ 11
+  by-category category.Enum e = goes-enum book buffer decl below width t mem b _ (valid-size book valid .few) refl (enum-fine book mem b valid width t y)
+  by-category category.Array e = goes-refused book buffer decl below width t mem b _ 11
+  by-category category.Struct e = goes-refused book buffer decl below width t mem b _ 11
+  by-category category.FunctionBlock e = goes-refused book buffer decl below width t mem b _ 11
+  by-category category.Program e = goes-refused book buffer decl below width t mem b _ 11
+  by-category category.Function e = goes-refused book buffer decl below width t mem b _ 11
+  by-category category.SubRange e = goes-number book buffer decl below width t mem b _ refl
+  by-category category.String e = goes-text book buffer decl below width t mem b _ small refl (text-id book width t e)
+  by-category category.Bitset e = goes-number book buffer decl below width t mem b _ refl
+  by-category category.Pointer e = goes-pointer book buffer decl below width t mem b _ refl
+  by-category category.Union e = goes-refused book buffer decl below width t mem b _ 11
+  by-category category.Reference e = goes-pointer book buffer decl below width t mem b _ refl
+  by-category category.Interface e = goes-pointer book buffer decl below width t mem b _ refl
 
   pub leaf-back : leafKept book t mem (leafAt book width t mem) ≡ true
-      → Emits book buffer (LeafBack book buffer width t mem b (targetOf (categoryOf book width t))) (traceOf (leafAt book width t mem) mem)
+      → Emits book buffer (LeafBack book buffer decl below width t mem b (targetOf (categoryOf book width t))) (traceOf decl (leafAt book width t mem) mem)
   unfolding leafAt leaves.leafBy
   leaf-back h = by-category (categoryOf book width t) refl .goes h

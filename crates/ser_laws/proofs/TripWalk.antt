@@ -10,7 +10,7 @@ use lib.Seq.{drop-drop, drop-append-seam}
 use lib.Dec.{leb, eqb}
 use Rattle.enc_number.specs.Le.{Bytes}
 use Rattle.enc_number.proofs.ByteOrder.{bytes-drop}
-use Rattle.type_book.specs.Book.{blocks, isType, sizeOf, fieldsOf, countOf, nameOf, typeNameOf}
+use Rattle.type_book.specs.Book.{blocks, kindOf, isType, sizeOf, fieldsOf, countOf, nameOf, typeNameOf}
 use Rattle.type_provider.specs.Find.{find}
 use Rattle.type_provider.specs.declared.Found.{Found}
 use Rattle.type_provider.specs.declared.Found.the-variants as found
@@ -20,7 +20,7 @@ use Rattle.type_book_check.proofs.Valid.{valid-size, valid-below, valid-type}
 use Rattle.resolvers.specs.Resolve.{resolveAlias, chainOnward, lookUp, resolvedNumbers}
 use Rattle.resolvers.specs.declared.Resolved.{Resolved}
 use Rattle.resolvers.specs.declared.Resolved.the-variants as resolved
-use Rattle.resolvers.proofs.Chains.{look-typed}
+use Rattle.resolvers.proofs.Chains.{found-type, look-typed}
 use Rattle.resolve_field_types.specs.Fields.{resolveField, fieldsCheck, checkNumbers, fieldNumbers}
 use Rattle.resolve_field_types.specs.declared.FieldAnswer.{FieldAnswer}
 use Rattle.resolve_field_types.specs.declared.FieldAnswer.the-variants as answer
@@ -48,7 +48,7 @@ use Rattle.ser.specs.Write as ser
 use Rattle.ser.specs.Write.{Outcome, went}
 use Rattle.ser_laws.specs.Trip as trip
 use Rattle.ser_laws.proofs.Plain.{different, and-left, and-right}
-use Rattle.ser_laws.proofs.ReadTree.{Emits, emits-refused, emits-then, emits-after, TypedField, field-typed, bytes-take, u32-small}
+use Rattle.ser_laws.proofs.ReadTree.{Emits, emits-refused, emits-then, emits-after, GoodType, TypedField, field-typed, bytes-take, u32-small}
 use Rattle.ser_laws.proofs.TripLeaf.{LeafBack, leaf-back, rec-of, held-of}
 
 -- ---- the bytes of a part, put back
@@ -145,13 +145,13 @@ module _ (book buffer tape : List ℕ) where
   emits-fine P check.TooLong t p = emits-refused book buffer P 8 0
 
   -- the end record of a kind
-  end-back : (k : ℕ) → k < 256 → (mem : List ℕ) → Emits book buffer (Back (λ at bytes. ser.taken tape at bytes (ser.endRecordBy k bytes)) mem) (one (rec (rec-of k 0 0 0)))
+  end-back : (k : ℕ) → k < 256 → (mem : List ℕ) → Emits book buffer (Back (λ at bytes. ser.taken tape at bytes (ser.endRecordBy k bytes)) mem) (one (rec (rec-of 0 k 0 0 0)))
   unfolding tapeBytes ser.taken ser.takenBy ser.endRecordBy
   end-back k l mem =
       record {
         emits = λ from s.
-            back-last (rec-of k 0 0 0) (held-of k 0 0 0 l (omega arith) (omega arith) (omega arith)) _ mem (λ at e. rw (e, eq-eqb k k refl)) from (rec (rec-of k 0 0 0) ∷ [])
-            (append-nil (recordBytes (rec-of k 0 0 0)));
+            back-last (rec-of 0 k 0 0 0) (held-of 0 k 0 0 0 (omega arith) l (omega arith) (omega arith) (omega arith)) _ mem (λ at e. rw (e, eq-eqb k k refl)) from (rec (rec-of 0 k 0 0 0) ∷ [])
+            (append-nil (recordBytes (rec-of 0 k 0 0 0)));
       }
 
   -- ---- the walks
@@ -166,10 +166,14 @@ module _ (book buffer tape : List ℕ) where
     few : blocks book ≤ 65536
     few = valid-size book valid .few
 
-    -- a value's type, and an array's element type, are type blocks
+    -- a value's type, and an array with its element's type, are type blocks, as they are named too
     abbrev Good : Content Typed → Type 0
-    Good (whole x) = isType book (x .resolved) ≡ true
-    Good (further d t e) = isType book (e .resolved) ≡ true
+    Good (whole x) = GoodType book x
+    Good (further d t e) = GoodType book e × (isType book t ≡ true)
+
+    -- the number of a type block fits four bytes
+    below : (n : ℕ) → isType book n ≡ true → n < 2 ^ 32
+    below n y = omega (arith, valid-below book valid n 0 (eqb-true (kindOf book n) 1 y), few)
 
     abbrev Children : de.Child → ser.Child → trip.Child → Type 0
     Children child write kept =
@@ -185,7 +189,7 @@ module _ (book buffer tape : List ℕ) where
           emits-where _ (leb (f .offset + f .size) (length mem)) _ 10 0 (λ q.
           emits-map (Back (write (whole (f .resolved))) (cut (f .offset) (f .size) mem)) _ _
           (λ from es x. back-as _ _ mem (λ at. rw q) from es (back-placed _ (f .offset) (f .size) mem from es x))
-          (ih (whole (de.typedOf rc (f .named) (f .resolved))) _ (y .typed) (bytes-take (f .size) (drop (f .offset) mem) (bytes-drop (f .offset) mem b)) h))
+          (ih (whole (de.typedOf rc (f .named) (f .resolved))) _ (record { resolved = y .typed .0; named = y .typed .1 }) (bytes-take (f .size) (drop (f .offset) mem) (bytes-drop (f .offset) mem b)) h))
       field-back mem b (answer.Lacks n) y h = emits-refused book buffer _ 7 n
       field-back mem b answer.TooLong y h = emits-refused book buffer _ 8 0
 
@@ -194,7 +198,7 @@ module _ (book buffer tape : List ℕ) where
       finds-is f (found.At m) h = ap found.At (eqb-true m f h)
       finds-is f found.Nothing h = different cc
 
-      key-name : (f : ℕ) → f < blocks book → recordText book buffer (rec-of 4 0 f 0) ≡ nameOf book f
+      key-name : (f : ℕ) → f < blocks book → recordText book buffer (rec-of 0 4 0 f 0) ≡ nameOf book f
       unfolding recordText nameIn
       key-name f l = rw (lt-ltb f 65536 (omega (arith, l, few)))
 
@@ -202,11 +206,11 @@ module _ (book buffer tape : List ℕ) where
           → trip.fieldKept kept mem (resolveField book width f) ≡ true → Emits book buffer (Back (ser.keyOf write sc t) mem) (de.memberOf child rc mem f)
       unfolding de.memberOf ser.keyOf ser.keyBy ser.taken ser.takenBy ser.foundValue tapeBytes
       member-back t mem b f l h v =
-          emits-after book buffer (Back (λ at bytes. ser.fieldValue write at bytes (resolveField book width f)) mem) _ 4 0 f 0 _
+          emits-after book buffer (Back (λ at bytes. ser.fieldValue write at bytes (resolveField book width f)) mem) _ (rec-of 0 4 0 f 0) _
           (field-back mem b (resolveField book width f) (field-typed book width f) v)
           (λ from fs x.
-          back-record (rec-of 4 0 f 0) (held-of 4 0 f 0 (omega arith) (omega arith) (omega (arith, l, few)) (omega arith)) _ _ mem
-          (λ at e. rw (e, key-name f l, finds-is f _ h)) from (rec (rec-of 4 0 f 0) ∷ fs) fs refl x)
+          back-record (rec-of 0 4 0 f 0) (held-of 0 4 0 f 0 (omega arith) (omega arith) (omega arith) (omega (arith, l, few)) (omega arith)) _ _ mem
+          (λ at e. rw (e, key-name f l, finds-is f _ h)) from (rec (rec-of 0 4 0 f 0) ∷ fs) fs refl x)
 
       members-back : (t : ℕ) (mem : List ℕ) → Bytes mem → (f k : ℕ) → ((j : ℕ) → j < k → f + j < blocks book) → trip.fieldsKept kept rc t mem f k ≡ true
           → Emits book buffer (Back (ser.keysFrom write sc t k) mem) (de.membersFrom child rc mem f k)
@@ -222,21 +226,21 @@ module _ (book buffer tape : List ℕ) where
           (members-back t mem b (f + 1) k (λ j m. let e : f + suc j ≡ f + 1 + j = omega arith in rw e at (l (suc j) (omega arith))) (and-right rest _ g))
           (λ from es fs x y. back-then (ser.keyOf write sc t) (ser.keysFrom write sc t k) mem from es fs x y)
 
-      map-back : (x : Typed) → isType book (x .resolved) ≡ true → shapeOf (categoryOf book width (x .resolved)) ≡ shape.Map → (mem : List ℕ) → Bytes mem
+      map-back : (x : Typed) → GoodType book x → shapeOf (categoryOf book width (x .resolved)) ≡ shape.Map → (mem : List ℕ) → Bytes mem
           → trip.fieldsKept kept rc (x .resolved) mem (x .resolved + 1) (fieldsOf book (x .resolved)) ≡ true
           → Emits book buffer (Back (ser.itemWalk write sc (whole (x .resolved))) mem) (de.mapOf child rc x mem)
       unfolding de.mapOf de.membersOf ser.itemWalk ser.taken ser.takenBy ser.valueBy ser.mapOf ser.mapBy shapeAt ser.checked tapeBytes
       map-back x y s mem b h =
           let t : ℕ = x .resolved in
-          let d = valid-type book valid t y in
+          let d = valid-type book valid t (y .resolved) in
           let small-count : fieldsOf book t < 2 ^ 32 = u32-small book plain t 12 in
           emits-where _ (eqb (length mem) (sizeOf book t)) _ 10 0 (λ q.
           emits-fine _ (fieldsCheck book width t) _ (λ c.
-          emits-after book buffer (Back (ser.keysFrom write sc t (fieldsOf book t)) mem) _ 3 0 (fieldsOf book t) 0 _
+          emits-after book buffer (Back (ser.keysFrom write sc t (fieldsOf book t)) mem) _ (rec-of (x .named) 3 0 (fieldsOf book t) 0) _
           (members-back t mem b (t + 1) (fieldsOf book t) (λ j l. valid-below book valid (t + 1 + j) 1 (d .fields j l .kind)) h)
-          (λ from fs x.
-          back-record (rec-of 3 0 (fieldsOf book t) 0) (held-of 3 0 (fieldsOf book t) 0 (omega arith) (omega arith) (omega arith) (omega arith)) _ _ mem
-          (λ at e. rw (e, s, q, c)) from (rec (rec-of 3 0 (fieldsOf book t) 0) ∷ fs) fs refl x)))
+          (λ from fs z.
+          back-record (rec-of (x .named) 3 0 (fieldsOf book t) 0) (held-of (x .named) 3 0 (fieldsOf book t) 0 (below (x .named) (y .named)) (omega arith) (omega arith) (omega arith) (omega arith)) _ _ mem
+          (λ at e. rw (e, s, q, c)) from (rec (rec-of (x .named) 3 0 (fieldsOf book t) 0) ∷ fs) fs refl z)))
 
       -- ---- an array
 
@@ -255,13 +259,13 @@ module _ (book buffer tape : List ℕ) where
           (elements-back i g stride n mem b (index + 1) (at + stride) k (omega (arith, e)) (and-right first _ h))
           (λ from es fs x y. back-as _ _ mem (λ cur. rw (lt-ltb index n (omega (arith, e)))) from (es ++ fs) (back-then _ _ mem from es fs x y))
 
-      element-good : (d t : ℕ) (e : Typed) → isType book (e .resolved) ≡ true → Good (elementItem book d t e)
+      element-good : (d t : ℕ) (e : Typed) → GoodType book e → isType book t ≡ true → Good (elementItem book d t e)
       unfolding elementItem
-      element-good d t e y = by (isLast book d t)
+      element-good d t e y z = by (isLast book d t)
         where
           by : (x : Bool) → Good (cond x (whole e) (further (d + 1) t e))
           by true = y
-          by false = y
+          by false = (y, z)
 
       same-item : (d t : ℕ) (e : Typed) → plainItem (elementItem book d t e) ≡ elementItem book d t (e .resolved)
       unfolding elementItem
@@ -272,80 +276,84 @@ module _ (book buffer tape : List ℕ) where
           by false = refl
 
       -- a dimension, for what is the same as its walk where there is an array's record
-      dimension-back : (d t : ℕ) (e : Typed) → isType book (e .resolved) ≡ true → (mem : List ℕ) → Bytes mem → trip.dimensionKept kept rc d t (e .resolved) mem ≡ true → (o : Cursor → List ℕ → Outcome)
-          → ((at : ℕ) → stepAt tape at ≡ step.Record (rec-of 1 0 (countOf book t d) 0) (place (at + 24)) → o (place at) mem ≡ ser.dimensionOf write sc d t (e .resolved) (place at) mem)
-          → Emits book buffer (Back o mem) (de.dimensionOf child rc d t e mem)
+      dimension-back : (m d t : ℕ) (e : Typed) → isType book m ≡ true → GoodType book e → isType book t ≡ true → (mem : List ℕ) → Bytes mem → trip.dimensionKept kept rc d t (e .resolved) mem ≡ true → (o : Cursor → List ℕ → Outcome)
+          → ((at : ℕ) → stepAt tape at ≡ step.Record (rec-of m 1 0 (countOf book t d) 0) (place (at + 24)) → o (place at) mem ≡ ser.dimensionOf write sc d t (e .resolved) (place at) mem)
+          → Emits book buffer (Back o mem) (de.dimensionOf child rc m d t e mem)
       unfolding de.dimensionOf de.elementsOf ser.dimensionOf ser.checked ser.taken ser.takenBy ser.elementsBy trip.dimensionKept tapeBytes
-      dimension-back d t e y mem b h o same =
+      dimension-back m d t e g y w mem b h o same =
           let small-count : countOf book t d < 2 ^ 32 = u32-small book plain t (20 + 4 * d) in
           emits-fine _ (elementCheck book width d t (e .resolved)) _ (λ c.
           emits-after book buffer (Back (ser.elementsFrom write sc (plainItem (elementItem book d t e)) (strideOf book d t (e .resolved)) (countOf book t d) 0 0 (countOf book t d)) mem) _
-          1 0 (countOf book t d) 0 _
-          (elements-back (elementItem book d t e) (element-good d t e y) (strideOf book d t (e .resolved)) (countOf book t d) mem b 0 0 (countOf book t d) (omega arith) (rw (same-item d t e) h))
+          (rec-of m 1 0 (countOf book t d) 0) _
+          (elements-back (elementItem book d t e) (element-good d t e y w) (strideOf book d t (e .resolved)) (countOf book t d) mem b 0 0 (countOf book t d) (omega arith) (rw (same-item d t e) h))
           (λ from fs x.
-          back-record (rec-of 1 0 (countOf book t d) 0) (held-of 1 0 (countOf book t d) 0 (omega arith) (omega arith) (omega arith) (omega arith)) _ _ mem
-          (λ at q. same at q ∙ rw (c, q, same-item d t e)) from (rec (rec-of 1 0 (countOf book t d) 0) ∷ fs) fs refl x))
+          back-record (rec-of m 1 0 (countOf book t d) 0) (held-of m 1 0 (countOf book t d) 0 (below m g) (omega arith) (omega arith) (omega arith) (omega arith)) _ _ mem
+          (λ at q. same at q ∙ rw (c, q, same-item d t e)) from (rec (rec-of m 1 0 (countOf book t d) 0) ∷ fs) fs refl x))
 
-      element-by : (t : ℕ) → shapeOf (categoryOf book width t) ≡ shape.Array → (mem : List ℕ) → Bytes mem → eqb (length mem) (sizeOf book t) ≡ true → (n : ℕ)
-          → (r : Resolved) → lookUp book width t ≡ r → trip.arrayKept kept rc t mem r ≡ true → Emits book buffer (Back (ser.itemWalk write sc (whole t)) mem) (de.elementBy child rc t n mem r)
+      element-by : (x : Typed) → GoodType book x → shapeOf (categoryOf book width (x .resolved)) ≡ shape.Array → (mem : List ℕ) → Bytes mem
+          → eqb (length mem) (sizeOf book (x .resolved)) ≡ true → (n : ℕ) → isType book n ≡ true → (r : Resolved) → lookUp book width (x .resolved) ≡ r
+          → trip.arrayKept kept rc (x .resolved) mem r ≡ true → Emits book buffer (Back (ser.itemWalk write sc (whole (x .resolved))) mem) (de.elementBy child rc x n mem r)
       unfolding de.elementBy trip.arrayKept ser.itemWalk ser.taken ser.takenBy ser.valueBy ser.arrayOf ser.enteredAt ser.enteredBy ser.elementType ser.arrayBy resolvedNumbers
-      element-by t s mem b q n (resolved.Base e) l h =
-          emits-where _ (eqb (arrayBytes book t e) (length mem)) _ 10 0 (λ z.
-          dimension-back 0 t (de.typedOf rc n e) (look-typed book width t e l) mem b h (ser.itemWalk write sc (whole t)) (λ at x. rw (x, s, q, l, z)))
-      element-by t s mem b q n (resolved.Lacks k) l h = emits-refused book buffer _ 7 k
-      element-by t s mem b q n resolved.TooLong l h = emits-refused book buffer _ 8 0
+      element-by x g s mem b q n y (resolved.Base e) l h =
+          emits-where _ (eqb (arrayBytes book (x .resolved) e) (length mem)) _ 10 0 (λ z.
+          dimension-back (x .named) 0 (x .resolved) (de.typedOf rc n e) (g .named) (record { resolved = look-typed book width (x .resolved) e l; named = y }) (g .resolved) mem b h
+          (ser.itemWalk write sc (whole (x .resolved))) (λ at i. rw (i, s, q, l, z)))
+      element-by x g s mem b q n y (resolved.Lacks k) l h = emits-refused book buffer _ 7 k
+      element-by x g s mem b q n y resolved.TooLong l h = emits-refused book buffer _ 8 0
 
       -- a name that is found leads where its aliases do
       look-found : (t n : ℕ) → find book (typeNameOf book t) ≡ found.At n → lookUp book width t ≡ resolveAlias book width n
       unfolding lookUp chainOnward
       look-found t n e = rw e
 
-      array-by : (t : ℕ) → shapeOf (categoryOf book width t) ≡ shape.Array → (mem : List ℕ) → Bytes mem → eqb (length mem) (sizeOf book t) ≡ true
-          → trip.arrayKept kept rc t mem (lookUp book width t) ≡ true → (f : Found) → find book (typeNameOf book t) ≡ f
-          → Emits book buffer (Back (ser.itemWalk write sc (whole t)) mem) (de.arrayBy child rc t mem f)
+      array-by : (x : Typed) → GoodType book x → shapeOf (categoryOf book width (x .resolved)) ≡ shape.Array → (mem : List ℕ) → Bytes mem
+          → eqb (length mem) (sizeOf book (x .resolved)) ≡ true → trip.arrayKept kept rc (x .resolved) mem (lookUp book width (x .resolved)) ≡ true
+          → (f : Found) → find book (typeNameOf book (x .resolved)) ≡ f
+          → Emits book buffer (Back (ser.itemWalk write sc (whole (x .resolved))) mem) (de.arrayBy child rc x mem f)
       unfolding de.arrayBy resolvedNumbers
-      array-by t s mem b q h (found.At n) e =
-          let l = look-found t n e in
-          element-by t s mem b q n (resolveAlias book width n) l (rw l at h)
-      array-by t s mem b q h found.Nothing e = emits-refused book buffer _ 7 t
+      array-by x g s mem b q h (found.At n) e =
+          let l = look-found (x .resolved) n e in
+          element-by x g s mem b q n (found-type book (typeNameOf book (x .resolved)) n e) (resolveAlias book width n) l (rw l at h)
+      array-by x g s mem b q h found.Nothing e = emits-refused book buffer _ 7 (x .resolved)
 
-      array-back : (x : Typed) → shapeOf (categoryOf book width (x .resolved)) ≡ shape.Array → (mem : List ℕ) → Bytes mem
+      array-back : (x : Typed) → GoodType book x → shapeOf (categoryOf book width (x .resolved)) ≡ shape.Array → (mem : List ℕ) → Bytes mem
           → trip.arrayKept kept rc (x .resolved) mem (lookUp book width (x .resolved)) ≡ true
           → Emits book buffer (Back (ser.itemWalk write sc (whole (x .resolved))) mem) (de.arrayOf child rc x mem)
       unfolding de.arrayOf
-      array-back x s mem b h =
-          let t : ℕ = x .resolved in
-          emits-where _ (eqb (length mem) (sizeOf book t)) _ 10 0 (λ q. array-by t s mem b q h (find book (typeNameOf book t)) refl)
+      array-back x g s mem b h =
+          emits-where _ (eqb (length mem) (sizeOf book (x .resolved))) _ 10 0 (λ q. array-by x g s mem b q h (find book (typeNameOf book (x .resolved))) refl)
 
       -- ---- a leaf
 
-      leaf-write : (t : ℕ) (mem : List ℕ) (b : Bytes mem) (from : ℕ) (es : List Event) → LeafBack book buffer width t mem b (targetOf (categoryOf book width t)) from es
+      leaf-write : (m : ℕ) (l : m < 2 ^ 32) (t : ℕ) (mem : List ℕ) (b : Bytes mem) (from : ℕ) (es : List Event) → LeafBack book buffer m l width t mem b (targetOf (categoryOf book width t)) from es
           → Back (ser.itemWalk write sc (whole t)) mem from es
       unfolding ser.itemWalk ser.taken ser.takenBy ser.valueBy ser.leafOf ser.leafEnd
-      leaf-write t mem b from es x =
+      leaf-write m l t mem b from es x =
           let one-no : eqb (x .r .kind) 1 ≡ false = ne-eqb (x .r .kind) 1 (x .no-array) in
           let three-no : eqb (x .r .kind) 3 ≡ false = ne-eqb (x .r .kind) 3 (x .no-map) in
           back-last (x .r) (x .held) _ mem (λ at e. rw (e, one-no, three-no, x .writes)) from es (x .bytes)
 
-      leaf-item : (t : ℕ) → isType book t ≡ true → (mem : List ℕ) → Bytes mem → trip.leafKept book t mem (leafAt book width t mem) ≡ true
-          → Emits book buffer (Back (ser.itemWalk write sc (whole t)) mem) (de.leafOf rc t mem)
+      leaf-item : (x : Typed) → GoodType book x → (mem : List ℕ) → Bytes mem → trip.leafKept book (x .resolved) mem (leafAt book width (x .resolved) mem) ≡ true
+          → Emits book buffer (Back (ser.itemWalk write sc (whole (x .resolved))) mem) (de.leafOf rc x mem)
       unfolding de.leafOf
-      leaf-item t y mem b h = emits-map _ _ _ (leaf-write t mem b) (leaf-back book buffer small valid width t y mem b h)
+      leaf-item x y mem b h =
+          let l = below (x .named) (y .named) in
+          emits-map _ _ _ (leaf-write (x .named) l (x .resolved) mem b) (leaf-back book buffer small valid (x .named) l width (x .resolved) (y .resolved) mem b h)
 
       -- ---- an item
 
-      shape-back : (x : Typed) → isType book (x .resolved) ≡ true → (mem : List ℕ) → Bytes mem → (s : Shape) → shapeOf (categoryOf book width (x .resolved)) ≡ s
+      shape-back : (x : Typed) → GoodType book x → (mem : List ℕ) → Bytes mem → (s : Shape) → shapeOf (categoryOf book width (x .resolved)) ≡ s
           → trip.shapeKept kept rc (x .resolved) mem s ≡ true
           → Emits book buffer (Back (ser.itemWalk write sc (whole (x .resolved))) mem) (de.shapeWalk child rc x mem s)
       unfolding de.shapeWalk trip.shapeKept
       shape-back x y mem b shape.Map s h = map-back x y s mem b h
-      shape-back x y mem b shape.Array s h = array-back x s mem b h
-      shape-back x y mem b shape.Leaf s h = leaf-item (x .resolved) y mem b h
+      shape-back x y mem b shape.Array s h = array-back x y s mem b h
+      shape-back x y mem b shape.Leaf s h = leaf-item x y mem b h
 
       item-back : Children (de.itemWalk child rc) (ser.itemWalk write sc) (trip.itemKept kept rc)
       unfolding de.itemWalk shapeAt trip.itemKept ser.itemWalk
       item-back (whole x) mem g b h = shape-back x g mem b (shapeOf (categoryOf book width (x .resolved))) refl h
-      item-back (further d t e) mem g b h = dimension-back d t e g mem b h (ser.dimensionOf write sc d t (e .resolved)) (λ at x. refl)
+      item-back (further d t e) mem g b h = dimension-back t d t e (g .1) (g .0) (g .1) mem b h (ser.dimensionOf write sc d t (e .resolved)) (λ at x. refl)
 
     pub walk-back : (left : ℕ) → Children (de.walk rc left) (ser.walk sc left) (trip.walkKept rc left)
     unfolding de.walk ser.walk trip.walkKept

@@ -1,4 +1,4 @@
--- Tapes that a write takes alike (document 02, change request 2). Assumes nothing.
+-- Tapes that a write takes alike (document 02, change requests 2 and 8). Assumes nothing.
 use mathlib.Core.Path.{_≡_}
 use mathlib.Core.List.{List}
 use Prim.Native.Nat.{ℕ, _+_, _%_, _≤_}
@@ -18,5 +18,13 @@ pub record SameButEnd (r s : Record) : Type 0 where
   pub ended : r .kind ≡ 11 → (r .width ≤ 1) × (s .width ≤ 1)
   pub spare : r .spare ≡ s .spare
   pub declared : r .declared ≡ s .declared
+  pub a : r .a ≡ s .a
+  pub b : r .b ≡ s .b
+
+-- two records differ at most in bytes 4 to 7
+pub record SameButDeclared (r s : Record) : Type 0 where
+  pub kind : r .kind ≡ s .kind
+  pub width : r .width ≡ s .width
+  pub spare : r .spare ≡ s .spare
   pub a : r .a ≡ s .a
   pub b : r .b ≡ s .b

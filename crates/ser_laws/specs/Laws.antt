@@ -18,7 +18,7 @@ use Rattle.ser.specs.Write.{Ctx, ctx, Outcome, went, refused}
 use Rattle.ser.specs.Call.{typeWrite, bookWrite, answerOf, writeCall, WriteIs}
 use Rattle.ser_laws.specs.Touched.{OnlyIn, leavesOf}
 use Rattle.ser_laws.specs.Trip.{isKept}
-use Rattle.ser_laws.specs.Alike.{Records, SameButEnd}
+use Rattle.ser_laws.specs.Alike.{Records, SameButEnd, SameButDeclared}
 
 -- "for an accepted write, a leaf being where such a record goes, every output byte outside the leaves that the tape names equals the image's";
 -- the output is as long as the image, and the leaves lie inside it
@@ -76,3 +76,19 @@ abbrev pub EndsIgnored : Type 0
 EndsIgnored =
     (buffer : List ℕ) (len width n : ℕ) (image : List ℕ) (room : ℕ) (tape tape′ text : List ℕ)
     → Records SameButEnd tape tape′ → writeCall buffer len width n image room tape text ≡ writeCall buffer len width n image room tape′ text
+
+-- "two accepted tapes that differ only in these bytes write the same image": bytes 4 to 7 of records
+abbrev pub DeclaredIgnored : Type 0
+DeclaredIgnored =
+    (buffer : List ℕ) (len width n : ℕ) (image output tape tape′ text : List ℕ) (r r′ : WriteAnswer) (new new′ : List ℕ)
+    → Records SameButDeclared tape tape′
+    → WriteIs (writeCall buffer len width n image (length output) tape text) image output r new → r ≡ Done
+    → WriteIs (writeCall buffer len width n image (length output) tape′ text) image output r′ new′ → r′ ≡ Done
+    → new ≡ new′
+
+-- and what is refused of two such tapes that have their form is refused alike
+abbrev pub DeclaredAlike : Type 0
+DeclaredAlike =
+    (buffer : List ℕ) (len width n : ℕ) (image : List ℕ) (room : ℕ) (tape tape′ text : List ℕ)
+    → Records SameButDeclared tape tape′ → formed (take len buffer) tape text ≡ true → formed (take len buffer) tape′ text ≡ true
+    → writeCall buffer len width n image room tape text ≡ writeCall buffer len width n image room tape′ text

@@ -167,6 +167,9 @@ fn events(book: &TypeBook, t: TypeRef, width: u8, memory: &[u8], tape: &Tape) ->
             Value::End => open.pop().unwrap_or(" end").to_string(),
             value => event(value, record.block.unwrap_or(0)),
         };
+        if let Some(declared) = record.declared_block {
+            out += &format!("^{declared}");
+        }
     }
     out
 }

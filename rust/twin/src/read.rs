@@ -28,7 +28,8 @@ impl<'t> Sink<'t> {
         }
     }
 
-    fn record(&mut self, kind: u8, width: u8, a: u64, b: u64) -> Result<(), Stop> {
+    /// A record; `declared` is the block of a value's type as it was named, of an end or a key 0.
+    fn record(&mut self, kind: u8, width: u8, declared: u32, a: u64, b: u64) -> Result<(), Stop> {
         let place = self
             .tape
             .get_mut(self.filled..self.filled + RECORD)
@@ -36,6 +37,7 @@ impl<'t> Sink<'t> {
         place.fill(0);
         place[0] = kind;
         place[1] = width;
+        place[4..8].copy_from_slice(&declared.to_le_bytes());
         place[8..16].copy_from_slice(&a.to_le_bytes());
         place[16..].copy_from_slice(&b.to_le_bytes());
         self.filled += RECORD;
@@ -43,13 +45,20 @@ impl<'t> Sink<'t> {
     }
 
     /// A text, and byte 1 of its record: whether its bytes have a terminator.
-    fn text(&mut self, text: &str, ended: bool) -> Result<(), Stop> {
+    fn text(&mut self, declared: u32, text: &str, ended: bool) -> Result<(), Stop> {
         let (start, len) = (self.texts, text.len());
         let place = self.text.get_mut(start..start + len).ok_or(Stop::Number(15))?;
         place.copy_from_slice(text.as_bytes());
         self.texts += len;
-        self.record(11, ended.into(), start as u64, len as u64)
+        self.record(11, ended.into(), declared, start as u64, len as u64)
     }
+}
+
+/// A type: its block as it was named, and the one that its aliases come to.
+#[derive(Clone, Copy)]
+struct Type {
+    named: u32,
+    is: u32,
 }
 
 /// A book, a pointer width and the buffers.
@@ -66,30 +75,30 @@ impl Reader<'_, '_> {
     /// The root's value.
     pub fn root(&mut self, root: u32, memory: &[u8]) -> Result<(), Stop> {
         let t = resolve(self.book, self.width, root, false)?;
-        self.value(t, memory, 1, None)
+        self.value(Type { named: root, is: t }, memory, 1, None)
     }
 
-    /// The value of the resolved type `t`; `known` are its fields where an array has looked them up.
-    fn value(&mut self, t: u32, bytes: &[u8], level: u32, known: Option<&[Field]>) -> Result<(), Stop> {
+    /// A value; `known` are its type's fields where an array has looked them up.
+    fn value(&mut self, of: Type, bytes: &[u8], level: u32, known: Option<&[Field]>) -> Result<(), Stop> {
         if level > MOST_LEVELS {
             return Err(Stop::Number(14));
         }
-        let book = self.book.bytes;
+        let (book, t, named) = (self.book.bytes, of.is, of.named);
         match determine(book, self.width, t) {
-            Category::Primitive | Category::SubRange | Category::Bitset => self.number(block::id(book, t), bytes),
+            Category::Primitive | Category::SubRange | Category::Bitset => self.number(of, bytes),
             Category::String => {
                 self.same_size(t, bytes)?;
                 let (text, ended) = match block::id(book, t) == 31 {
                     true => (text::wstring(bytes), text::wstring_ended(bytes)),
                     false => (text::string(bytes), text::string_ended(bytes)),
                 };
-                self.sink.text(&text, ended)
+                self.sink.text(named, &text, ended)
             }
-            Category::Enum => self.entry(t, bytes),
-            Category::Pointer | Category::Reference | Category::Interface => self.pointer(bytes),
-            Category::Struct | Category::Union | Category::FunctionBlock => self.map(t, bytes, level, known),
-            Category::Array => self.array(t, bytes, level),
-            Category::None => self.sink.record(13, 0, 0, 0),
+            Category::Enum => self.entry(of, bytes),
+            Category::Pointer | Category::Reference | Category::Interface => self.pointer(named, bytes),
+            Category::Struct | Category::Union | Category::FunctionBlock => self.map(of, bytes, level, known),
+            Category::Array => self.array(of, bytes, level),
+            Category::None => self.sink.record(13, 0, named, 0, 0),
             Category::Alias | Category::Program | Category::Function => Err(Stop::Number(11)),
         }
     }
@@ -101,7 +110,8 @@ impl Reader<'_, '_> {
         }
     }
 
-    fn number(&mut self, id: u32, bytes: &[u8]) -> Result<(), Stop> {
+    fn number(&mut self, of: Type, bytes: &[u8]) -> Result<(), Stop> {
+        let id = block::id(self.book.bytes, of.is);
         let (kind, width) = match id {
             33 => (6, 1),
             4 => (9, 4),
@@ -113,33 +123,35 @@ impl Reader<'_, '_> {
         }
         let value = low_first(bytes);
         match kind {
-            6 => self.sink.record(6, 0, 0, u64::from(value != 0)),
+            6 => self.sink.record(6, 0, of.named, 0, u64::from(value != 0)),
             7 => {
                 let shift = 64 - 8 * u32::from(width);
-                self.sink.record(7, width, 0, ((value << shift) as i64 >> shift) as u64)
+                let signed = (value << shift) as i64 >> shift;
+                self.sink.record(7, width, of.named, 0, signed as u64)
             }
-            8 => self.sink.record(8, width, 0, value),
-            _ => self.sink.record(kind, 0, 0, value),
+            8 => self.sink.record(8, width, of.named, 0, value),
+            _ => self.sink.record(kind, 0, of.named, 0, value),
         }
     }
 
-    fn pointer(&mut self, bytes: &[u8]) -> Result<(), Stop> {
+    fn pointer(&mut self, named: u32, bytes: &[u8]) -> Result<(), Stop> {
         if !matches!(self.width, 2 | 4 | 8) {
             return Err(Stop::Number(13));
         }
         if bytes.len() != usize::from(self.width) {
             return Err(Stop::Number(10));
         }
-        self.sink.record(8, self.width, 0, low_first(bytes))
+        self.sink.record(8, self.width, named, 0, low_first(bytes))
     }
 
-    fn entry(&mut self, t: u32, bytes: &[u8]) -> Result<(), Stop> {
+    fn entry(&mut self, of: Type, bytes: &[u8]) -> Result<(), Stop> {
+        let t = of.is;
         self.same_size(t, bytes)?;
         let book = self.book.bytes;
         let first = t + 1 + block::fields(book, t);
         let mut entries = first..first + block::entries(book, t);
         if let Some(e) = entries.find(|&e| block::value(book, e) == bytes) {
-            return self.sink.record(12, 0, u64::from(e), 0);
+            return self.sink.record(12, 0, of.named, u64::from(e), 0);
         }
         match integer(block::id(book, t)) {
             None => Err(Stop::Number(11)),
@@ -148,7 +160,8 @@ impl Reader<'_, '_> {
         }
     }
 
-    fn map(&mut self, t: u32, bytes: &[u8], level: u32, known: Option<&[Field]>) -> Result<(), Stop> {
+    fn map(&mut self, of: Type, bytes: &[u8], level: u32, known: Option<&[Field]>) -> Result<(), Stop> {
+        let t = of.is;
         self.same_size(t, bytes)?;
         let looked_up;
         let all = match known {
@@ -158,35 +171,49 @@ impl Reader<'_, '_> {
                 &looked_up
             }
         };
-        self.sink.record(3, 0, all.len() as u64, 0)?;
+        self.sink.record(3, 0, of.named, all.len() as u64, 0)?;
         for f in all {
-            self.sink.record(4, 0, u64::from(f.field), 0)?;
+            self.sink.record(4, 0, 0, u64::from(f.field), 0)?;
             let (start, size) = (f.offset as usize, f.size as usize);
             let part = bytes.get(start..start + size).ok_or(Stop::Number(10))?;
-            self.value(f.resolved, part, level + 1, None)?;
+            let named = self.named(f.field)?;
+            let inner = Type { named, is: f.resolved };
+            self.value(inner, part, level + 1, None)?;
         }
-        self.sink.record(5, 0, 0, 0)
+        self.sink.record(5, 0, 0, 0, 0)
     }
 
-    fn array(&mut self, t: u32, bytes: &[u8], level: u32) -> Result<(), Stop> {
+    /// The block that the type name of a field or an array finds, before aliases.
+    fn named(&self, b: u32) -> Result<u32, Stop> {
+        let name = block::type_name(self.book.bytes, b);
+        self.book.find(name).ok_or(Stop::Missing(b))
+    }
+
+    fn array(&mut self, of: Type, bytes: &[u8], level: u32) -> Result<(), Stop> {
+        let t = of.is;
         self.same_size(t, bytes)?;
         let element = look_up(self.book, self.width, t)?;
         let counts = block::dimensions(self.book.bytes, t);
         if product(block::size(self.book.bytes, element), &counts) != Some(bytes.len() as u128) {
             return Err(Stop::Number(10));
         }
-        self.dimension(&counts, element, bytes, level)
+        let element = Type {
+            named: self.named(t)?,
+            is: element,
+        };
+        // The first dimension is the array as it was named.
+        self.dimension(of, &counts, element, bytes, level)
     }
 
-    fn dimension(&mut self, counts: &[u32], element: u32, bytes: &[u8], level: u32) -> Result<(), Stop> {
+    fn dimension(&mut self, of: Type, counts: &[u32], element: Type, bytes: &[u8], level: u32) -> Result<(), Stop> {
         let last = counts.len() == 1;
-        let category = determine(self.book.bytes, self.width, element);
+        let category = determine(self.book.bytes, self.width, element.is);
         let like_a_struct = matches!(category, Category::Struct | Category::Union | Category::FunctionBlock);
         let known = match last && like_a_struct {
-            true => Some(fields(self.book, self.width, element)?),
+            true => Some(fields(self.book, self.width, element.is)?),
             false => None,
         };
-        self.sink.record(1, 0, u64::from(counts[0]), 0)?;
+        self.sink.record(1, 0, of.named, u64::from(counts[0]), 0)?;
         let count = counts[0] as usize;
         // The whole is count times the stride, exactly.
         let stride = bytes.len().checked_div(count).unwrap_or(0);
@@ -197,10 +224,15 @@ impl Reader<'_, '_> {
             } else if level + 1 > MOST_LEVELS {
                 return Err(Stop::Number(14));
             } else {
-                self.dimension(&counts[1..], element, part, level + 1)?;
+                // A further one has no name but the resolved array's.
+                let further = Type {
+                    named: of.is,
+                    is: of.is,
+                };
+                self.dimension(further, &counts[1..], element, part, level + 1)?;
             }
         }
-        self.sink.record(2, 0, 0, 0)
+        self.sink.record(2, 0, 0, 0, 0)
     }
 }
 

@@ -255,6 +255,16 @@ impl Maker<'_> {
     }
 }
 
+/// Puts numbers of type blocks into bytes 4 to 7 of some values: no write looks at which.
+fn declare(rng: &mut Rng, book: &[u8], tape: &mut Tape) {
+    let all: Vec<u32> = (0..block::count(book)).filter(|&n| block::kind(book, n) == 1).collect();
+    for record in tape.records.chunks_exact_mut(24) {
+        if !matches!(record[0], 2 | 4 | 5) && !all.is_empty() && rng.chance(400) {
+            record[4..8].copy_from_slice(&rng.pick(&all).to_le_bytes());
+        }
+    }
+}
+
 /// A tape of the form, mostly one that a write into the root takes.
 pub fn tape(rng: &mut Rng, made: &Made) -> Tape {
     let book = Book::new(&made.book);
@@ -269,14 +279,17 @@ pub fn tape(rng: &mut Rng, made: &Made) -> Tape {
         tape: Tape::default(),
     };
     maker.value(t, 1);
-    maker.tape
+    let mut tape = maker.tape;
+    declare(rng, &made.book, &mut tape);
+    tape
 }
 
 /// Damages a tape: a byte, a record, a count, its length, its text.
 pub fn spoil(rng: &mut Rng, tape: &mut Tape) {
     let records = tape.records.len() / 24;
     let at = 24 * rng.below(records);
-    match rng.below(10) {
+    match rng.below(11) {
+        10 => tape.records[at + 4] = rng.number() as u8,
         0 => tape.records.truncate(rng.below(tape.records.len() + 1)),
         1 => tape.records.extend_from_within(at..at + 24),
         2 => drop(tape.records.drain(at..at + 24)),

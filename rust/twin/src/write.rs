@@ -8,12 +8,13 @@ use crate::{Book, Stop, block, text};
 const MOST_LEVELS: u32 = 64;
 const RECORD: usize = 24;
 
-/// A record's parts; `spare` are its bytes 2 to 7.
+/// A record's parts; `spare` are its bytes 2 and 3, `declared` is the number in bytes 4 to 7.
 #[derive(Clone, Copy)]
 struct Record<'t> {
     kind: u8,
     width: u8,
     spare: &'t [u8],
+    declared: u64,
     a: u64,
     b: u64,
 }
@@ -25,7 +26,8 @@ fn records(tape: &[u8]) -> Vec<Record<'_>> {
         .map(|r| Record {
             kind: r[0],
             width: r[1],
-            spare: &r[2..8],
+            spare: &r[2..4],
+            declared: number(&r[4..8]),
             a: parts(r).0,
             b: parts(r).1,
         })
@@ -63,7 +65,12 @@ impl<'f> Form<'f> {
             11 => r.width <= 1,
             _ => r.width == 0,
         };
-        (width_fits && r.spare == [0; 6]).then_some(r)
+        // A value declares a type, whichever; an end or a key none.
+        let declared_fits = match r.kind {
+            2 | 4 | 5 => r.declared == 0,
+            _ => self.is_kind(r.declared, 1),
+        };
+        (width_fits && declared_fits && r.spare == [0; 2]).then_some(r)
     }
 
     fn is_kind(&self, block: u64, kind: u8) -> bool {

@@ -1,4 +1,5 @@
-//! Reads a recipe: the memory `mem.bin` by the type book `book.bin` of a folder, and prints its values with their names.
+//! Reads a recipe: the memory `mem.bin` by the type book `book.bin` of a folder, and prints its values with their names and types, as they were
+//! declared.
 //!
 //!     cargo run --example read_recipe [FOLDER]
 //!
@@ -57,8 +58,11 @@ fn print(tape: &Tape) {
                 continue;
             }
             Value::End => continue,
-            value if name.is_empty() => println!("{:indent$}{value}", ""),
-            value => println!("{:indent$}{name}: {value}", ""),
+            value => {
+                let colon = if name.is_empty() { "" } else { ": " };
+                let declared = record.declared().unwrap_or_default();
+                println!("{:indent$}{name}{colon}{value}  ({declared})", "");
+            }
         }
         name = "";
     }

@@ -151,7 +151,9 @@ impl Tape<'_> {
     /// The same by the steps of a path, for names with dots or brackets in them. No steps lead to the root itself.
     pub fn edit_at<'n>(&mut self, steps: &[Step], new: impl Into<New<'n>>) -> Result<(), EditError> {
         let at = self.place(steps)?;
-        let bytes = self.changed(at, new.into())?;
+        let mut bytes = self.changed(at, new.into())?;
+        // The declared type stays.
+        bytes[4..8].copy_from_slice(&self.records[at + 4..at + 8]);
         self.records[at..at + RECORD].copy_from_slice(&bytes);
         self.edited.insert(at);
         Ok(())
@@ -272,7 +274,7 @@ impl Tape<'_> {
         Ok((0..index).fold(array + RECORD, |at, _| self.after(at)))
     }
 
-    /// The record at a place with a new value.
+    /// The record at a place with a new value, without its declared type.
     fn changed(&mut self, at: usize, new: New) -> Result<[u8; RECORD], EditError> {
         let (kind, width) = (self.records[at], self.records[at + 1]);
         let bits = 8 * u32::from(width);

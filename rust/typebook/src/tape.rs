@@ -99,8 +99,30 @@ pub struct Record<'t> {
     pub level: u32,
     /// The field's or entry's block, of a key or an enumeration's entry.
     pub block: Option<u32>,
+    /// The block of its type as it was named, before aliases, of a value; none of a key and an end.
+    pub declared_block: Option<u32>,
     /// What it says.
     pub value: Value<'t>,
+    book: &'t [u8],
+}
+
+impl<'t> Record<'t> {
+    /// The name of the declared type: what a field's or an array's type name finds, before aliases, so that a screen can show
+    /// "Celsius" where the memory holds a REAL. A further dimension has the name of its array. None of a key and an end.
+    ///
+    /// ```
+    /// use typebook::{TypeBook, Value};
+    /// # let folder = concat!(env!("CARGO_MANIFEST_DIR"), "/../../examples/glue/");
+    /// # let file = |name: &str| std::fs::read(format!("{folder}{name}"));
+    /// let book = TypeBook::new(file("book.bin")?)?;
+    /// let tape = book.root(0)?.read(8, &file("mem.bin")?)?;
+    /// let target = tape.iter().find(|r| matches!(r.value, Value::Real32(_))).expect("there is one");
+    /// assert_eq!(target.declared(), Some("Celsius"));
+    /// # Ok::<(), Box<dyn std::error::Error>>(())
+    /// ```
+    pub fn declared(&self) -> Option<&'t str> {
+        Some(name_in(self.book, self.declared_block?, total::name))
+    }
 }
 
 /// The bytes of a record.
@@ -207,6 +229,13 @@ impl<'b> Tape<'b> {
         }
     }
 
+    /// The number in bytes 4 to 7 of the record at a place.
+    pub(crate) fn declared(&self, at: usize) -> u32 {
+        let mut bytes = [0; 4];
+        bytes.copy_from_slice(&self.records[at + 4..at + 8]);
+        u32::from_le_bytes(bytes)
+    }
+
     fn text_part(&self, start: u64, len: u64) -> &str {
         let bytes = &self.text[start as usize..(start + len) as usize];
         std::str::from_utf8(bytes).expect("a tape's texts are UTF-8")
@@ -244,6 +273,10 @@ impl<'t> Iterator for Records<'t> {
             return None;
         }
         let (block, value) = self.tape.value(self.at);
+        let declared_block = match value {
+            Value::End | Value::Key(_) => None,
+            _ => Some(self.tape.declared(self.at)),
+        };
         self.at += RECORD;
         let level = match value {
             Value::End => self.level.saturating_sub(1).max(1),
@@ -253,7 +286,13 @@ impl<'t> Iterator for Records<'t> {
             Value::Array(_) | Value::Map(_) => level + 1,
             _ => level,
         };
-        Some(Record { level, block, value })
+        Some(Record {
+            level,
+            block,
+            declared_block,
+            value,
+            book: self.tape.book,
+        })
     }
 
     fn size_hint(&self) -> (usize, Option<usize>) {
