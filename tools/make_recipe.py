@@ -23,8 +23,8 @@ A description has one thing on a line; `#` starts a comment, blank lines don't c
         Nozzles[1].Heat = 165.5
 
 Types that need no line: BOOL, SINT, INT, DINT, LINT, USINT, UINT, UDINT, ULINT, BYTE, WORD, DWORD, LWORD, REAL, LREAL,
-STRING(n) of n + 1 bytes, WSTRING(n) of 2n + 2, and ARRAY [a..b, ..] OF a type. A value is a number, TRUE or FALSE, an entry's name, or a
-text in double quotes. Several types may be used before the line that says what they are.
+STRING(n) of n + 1 bytes in Windows-1252, `STRING(n) UTF-8` the same in UTF-8, WSTRING(n) of 2n + 2, and ARRAY [a..b, ..] OF a
+type. A value is a number, TRUE or FALSE, an entry's name, or a text in double quotes. Several types may be used before the line that says what they are.
 """
 
 import os
@@ -37,7 +37,7 @@ PLAIN = {"BOOL": (33, 1), "SINT": (16, 1), "INT": (2, 2), "DINT": (3, 4), "LINT"
          "UDINT": (19, 4), "ULINT": (21, 8), "BYTE": (17, 1), "WORD": (18, 2), "DWORD": (19, 4), "LWORD": (21, 8),
          "REAL": (4, 4), "LREAL": (5, 8)}
 SIGNED, REALS, BIT, STRING, WSTRING, BIG = (16, 2, 3, 20), {4: "<f", 5: "<d"}, 33, 30, 31, 65
-BLOCK, BOOK, MEMORY, ENUM = 512, 65536, 4096, 4
+BLOCK, BOOK, MEMORY, ENUM, MARK = 512, 65536, 4096, 4, 32
 OPEN = -1  # the size of a type whose parts are being laid out
 
 
@@ -48,7 +48,7 @@ class Wrong(Exception):
 class Type:
     def __init__(self, kind, name, base="", counts=(), bounds=()):
         self.kind, self.name, self.base, self.counts, self.bounds = kind, name, base, counts, bounds
-        self.id, self.size, self.parts = BIG, None, []  # parts: fields (name, type, offset or None), entries (name, number)
+        self.id, self.size, self.marked, self.parts = BIG, None, False, []  # parts: fields (name, type, offset or None), entries (name, number)
 
 
 def block(kind, flags, numbers, name, type_name, rest=b""):
@@ -101,9 +101,12 @@ class Recipe:
             if name in PLAIN:
                 t = Type("plain", name)
                 t.id, t.size = PLAIN[name]
-            elif m := re.fullmatch(r"(W?)STRING\((\d+)\)", name):
+            elif m := re.fullmatch(r"STRING\((\d+)\)( UTF-8)?", name):
                 t = Type("text", name)
-                t.id, t.size = (WSTRING, 2 * int(m[2]) + 2) if m[1] else (STRING, int(m[2]) + 1)
+                t.id, t.size, t.marked = STRING, int(m[1]) + 1, bool(m[2])
+            elif m := re.fullmatch(r"WSTRING\((\d+)\)", name):
+                t = Type("text", name)
+                t.id, t.size = WSTRING, 2 * int(m[1]) + 2
             elif m := re.fullmatch(r"ARRAY \[(.+)\] OF (.+)", name):
                 bounds = [re.fullmatch(r"\s*(-?\d+)\.\.(-?\d+)\s*", part) for part in m[1].split(",")]
                 if None in bounds or len(bounds) > 8:
@@ -147,7 +150,7 @@ class Recipe:
         fields = len(t.parts) if t.kind == "struct" else 0
         entries = len(t.parts) if t.kind == "enum" else 0
         counts = struct.pack(f"<{len(t.counts)}I", *t.counts)
-        first = bytearray(block(1, ENUM if t.kind == "enum" else 0, (t.id, t.size, fields, entries), t.name,
+        first = bytearray(block(1, ENUM if t.kind == "enum" else MARK if t.marked else 0, (t.id, t.size, fields, entries), t.name,
                                 t.base if t.kind in ("alias", "array") else "", counts))
         first[2] = len(t.counts)
         first[508:512] = struct.pack("<I", sum(first[:508]))
@@ -197,7 +200,7 @@ class Recipe:
         if t.kind == "text":
             if len(text) < 2 or text[0] != '"' or text[-1] != '"':
                 raise Wrong(f"a text in double quotes is due: {text}")
-            raw = text[1:-1].encode("utf-16-le" if t.id == WSTRING else "cp1252")
+            raw = text[1:-1].encode("utf-16-le" if t.id == WSTRING else "utf-8" if t.marked else "cp1252")
             if len(raw) + (2 if t.id == WSTRING else 1) > t.size:
                 raise Wrong(f"{text} is too long for {t.name}")
             return raw.ljust(t.size, b"\0")

@@ -29,7 +29,7 @@ use Rattle.enc_float.specs.declared.Real.the-variants as real
 use Rattle.enc_float.specs.declared.RealRead.the-variants as realRead
 use Rattle.enc_float.proofs.Reals.{single-back, double-back}
 use Rattle.enc_windows_1252_encoder.proofs.Trips.{encode-decode}
-use Rattle.type_book.specs.Book.{blocks, isType, sizeOf, typeIdOf, fieldsOf, entriesOf, valueOf, nameOf}
+use Rattle.type_book.specs.Book.{blocks, isType, flagOf, sizeOf, typeIdOf, fieldsOf, entriesOf, valueOf, nameOf}
 use Rattle.type_book.proofs.Names.{same-eq}
 use Rattle.type_provider.specs.declared.Found.{Found}
 use Rattle.type_provider.specs.declared.Found.the-variants.{At, Nothing}
@@ -48,12 +48,14 @@ use Rattle.de_leaves.specs.Leaf as leaves
 use Rattle.de_leaves.specs.Leaf.{kindOfLeaf, entryFrom, unlisted, entryOr, leafAt}
 use Rattle.de_leaf_output.specs.Leaves.{endsAt, traceOf}
 use Rattle.enc_utf_8.specs.declared.TextEnd.{TextEnd}
-use Rattle.enc_text_decoder.specs.Text.{decodedBy}
+use Rattle.enc_text_decoder.specs.Text.{endBy, decodedBy}
+use Rattle.enc_utf_8.specs.Utf8.{wellFormed}
+use Rattle.enc_utf_8_replacing.proofs.Texts.{text-formed}
 use Rattle.enc_text_decoder.specs.declared.Decoder.the-variants as decoder
 use Rattle.de_output.specs.Trace.{Event, rec, text, textBytes, tapeBytes, one}
 use Rattle.ser_leaf.specs.declared.Target.{Target}
 use Rattle.ser_leaf.specs.declared.Target.the-variants as target
-use Rattle.ser_leaf.specs.Leaf.{holds, exactly, boolLeaf, realId, realBytes, realLeaf, integerBy, pointerLeaf, targetOf, integerLeaf, entryBy, entryLeaf, enumLeaf, padded, textBy, textLeaf, leafBy}
+use Rattle.ser_leaf.specs.Leaf.{holds, exactly, boolLeaf, realId, realBytes, realLeaf, integerBy, pointerLeaf, targetOf, integerLeaf, entryBy, entryLeaf, enumLeaf, padded, stringBytes, textBy, textLeaf, leafBy}
 use Rattle.ser_laws.specs.Trip.{zerosAfter, isWhole, textKept, entryKept, leafKept}
 use Rattle.ser_laws.proofs.Plain.{different, and-left, and-right}
 use Rattle.ser_laws.proofs.ReadLeaf.{FineValue, read-fine, enum-fine, bits-small}
@@ -260,7 +262,7 @@ module _ (book buffer : List ℕ) (width t : ℕ) (mem : List ℕ) (b : Bytes me
     record-text from xs s =
         rw (le-leb (from + length xs) (length buffer) (s .inside)) (ap (take (length xs)) (s .is) ∙ take-append-seam xs (s .rest))
 
-    goes-one-text : (xs : List ℕ) → textBy (typeIdOf book t) xs mem ≡ holds mem → Emits book buffer LeafBack (one (text 0 0 xs))
+    goes-one-text : (xs : List ℕ) → textBy (typeIdOf book t) (flagOf book t 5) xs mem ≡ holds mem → Emits book buffer LeafBack (one (text 0 0 xs))
     unfolding tapeBytes textBytes leafBy textLeaf
     goes-one-text xs e =
         record {
@@ -277,18 +279,38 @@ module _ (book buffer : List ℕ) (width t : ℕ) (mem : List ℕ) (b : Bytes me
               };
         }
 
-    narrow-back : (n : ℕ) → typeIdOf book t ≡ 30 → zerosAfter n 1 mem ≡ true → textBy (typeIdOf book t) (decodedBy decoder.Windows1252 (take n mem)) mem ≡ holds mem
-    unfolding textBy decodedBy
-    narrow-back n e h = rw e (padded-back _ n 1 (encode-decode (take n mem) (record { each = bytes-take n mem b })) h)
+    narrow-back : (n : ℕ) → typeIdOf book t ≡ 30 → flagOf book t 5 ≡ false → zerosAfter n 1 mem ≡ true
+        → textBy (typeIdOf book t) (flagOf book t 5) (decodedBy decoder.Windows1252 (take n mem)) mem ≡ holds mem
+    unfolding textBy stringBytes decodedBy
+    narrow-back n e m h = rw (e, m) (padded-back _ n 1 (encode-decode (take n mem) (record { each = bytes-take n mem b })) h)
+
+    marked-back : (n : ℕ) → typeIdOf book t ≡ 30 → flagOf book t 5 ≡ true → zerosAfter n 1 mem ≡ true → wellFormed (take n mem) ≡ true
+        → textBy (typeIdOf book t) (flagOf book t 5) (decodedBy decoder.Utf8 (take n mem)) mem ≡ holds mem
+    unfolding textBy stringBytes decodedBy
+    marked-back n e m h q = rw (e, m) (padded-back _ n 1 (text-formed (take n mem) q) h)
 
     wide-back : (n : ℕ) → typeIdOf book t ≡ 31 → zerosAfter n 2 mem ≡ true → isWhole (take n mem) ≡ true
-        → textBy (typeIdOf book t) (decodedBy decoder.Utf16 (take n mem)) mem ≡ holds mem
+        → textBy (typeIdOf book t) (flagOf book t 5) (decodedBy decoder.Utf16 (take n mem)) mem ≡ holds mem
     unfolding textBy decodedBy isWhole
     wide-back n e h q = rw e (padded-back _ n 2 (wide-again (take n mem) (bytes-take n mem b) q) h)
 
-    goes-narrow : (end : TextEnd) → typeIdOf book t ≡ 30 → Goes (value.Text decoder.Windows1252 end)
+    goes-narrow : (end : TextEnd) → typeIdOf book t ≡ 30 → flagOf book t 5 ≡ false → Goes (value.Text decoder.Windows1252 end)
     unfolding leafKept textKept
-    goes-narrow end e = record { goes = λ h. goes-one-text _ (narrow-back (endsAt end) e h) }
+    goes-narrow end e m = record { goes = λ h. goes-one-text _ (narrow-back (endsAt end) e m h) }
+
+    goes-marked : (end : TextEnd) → typeIdOf book t ≡ 30 → flagOf book t 5 ≡ true → Goes (value.Text decoder.Utf8 end)
+    unfolding leafKept textKept
+    goes-marked end e m =
+        record {
+          goes = λ h.
+              goes-one-text _ (marked-back (endsAt end) e m (and-left (zerosAfter (endsAt end) 1 mem) _ h) (and-right (zerosAfter (endsAt end) 1 mem) _ h));
+        }
+
+    -- a STRING, by its mark
+    goes-string : typeIdOf book t ≡ 30 → (m : Bool) → flagOf book t 5 ≡ m
+        → Goes (value.Text (cond m decoder.Utf8 decoder.Windows1252) (endBy (cond m decoder.Utf8 decoder.Windows1252) mem))
+    goes-string e true m = goes-marked _ e m
+    goes-string e false m = goes-narrow _ e m
 
     goes-wide : (end : TextEnd) → typeIdOf book t ≡ 31 → Goes (value.Text decoder.Utf16 end)
     unfolding leafKept textKept
@@ -303,7 +325,7 @@ module _ (book buffer : List ℕ) (width t : ℕ) (mem : List ℕ) (b : Bytes me
     goes-text h =
         goes-cond (eqb (length mem) (sizeOf book t)) _ _
         (λ l. ⊎-elim
-        (λ e. rw e (goes-narrow _ e))
+        (λ e. rw e (goes-string e (flagOf book t 5) refl))
         (λ e. rw e (goes-wide _ e))
         h)
         (λ l. goes-refused 10)

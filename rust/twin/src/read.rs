@@ -78,11 +78,10 @@ impl Reader<'_, '_> {
             Category::Primitive | Category::SubRange | Category::Bitset => self.number(block::id(book, t), bytes),
             Category::String => {
                 self.same_size(t, bytes)?;
-                let wide = block::id(book, t) == 31;
-                self.sink.text(&if wide {
-                    text::wstring(bytes)
-                } else {
-                    text::string(bytes)
+                self.sink.text(&match (block::id(book, t), block::flag(book, t, 5)) {
+                    (31, _) => text::wstring(bytes),
+                    (_, true) => text::marked_string(bytes),
+                    (_, false) => text::string(bytes),
                 })
             }
             Category::Enum => self.entry(t, bytes),
