@@ -56,6 +56,10 @@ uint64_t gateway_windows_1252_encode(const uint8_t *text, size_t text_len, uint8
  * Otherwise as gateway_windows_1252_decode. */
 uint64_t gateway_utf_16_decode(const uint8_t *bytes, size_t bytes_len, uint8_t *out, size_t out_len, size_t at);
 
+/* Decodes UTF-8: each ill-formed part gives U+FFFD, as the standard's decoder has it, and no byte order mark is looked for. Otherwise as
+ * gateway_windows_1252_decode. */
+uint64_t gateway_utf_8_decode(const uint8_t *bytes, size_t bytes_len, uint8_t *out, size_t out_len, size_t at);
+
 /* Encodes UTF-8 to UTF-16, low byte first; what is not UTF-8 counts as U+FFFD. Otherwise as gateway_windows_1252_encode. */
 uint64_t gateway_utf_16_encode(const uint8_t *text, size_t text_len, uint8_t *out, size_t out_len);
 

@@ -6,7 +6,7 @@
 
 mod book;
 
-use encoding_rs::{CoderResult, Encoding, UTF_16LE, WINDOWS_1252};
+use encoding_rs::{CoderResult, Encoding, UTF_8, UTF_16LE, WINDOWS_1252};
 use std::hint::black_box;
 use std::time::Instant;
 
@@ -19,6 +19,7 @@ unsafe extern "C" {
     fn gateway_windows_1252_encode(text: *const u8, len: usize, out: *mut u8, out_len: usize) -> u64;
     fn gateway_utf_16_decode(bytes: *const u8, len: usize, out: *mut u8, out_len: usize, at: usize) -> u64;
     fn gateway_utf_16_encode(text: *const u8, len: usize, out: *mut u8, out_len: usize) -> u64;
+    fn gateway_utf_8_decode(bytes: *const u8, len: usize, out: *mut u8, out_len: usize, at: usize) -> u64;
     fn gateway_utf_8_well_formed(text: *const u8, len: usize) -> u8;
 }
 
@@ -41,6 +42,10 @@ fn port_utf_16_encode(text: &[u8], out: &mut [u8]) -> usize {
     unsafe { gateway_utf_16_encode(text.as_ptr(), text.len(), out.as_mut_ptr(), out.len()) as usize }
 }
 
+fn port_utf_8_decode(bytes: &[u8], out: &mut [u8]) -> usize {
+    unsafe { gateway_utf_8_decode(bytes.as_ptr(), bytes.len(), out.as_mut_ptr(), out.len(), 0) as usize }
+}
+
 fn port_utf_8_well_formed(text: &[u8], _: &mut [u8]) -> usize {
     unsafe { gateway_utf_8_well_formed(text.as_ptr(), text.len()) as usize }
 }
@@ -58,6 +63,10 @@ fn rust_windows_1252_decode(bytes: &[u8], out: &mut [u8]) -> usize {
 
 fn rust_utf_16_decode(bytes: &[u8], out: &mut [u8]) -> usize {
     decoded(UTF_16LE, bytes, out)
+}
+
+fn rust_utf_8_decode(bytes: &[u8], out: &mut [u8]) -> usize {
+    decoded(UTF_8, bytes, out)
 }
 
 fn rust_windows_1252_encode(text: &[u8], out: &mut [u8]) -> usize {
@@ -83,20 +92,34 @@ fn rust_utf_8_well_formed(text: &[u8], _: &mut [u8]) -> usize {
     (Encoding::utf8_valid_up_to(text) == text.len()) as usize
 }
 
-/// Texts of about SIZE bytes made of pieces drawn by a fixed sequence.
-fn made(pieces: &[&str], size: usize) -> String {
-    let (mut out, mut state) = (String::new(), 1u32);
+/// Bytes of about `size` made of pieces drawn by a fixed sequence.
+fn made_bytes(pieces: &[&[u8]], size: usize) -> Vec<u8> {
+    let (mut out, mut state) = (Vec::new(), 1u32);
     while out.len() < size {
         state = state.wrapping_mul(1_664_525).wrapping_add(1_013_904_223);
-        out.push_str(pieces[(state >> 16) as usize % pieces.len()]);
+        out.extend_from_slice(pieces[(state >> 16) as usize % pieces.len()]);
     }
     out
 }
 
+/// The same of texts.
+fn made(pieces: &[&str], size: usize) -> String {
+    let pieces: Vec<&[u8]> = pieces.iter().map(|p| p.as_bytes()).collect();
+    String::from_utf8(made_bytes(&pieces, size)).expect("pieces of UTF-8")
+}
+
+/// How often a text is taken in one measurement, so that short ones can be timed.
+fn turns(input: &[u8]) -> usize {
+    (SIZE / 16 / input.len()).max(1)
+}
+
 fn seconds(call: Call, input: &[u8], out: &mut [u8]) -> f64 {
+    let turns = turns(input);
     let start = Instant::now();
-    black_box(call(black_box(input), black_box(out)));
-    start.elapsed().as_secs_f64()
+    for _ in 0..turns {
+        black_box(call(black_box(input), black_box(out)));
+    }
+    start.elapsed().as_secs_f64() / turns as f64
 }
 
 fn median(mut times: Vec<f64>) -> f64 {
@@ -145,5 +168,26 @@ fn main() {
         compare(&format!("enc_utf_16_encoder::encode, {name}"), text.as_bytes(), port_utf_16_encode, rust_utf_16_encode);
         compare(&format!("enc_utf_8_decoder::well_formed, {name}"), text.as_bytes(), port_utf_8_well_formed, rust_utf_8_well_formed);
     }
+    utf_8();
     book::run();
+}
+
+/// STRINGs in UTF-8, long and of 80 bytes.
+fn utf_8() {
+    let sets: [(&str, &[&[u8]]); 6] = [
+        ("ASCII", &[b"plain ", b"text ", b"0123456789 ", b"of a recipe, "]),
+        ("Latin", &["Stra\u{df}e ".as_bytes(), "Gr\u{f6}\u{df}e ".as_bytes(), b"plain text ", "price 12 \u{20ac} ".as_bytes()]),
+        ("Cyrillic", &["\u{416}\u{437}".as_bytes(), "\u{20ac}".as_bytes(), "\u{430}\u{431} ".as_bytes()]),
+        ("CJK", &["\u{6e29}\u{5ea6}".as_bytes(), "\u{80f6}".as_bytes(), "\u{8bbe}\u{5b9a}\u{503c}".as_bytes(), b"12 "]),
+        ("emoji", &["\u{1f600}".as_bytes(), "a\u{1f4d6}".as_bytes(), "\u{10ffff}".as_bytes()]),
+        ("damaged", &["Stra\u{df}e ".as_bytes(), b"\xE2\x82", b"plain text ", b"\xF0\x80", b"\xFF", "\u{6e29}".as_bytes()]),
+    ];
+    for (name, pieces) in sets {
+        for (long, size) in [("", SIZE), (", 80 bytes", 80)] {
+            let mut bytes = made_bytes(pieces, size);
+            bytes.truncate(size);
+            let what = format!("enc_utf_8_replacing::decode, {name}{long}");
+            compare(&what, &bytes, port_utf_8_decode, rust_utf_8_decode);
+        }
+    }
 }

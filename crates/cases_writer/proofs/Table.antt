@@ -33,13 +33,13 @@ use Rattle.ser.specs.Call as call
 use Rattle.cases_writer.specs.Example.{book, one, none, image, short, wide}
 
 -- U+0416 is `&#1046;` and a zero: it fits 8 bytes
-fits-eight : leaf.textBy 30 zhe (replicate 8 0xee) ≡ leaf.holds (0x26 ∷ 0x23 ∷ 0x31 ∷ 0x30 ∷ 0x34 ∷ 0x36 ∷ 0x3b ∷ 0x00 ∷ [])
-unfolding leaf.textBy leaf.padded flatMap utf-8.leading utf-8.following utf-8.afterReply utf-8.decodeFrom enc-windows-1252-text.digits enc-windows-1252-text.bytesBy enc-windows-1252-text.encodeText enc-windows-1252-index.listedPoints enc-windows-1252-index.codePoint enc-windows-1252-index.firstFrom enc-windows-1252-index.byteOf
+fits-eight : leaf.stringBytes leaf.textBy 30 zhe (replicate 8 0xee) ≡ leaf.holds (0x26 ∷ 0x23 ∷ 0x31 ∷ 0x30 ∷ 0x34 ∷ 0x36 ∷ 0x3b ∷ 0x00 ∷ [])
+unfolding leaf.stringBytes leaf.textBy leaf.padded flatMap utf-8.leading utf-8.following utf-8.afterReply utf-8.decodeFrom enc-windows-1252-text.digits enc-windows-1252-text.bytesBy enc-windows-1252-text.encodeText enc-windows-1252-index.listedPoints enc-windows-1252-index.codePoint enc-windows-1252-index.firstFrom enc-windows-1252-index.byteOf
 fits-eight = refl
 
 -- and 7 are too few
-not-seven : leaf.textBy 30 zhe (replicate 7 0xee) ≡ leaf.refused 10
-unfolding leaf.textBy leaf.padded flatMap utf-8.leading utf-8.following utf-8.afterReply utf-8.decodeFrom enc-windows-1252-text.digits enc-windows-1252-text.bytesBy enc-windows-1252-text.encodeText enc-windows-1252-index.listedPoints enc-windows-1252-index.codePoint enc-windows-1252-index.firstFrom enc-windows-1252-index.byteOf
+not-seven : leaf.stringBytes leaf.textBy 30 zhe (replicate 7 0xee) ≡ leaf.refused 10
+unfolding leaf.stringBytes leaf.textBy leaf.padded flatMap utf-8.leading utf-8.following utf-8.afterReply utf-8.decodeFrom enc-windows-1252-text.digits enc-windows-1252-text.bytesBy enc-windows-1252-text.encodeText enc-windows-1252-index.listedPoints enc-windows-1252-index.codePoint enc-windows-1252-index.firstFrom enc-windows-1252-index.byteOf
 not-seven = refl
 
 -- the field that is named gets its two bytes, the other keeps the image's

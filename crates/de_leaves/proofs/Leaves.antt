@@ -28,7 +28,7 @@ use Rattle.enc_utf_8.specs.declared.TextEnd.{TextEnd}
 use Rattle.enc_text_decoder.specs.Text.{endBy}
 use Rattle.enc_text_decoder.specs.declared.Decoder.{Decoder}
 use Rattle.enc_text_decoder.specs.declared.Decoder.the-variants as decoder
-use Rattle.type_book.specs.Book.{sizeOf, typeIdOf, fieldsOf, entriesOf, valueOf, sameName}
+use Rattle.type_book.specs.Book.{flagOf, sizeOf, typeIdOf, fieldsOf, entriesOf, valueOf, sameName}
 use Rattle.type_provider.specs.declared.Found.{Found}
 use Rattle.type_provider.specs.declared.Found.the-variants.{At, Nothing}
 use Rattle.type_category.specs.Category.{categoryOf}
@@ -153,9 +153,14 @@ module _ (book : List ℕ) (t : ℕ) (id : AdsTypeId) (ei : id ≡ idOf (typeIdO
   unfolding decoderOf
   decoder-wide h = rw (eq-eqb (typeIdOf book t) 31 (sym id-is ∙ h))
 
-  pub decoder-narrow : (n ≡ 31 → ⊥) → decoder.Windows1252 ≡ decoderOf book t
-  unfolding decoderOf
-  decoder-narrow h = rw (ne-eqb (typeIdOf book t) 31 (λ z. h (id-is ∙ z)))
+  module _ (h : n ≡ 31 → ⊥) (m : Bool) (em : m ≡ flagOf book t 5) where
+    pub decoder-marked : m ≡ true → decoder.Utf8 ≡ decoderOf book t
+    unfolding decoderOf
+    decoder-marked q = rw (ne-eqb (typeIdOf book t) 31 (λ z. h (id-is ∙ z)), ← em, q)
+
+    pub decoder-narrow : m ≡ false → decoder.Windows1252 ≡ decoderOf book t
+    unfolding decoderOf
+    decoder-narrow q = rw (ne-eqb (typeIdOf book t) 31 (λ z. h (id-is ∙ z)), ← em, q)
 
 module _ (book : List ℕ) (t : ℕ) (mem : List ℕ) (size : ℕ) (es : size ≡ sizeOf book t) where
   pub text-size : (length mem ≡ size → ⊥) → leaf.Refused 10 ≡ textLeaf book t mem

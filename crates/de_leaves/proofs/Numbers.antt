@@ -24,7 +24,7 @@ answerOf (z ∷ k ∷ rest) =
     (cond (eqb k 8) (leaf.Unsigned (getD rest 0 0) (getD rest 1 0))
     (cond (eqb k 9) (realLeaf (realFrom (k ∷ rest)))
     (cond (eqb k 10) (realLeaf (realFrom (k ∷ rest)))
-    (cond (eqb k 11) (leaf.Text (cond (eqb (getD rest 0 0) 30) decoder.Windows1252 decoder.Utf16) (cond (eqb (getD rest 1 0) 1) (Terminated (getD rest 2 0)) (Unterminated (getD rest 2 0))))
+    (cond (eqb k 11) (leaf.Text (cond (eqb (getD rest 0 0) 30) decoder.Windows1252 (cond (eqb (getD rest 0 0) 31) decoder.Utf16 decoder.Utf8)) (cond (eqb (getD rest 1 0) 1) (Terminated (getD rest 2 0)) (Unterminated (getD rest 2 0))))
     (cond (eqb k 12) (leaf.Entry (getD rest 0 0)) leaf.Unit))))))
 
 back : (v : LeafValue) → answerOf (leafNumbers v) ≡ v
@@ -41,6 +41,8 @@ back (leaf.Text decoder.Windows1252 (Terminated n)) = refl
 back (leaf.Text decoder.Windows1252 (Unterminated n)) = refl
 back (leaf.Text decoder.Utf16 (Terminated n)) = refl
 back (leaf.Text decoder.Utf16 (Unterminated n)) = refl
+back (leaf.Text decoder.Utf8 (Terminated n)) = refl
+back (leaf.Text decoder.Utf8 (Unterminated n)) = refl
 back (leaf.Entry n) = refl
 back leaf.Unit = refl
 back (leaf.Refused n) = refl

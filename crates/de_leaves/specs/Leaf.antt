@@ -22,7 +22,7 @@ use Rattle.enc_utf_8.specs.declared.TextEnd.the-variants.{Terminated, Untermina
 use Rattle.enc_text_decoder.specs.Text.{endBy}
 use Rattle.enc_text_decoder.specs.declared.Decoder.{Decoder}
 use Rattle.enc_text_decoder.specs.declared.Decoder.the-variants as decoder
-use Rattle.type_book.specs.Book.{sizeOf, typeIdOf, fieldsOf, entriesOf, valueOf, sameName}
+use Rattle.type_book.specs.Book.{flagOf, sizeOf, typeIdOf, fieldsOf, entriesOf, valueOf, sameName}
 use Rattle.type_provider.specs.declared.Found.{Found}
 use Rattle.type_provider.specs.declared.Found.the-variants.{At, Nothing}
 use Rattle.type_category.specs.Category.{categoryOf}
@@ -33,10 +33,11 @@ use Rattle.de_leaves.specs.declared.leaf.LeafValue.the-variants as leaf
 use Rattle.de_leaves.specs.declared.leaf.LeafKind.{LeafKind}
 use Rattle.de_leaves.specs.declared.leaf.LeafKind.the-variants as kind
 
--- the number of a decoder: the type id of the STRING (30) or WSTRING (31) that it is for
+-- the number of a decoder: the type id of the STRING (30) or WSTRING (31) that it is for, and for a STRING in UTF-8 its mark (32) added to it
 abbrev pub decoderNumber : Decoder → ℕ
 decoderNumber decoder.Windows1252 = 30
 decoderNumber decoder.Utf16 = 31
+decoderNumber decoder.Utf8 = 62
 
 -- the numbers of a text's end: whether a terminator was found, and how many bytes there are before the end
 abbrev pub endNumbers : TextEnd → List ℕ
@@ -118,9 +119,9 @@ pointerLeaf width mem =
     (cond (eqb width 4) (integerLeaf (readInteger UInt32 mem))
     (cond (eqb width 8) (integerLeaf (readInteger UInt64 mem)) (leaf.Refused 13)))
 
--- id 31 is a WSTRING, in UTF-16; else it is a STRING, in Windows-1252
+-- id 31 is a WSTRING, in UTF-16; else it is a STRING, in UTF-8 where the type's own block is marked so, else in Windows-1252
 unfoldable pub decoderOf : List ℕ → ℕ → Decoder
-decoderOf book t = cond (eqb (typeIdOf book t) 31) decoder.Utf16 decoder.Windows1252
+decoderOf book t = cond (eqb (typeIdOf book t) 31) decoder.Utf16 (cond (flagOf book t 5) decoder.Utf8 decoder.Windows1252)
 
 -- 10 unless the bytes are as many as the type says; then the text's decoder and its end
 unfoldable pub textLeaf : List ℕ → ℕ → List ℕ → LeafValue

@@ -137,12 +137,15 @@ fn pointer_leaf(width: u8, bytes: &[u8]) -> LeafValue
     LeafValue::Refused(13)
 }
 
-// A WSTRING is UTF-16, a STRING is Windows-1252.
+// A WSTRING is UTF-16, a STRING is UTF-8 where its own block is marked so, else Windows-1252.
 fn decoder_of(book: &[u8], t: u32) -> Decoder
     ensures { λ r. ⌜ r ≡ decoderOf (now (book .entry)) t ⌝ }
 {
     if type_book::block::type_id(book, t).to_u32() == 31 {
         return Decoder::Utf16;
+    }
+    if type_book::block::is_utf_8(book, t) {
+        return Decoder::Utf8;
     }
     Decoder::Windows1252
 }

@@ -8,6 +8,8 @@ use enc_utf_8::TextEnd;
 pub enum Decoder {
     Windows1252,
     Utf16,
+    // A STRING that is marked so.
+    Utf8,
 }
 
 // The end of a text: the number of bytes before it, and whether it is a terminator.
@@ -17,6 +19,7 @@ pub fn text_end(decoder: Decoder, bytes: &[u8]) -> TextEnd
     match decoder {
         Decoder::Windows1252 => enc_windows_1252::string_end(bytes),
         Decoder::Utf16 => enc_utf_16::wstring_end(bytes),
+        Decoder::Utf8 => enc_windows_1252::string_end(bytes),
     }
 }
 
@@ -27,5 +30,6 @@ pub fn decode(decoder: Decoder, bytes: &[u8], text: &mut [u8], at: usize) -> Put
     match decoder {
         Decoder::Windows1252 => enc_windows_1252_decoder::decode(bytes, text, at),
         Decoder::Utf16 => enc_utf_16_decoder::decode(bytes, text, at),
+        Decoder::Utf8 => enc_utf_8_replacing::decode(bytes, text, at),
     }
 }

@@ -1,10 +1,11 @@
 // The UTF-8 decoder, one code point at a time, and whether a text is UTF-8.
 ghost use mathlib.Core.Path.{_≡_};
-ghost use mathlib.Core.Bool.{true};
+ghost use mathlib.Core.Bool.{true, _&&_};
 ghost use Prim.Native.Nat.{_+_, _-_, _<_, _≤_};
 ghost use lib.ListN.{length, getD, take, drop};
-ghost use lib.Dec.{eqb};
+ghost use lib.Dec.{eqb, leb};
 ghost use Rattle.enc_ascii.specs.Ascii.{isAscii};
+ghost use Rattle.enc_utf_8_decoder.specs.After.{placeAfter, fourFit, AsciiHere};
 ghost use Rattle.enc_utf_8.specs.Utf8.{lowerOf, upperOf, state, nextFrom, nextAt, wellFormed, ValidTo, trail};
 use enc_ascii::is_ascii;
 use enc_utf_8::Char;
@@ -120,38 +121,184 @@ pub fn next(text: &[u8], at: usize) -> Char
     next_long(text, at)
 }
 
-// Whether a block begins at a place that is ASCII throughout. Only multiples of 64 are tried, so that no byte is looked at in
-// two blocks.
+// Whether a byte can only follow others in a code point.
+fn is_trail(b: u8) -> bool
+    ensures { λ r. ⌜ r ≡ trail b ⌝ }
+{
+    if b < 0x80 {
+        return false;
+    }
+    b < 0xc0
+}
+
+// The place after the code point of two bytes at `at`, or `at` where it is ill-formed. This function and the three that follow say
+// what `next` says, without the code point: a test of a text needs only the place.
+fn after_two(text: &[u8], at: usize) -> usize
+    requires { ⌜ (at + 4 ≤ length (now text)) × (0x80 ≤ getD (now text) at 0) × (getD (now text) at 0 < 0xe0) ⌝ }
+    ensures { λ r. ⌜ r ≡ placeAfter (nextAt (now (text .entry)) at) at ⌝ }
+{
+    if text[at] < 0xc2 {
+        return at;
+    }
+    if is_trail(text[at + 1]) {
+        return at + 2;
+    }
+    at
+}
+
+// Whether a byte may be the second after a lead byte.
+fn second_fits(lead: u8, b: u8) -> bool
+    ensures { λ r. ⌜ r ≡ (leb (lowerOf lead) b && leb b (upperOf lead)) ⌝ }
+{
+    if b < lower_of(lead) {
+        return false;
+    }
+    b <= upper_of(lead)
+}
+
+// Whether both bytes can only follow others.
+fn both_trail(a: u8, b: u8) -> bool
+    ensures { λ r. ⌜ r ≡ (trail a && trail b) ⌝ }
+{
+    if is_trail(a) {
+        return is_trail(b);
+    }
+    false
+}
+
+// Whether three bytes are a code point, where the first is the lead of one.
+fn three_fit(a: u8, b: u8, c: u8) -> bool
+    ensures { λ r. ⌜ r ≡ ((leb (lowerOf a) b && leb b (upperOf a)) && trail c) ⌝ }
+{
+    if second_fits(a, b) {
+        return is_trail(c);
+    }
+    false
+}
+
+// The same of the four bytes at `at`.
+fn four_fit(text: &[u8], at: usize) -> bool
+    requires { ⌜ at + 4 ≤ length (now text) ⌝ }
+    ensures { λ r. ⌜ r ≡ fourFit (now (text .entry)) at ⌝ }
+{
+    if second_fits(text[at], text[at + 1]) {
+        return both_trail(text[at + 2], text[at + 3]);
+    }
+    false
+}
+
+// The place after the code point of three bytes at `at`, or `at` where it is ill-formed.
+fn after_three(text: &[u8], at: usize) -> usize
+    requires { ⌜ (at + 4 ≤ length (now text)) × (0xe0 ≤ getD (now text) at 0) × (getD (now text) at 0 < 0xf0) ⌝ }
+    ensures { λ r. ⌜ r ≡ placeAfter (nextAt (now (text .entry)) at) at ⌝ }
+{
+    if three_fit(text[at], text[at + 1], text[at + 2]) {
+        return at + 3;
+    }
+    at
+}
+
+// The same of four.
+fn after_four(text: &[u8], at: usize) -> usize
+    requires { ⌜ (at + 4 ≤ length (now text)) × (0xf0 ≤ getD (now text) at 0) × (getD (now text) at 0 < 0xf5) ⌝ }
+    ensures { λ r. ⌜ r ≡ placeAfter (nextAt (now (text .entry)) at) at ⌝ }
+{
+    if four_fit(text, at) {
+        return at + 4;
+    }
+    at
+}
+
+// The same where fewer than four bytes are left.
+fn after_last(text: &[u8], at: usize) -> usize
+    ensures { λ r. ⌜ r ≡ placeAfter (nextAt (now (text .entry)) at) at ⌝ }
+{
+    match next(text, at) {
+        Char::Code(_, e) => e,
+        Char::Error(_) => at,
+        Char::End => at,
+    }
+}
+
+// The place after the code point at `at`, or `at` where it is ill-formed.
+fn after_code(text: &[u8], at: usize) -> usize
+    requires { ⌜ (at < length (now text)) × (0x80 ≤ getD (now text) at 0) ⌝ }
+    ensures { λ r. ⌜ r ≡ placeAfter (nextAt (now (text .entry)) at) at ⌝ }
+{
+    if text.len() - at < 4 {
+        return after_last(text, at);
+    }
+    let b = text[at];
+    if b < 0xe0 {
+        return after_two(text, at);
+    }
+    if b < 0xf0 {
+        return after_three(text, at);
+    }
+    if b < 0xf5 {
+        return after_four(text, at);
+    }
+    at
+}
+
+// Whether a block of 64 begins at a place that is ASCII throughout.
 fn ascii_block(text: &[u8], at: usize) -> bool
     requires { ⌜ at < length (now text) ⌝ }
     ensures { λ r. ⌜ (r ≡ true → (at + 64 ≤ length (now (text .entry))) × (isAscii (take 64 (drop at (now (text .entry)))) ≡ true)) ⌝ }
 {
-    if at % 64 != 0 {
-        return false;
-    }
     if text.len() - at < 64 {
         return false;
     }
     is_ascii(&text[at..at + 64])
 }
 
-// How much of a text is UTF-8 from its start on: up to the first error. ASCII does not need `next`.
+// The same of a block of 16.
+fn ascii_part(text: &[u8], at: usize) -> bool
+    requires { ⌜ at < length (now text) ⌝ }
+    ensures { λ r. ⌜ (r ≡ true → (at + 16 ≤ length (now (text .entry))) × (isAscii (take 16 (drop at (now (text .entry)))) ≡ true)) ⌝ }
+{
+    if text.len() - at < 16 {
+        return false;
+    }
+    is_ascii(&text[at..at + 16])
+}
+
+// How many bytes of ASCII begin at a place, told by a block: 64, 16 or none. Only multiples of 16 are tried, so that few bytes are looked at
+// twice.
+fn ascii_bytes(text: &[u8], at: usize) -> usize
+    requires { ⌜ at < length (now text) ⌝ }
+    ensures { λ r. ⌜ AsciiHere (now (text .entry)) at r ⌝ }
+{
+    if at % 16 != 0 {
+        return 0;
+    }
+    if ascii_block(text, at) {
+        return 64;
+    }
+    if ascii_part(text, at) {
+        return 16;
+    }
+    0
+}
+
+// How much of a text is UTF-8 from its start on: up to the first error. ASCII goes by blocks, as far as it can.
 pub fn valid_up_to(text: &[u8]) -> usize
     ensures { λ r. ⌜ ValidTo (now (text .entry)) r ⌝ }
     ensures whole { λ r. ⌜ wellFormed (now (text .entry)) ≡ eqb r (length (now (text .entry))) ⌝ }
 {
     let mut at = 0;
     while at < text.len() {
-        if ascii_block(text, at) {
-            at += 64;
+        let ascii = ascii_bytes(text, at);
+        if ascii > 0 {
+            at += ascii;
         } else if text[at] < 0x80 {
             at += 1;
         } else {
-            match next(text, at) {
-                Char::Code(_, e) => at = e,
-                Char::Error(_) => return at,
-                Char::End => return at,
+            let after = after_code(text, at);
+            if after == at {
+                return at;
             }
+            at = after;
         }
     }
     at
@@ -162,16 +309,6 @@ pub fn well_formed(text: &[u8]) -> bool
     ensures { λ r. ⌜ r ≡ wellFormed (now (text .entry)) ⌝ }
 {
     valid_up_to(text) == text.len()
-}
-
-// Whether a byte can only follow others in a code point.
-fn is_trail(b: u8) -> bool
-    ensures { λ r. ⌜ r ≡ trail b ⌝ }
-{
-    if b < 0x80 {
-        return false;
-    }
-    b < 0xc0
 }
 
 // Whether a part of a text that is UTF-8 is UTF-8 too. The bytes at its two ends tell, so that it costs the same however long it is.

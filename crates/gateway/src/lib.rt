@@ -2,6 +2,7 @@
 // Nothing checks a caller's declarations against this file: rust/ has the ones that match it.
 ghost use mathlib.Core.Path.{_≡_};
 ghost use Rattle.enc_windows_1252.specs.Text as windows1252;
+ghost use Rattle.enc_utf_8_replacing.specs.Text as utf8;
 ghost use Rattle.enc_utf_16.specs.Decode as utf16Decode;
 ghost use Rattle.enc_utf_16.specs.Encode as utf16Encode;
 ghost use Rattle.type_provider.specs.Find.{find as findIn, foundNumbers};
@@ -45,6 +46,13 @@ pub extern "C" fn gateway_utf_16_encode(text: &[u8], out: &mut [u8]) -> u64
     ensures { λ r. ⌜ WroteAs (utf16Encode.encodeText (now (text .entry))) (now (out .entry)) 0 r (now (out .exit)) ⌝ }
 {
     gateway_codes::place(enc_utf_16_encoder::encode(text, out))
+}
+
+#[no_mangle]
+pub extern "C" fn gateway_utf_8_decode(bytes: &[u8], out: &mut [u8], at: usize) -> u64
+    ensures { λ r. ⌜ WroteAs (utf8.decodeText (now (bytes .entry))) (now (out .entry)) at r (now (out .exit)) ⌝ }
+{
+    gateway_codes::place(enc_utf_8_replacing::decode(bytes, out, at))
 }
 
 #[no_mangle]

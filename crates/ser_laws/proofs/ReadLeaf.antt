@@ -41,6 +41,7 @@ use Rattle.de_leaves.specs.declared.leaf.LeafKind.{LeafKind}
 use Rattle.de_leaves.specs.declared.leaf.LeafKind.the-variants as kind
 use Rattle.de_leaves.specs.Leaf.{kindOfLeaf, boolLeaf, realLeaf, valueLeaf, integerLeaf, realOr, numberLeaf, pointerLeaf, textLeaf, entryFrom, unlisted, entryOr, enumLeaf, kindLeaf, leafBy, leafAt}
 use Rattle.enc_text_decoder.specs.Text.{decodedBy}
+use Rattle.enc_utf_8_replacing.proofs.Texts as utf8
 use Rattle.enc_text_decoder.specs.declared.Decoder.{Decoder}
 use Rattle.enc_text_decoder.specs.declared.Decoder.the-variants as decoder
 use Rattle.tape_form.specs.Ranges.{isWidth}
@@ -269,3 +270,4 @@ pub decoded-formed : (d : Decoder) (bytes : List ℕ) → wellFormed (decodedBy 
 unfolding decodedBy windows1252.decodeText
 decoded-formed decoder.Utf16 bytes = scalars-formed (utf16.decodeScalars bytes)
 decoded-formed decoder.Windows1252 bytes = bytes-formed bytes
+decoded-formed decoder.Utf8 bytes = utf8.decode-formed bytes

@@ -76,9 +76,9 @@ module _ (old : List ℕ) where
       let l = leb-true (length bs + zeros) (length old) h in
       simp (length-append, length-replicate) (omega (arith, l)))
 
-  sized-text-by : (id : ℕ) (text : List ℕ) → Sized old (textBy id text old)
+  sized-text-by : (id : ℕ) (marked : Bool) (text : List ℕ) → Sized old (textBy id marked text old)
   unfolding textBy
-  sized-text-by id text =
+  sized-text-by id marked text =
       sized-cond old (eqb id 30) _ _ (sized-padded _ 1) (sized-cond old (eqb id 31) _ _ (sized-padded _ 2) (sized-refused old 17))
 
   module _ (book : List ℕ) (width t : ℕ) where
@@ -114,8 +114,8 @@ module _ (old : List ℕ) where
     sized-text : (text : List ℕ) (k : Target) → Sized old (textLeaf book t text old k)
     unfolding textLeaf
     sized-text text target.Enum = sized-entry text
-    sized-text text target.Pointer = sized-text-by _ text
-    sized-text text target.Other = sized-text-by _ text
+    sized-text text target.Pointer = sized-text-by _ _ text
+    sized-text text target.Other = sized-text-by _ _ text
 
     pub sized-leaf : (k : Target) (r : Record) (text : List ℕ) → Sized old (leafBy book width t k r text old)
     unfolding leafBy

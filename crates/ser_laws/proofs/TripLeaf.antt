@@ -29,11 +29,12 @@ use Rattle.enc_float.specs.declared.Real.the-variants as real
 use Rattle.enc_float.specs.declared.RealRead.the-variants as realRead
 use Rattle.enc_float.proofs.Reals.{single-back, double-back}
 use Rattle.enc_windows_1252_encoder.proofs.Trips.{encode-decode}
-use Rattle.type_book.specs.Book.{blocks, isType, sizeOf, typeIdOf, fieldsOf, entriesOf, valueOf, nameOf}
+use Rattle.type_book.specs.Book.{blocks, isType, flagOf, sizeOf, typeIdOf, fieldsOf, entriesOf, valueOf, nameOf}
 use Rattle.type_book.proofs.Names.{same-eq}
 use Rattle.type_provider.specs.declared.Found.{Found}
 use Rattle.type_provider.specs.declared.Found.the-variants.{At, Nothing}
 use Rattle.type_category.specs.Category.{categoryOf}
+use Rattle.time_types.specs.Counts.{countWidth}
 use Rattle.type_category.specs.declared.type_category.AdsTypeCategory.{AdsTypeCategory}
 use Rattle.type_category.specs.declared.type_category.AdsTypeCategory.the-variants as category
 use Rattle.type_book_check.specs.Check.{ValidBook}
@@ -49,12 +50,14 @@ use Rattle.de_leaves.specs.Leaf.{kindOfLeaf, entryFrom, unlisted, entryOr, leaf
 use Rattle.de_leaf_output.specs.Leaves.{endsAt, traceOf}
 use Rattle.de_leaf_output.proofs.Ended.{end-small}
 use Rattle.enc_utf_8.specs.declared.TextEnd.{TextEnd}
-use Rattle.enc_text_decoder.specs.Text.{decodedBy}
+use Rattle.enc_text_decoder.specs.Text.{endBy, decodedBy}
+use Rattle.enc_utf_8.specs.Utf8.{wellFormed}
+use Rattle.enc_utf_8_replacing.proofs.Texts.{text-formed}
 use Rattle.enc_text_decoder.specs.declared.Decoder.the-variants as decoder
 use Rattle.de_output.specs.Trace.{Event, rec, text, textBytes, tapeBytes, one}
 use Rattle.ser_leaf.specs.declared.Target.{Target}
 use Rattle.ser_leaf.specs.declared.Target.the-variants as target
-use Rattle.ser_leaf.specs.Leaf.{holds, exactly, boolLeaf, realId, realBytes, realLeaf, integerBy, pointerLeaf, targetOf, integerLeaf, entryBy, entryLeaf, enumLeaf, padded, textBy, textLeaf, leafBy}
+use Rattle.ser_leaf.specs.Leaf.{Leaf, holds, exactly, boolLeaf, realId, realBytes, realLeaf, integerBy, pointerLeaf, targetOf, integerLeaf, entryBy, entryLeaf, enumLeaf, padded, stringBytes, textBy, textLeaf, leafBy, countLeaf, leafFor}
 use Rattle.ser_laws.specs.Trip.{zerosAfter, isWhole, textKept, entryKept, leafKept}
 use Rattle.ser_laws.proofs.Plain.{different, and-left, and-right}
 use Rattle.ser_laws.proofs.ReadLeaf.{FineValue, read-fine, enum-fine, bits-small}
@@ -96,18 +99,57 @@ five-real : idOf 5 ≡ Real64
 unfolding idOf
 five-real = refl
 
-module _ (book buffer : List ℕ) (decl : ℕ) (below : decl < 2 ^ 32) (width t : ℕ) (mem : List ℕ) (b : Bytes mem) (k : Target) where
-  -- the record of a leaf, which written over its bytes gives them back
+-- the record of a leaf, which written over its bytes, as `over` has it, gives them back
+module _ (book buffer : List ℕ) (decl : ℕ) (below : decl < 2 ^ 32) (mem : List ℕ) (b : Bytes mem) (over : Record → Leaf) where
   pub record LeafBack (from : ℕ) (es : List Event) : Type 0 where
     pub r : Record
     pub held : Held r
     pub bytes : tapeBytes from es ≡ recordBytes r
     pub no-array : r .kind ≡ 1 → ⊥
     pub no-map : r .kind ≡ 3 → ⊥
-    pub writes : leafBy book width t k r buffer mem ≡ holds mem
+    pub writes : over r ≡ holds mem
+
+  -- one record
+  one-back : (kind w a n : ℕ) → Held (rec-of decl kind w a n) → (kind ≡ 1 → ⊥) → (kind ≡ 3 → ⊥) → over (rec-of decl kind w a n) ≡ holds mem
+      → Emits book buffer LeafBack (one (rec (rec-of decl kind w a n)))
+  unfolding tapeBytes
+  one-back kind w a n h p q e =
+      record { emits = λ from s. record { r = rec-of decl kind w a n; held = h; bytes = append-nil (recordBytes (rec-of decl kind w a n)); no-array = p; no-map = q; writes = e } }
+
+  -- an integer that is read and written by the same id
+  module _ (id : AdsTypeId) (signed : (w n : ℕ) → over (rec-of decl 7 w 0 n) ≡ integerBy id (integer.Signed w n) mem) (unsigned : (w n : ℕ) → over (rec-of decl 8 w 0 n) ≡ integerBy id (integer.Unsigned w n) mem) where
+    integer-writes : (v : Integer) → read.Value v ≡ readInteger id mem → integerBy id v mem ≡ holds mem
+    unfolding integerBy integerAfter
+    integer-writes v e =
+        let w = integer-back id mem b v e mem refl in
+        let d : writeInteger id v mem ≡ write.Done = sym (integer-write-is _ _ (w .answer)) in
+        let q : mem ≡ integerBytes id v = rw d at (w .buffer) in
+        rw d (ap holds (sym q))
+
+    integer-goes : Emits book buffer LeafBack (traceOf decl (leaves.integerLeaf (readInteger id mem)) mem)
+    unfolding leaves.integerLeaf integerReadNumbers
+    integer-goes = by (readInteger id mem) refl (read-fine book mem b id)
+      where
+        by : (r : IntegerRead) → r ≡ readInteger id mem → FineValue book (leaves.integerLeaf r) → Emits book buffer LeafBack (traceOf decl (leaves.integerLeaf r) mem)
+        by (read.Value (integer.Signed w n)) e f =
+            let x = f .fine in
+            let m = x .most in
+            one-back 7 w 0 n (held-of decl 7 w 0 n below (omega arith) (omega arith) (omega arith) (rw (x .is) (bits-small (x .number)))) (λ z. omega arith) (λ z. omega arith) (signed w n ∙ integer-writes (integer.Signed w n) e)
+        by (read.Value (integer.Unsigned w n)) e f =
+            let x = f .fine in
+            let m = x .most in
+            let l = x .small in
+            let o : 2 ^ (8 * w) ≤ 2 ^ 64 = pow-most w m in
+            one-back 8 w 0 n (held-of decl 8 w 0 n below (omega arith) (omega arith) (omega arith) (omega arith)) (λ z. omega arith) (λ z. omega arith) (unsigned w n ∙ integer-writes (integer.Unsigned w n) e)
+        by read.Size e f = record { emits = tt }
+        by read.Unsupported e f = record { emits = tt }
+
+module _ (book buffer : List ℕ) (decl : ℕ) (below : decl < 2 ^ 32) (width t : ℕ) (mem : List ℕ) (b : Bytes mem) (k : Target) where
+  abbrev BackBy : ℕ → List Event → Type 0
+  BackBy = LeafBack book buffer decl below mem b (λ r. leafBy book width t k r buffer mem)
 
   pub record Goes (v : LeafValue) : Type 0 where
-    pub goes : leafKept book t mem v ≡ true → Emits book buffer LeafBack (traceOf decl v mem)
+    pub goes : leafKept book t mem v ≡ true → Emits book buffer BackBy (traceOf decl v mem)
 
   goes-refused : (n : ℕ) → Goes (value.Refused n)
   goes-refused n = record { goes = λ h. record { emits = tt } }
@@ -118,39 +160,17 @@ module _ (book buffer : List ℕ) (decl : ℕ) (below : decl < 2 ^ 32) (width t 
 
   -- one record
   goes-one : (kind w a n : ℕ) → Held (rec-of decl kind w a n) → (kind ≡ 1 → ⊥) → (kind ≡ 3 → ⊥) → leafBy book width t k (rec-of decl kind w a n) buffer mem ≡ holds mem
-      → Emits book buffer LeafBack (one (rec (rec-of decl kind w a n)))
-  unfolding tapeBytes
-  goes-one kind w a n h p q e =
-      record { emits = λ from s. record { r = rec-of decl kind w a n; held = h; bytes = append-nil (recordBytes (rec-of decl kind w a n)); no-array = p; no-map = q; writes = e } }
+      → Emits book buffer BackBy (one (rec (rec-of decl kind w a n)))
+  goes-one = one-back book buffer decl below mem b (λ r. leafBy book width t k r buffer mem)
 
   -- ---- integers
 
   module _ (id : AdsTypeId) (same : (v : Integer) → integerLeaf book width t v mem k ≡ integerBy id v mem) where
-    integer-writes : (v : Integer) → read.Value v ≡ readInteger id mem → integerLeaf book width t v mem k ≡ holds mem
-    unfolding integerBy integerAfter
-    integer-writes v e =
-        let w = integer-back id mem b v e mem refl in
-        let d : writeInteger id v mem ≡ write.Done = sym (integer-write-is _ _ (w .answer)) in
-        let q : mem ≡ integerBytes id v = rw d at (w .buffer) in
-        same v ∙ rw d (ap holds (sym q))
-
     goes-integer : Goes (leaves.integerLeaf (readInteger id mem))
-    unfolding leafBy leaves.integerLeaf integerReadNumbers
-    goes-integer = by (readInteger id mem) refl (read-fine book mem b id)
-      where
-        by : (r : IntegerRead) → r ≡ readInteger id mem → FineValue book (leaves.integerLeaf r) → Goes (leaves.integerLeaf r)
-        by (read.Value (integer.Signed w n)) e f =
-            let x = f .fine in
-            let m = x .most in
-            record { goes = λ h. goes-one 7 w 0 n (held-of decl 7 w 0 n below (omega arith) (omega arith) (omega arith) (rw (x .is) (bits-small (x .number)))) (λ z. omega arith) (λ z. omega arith) (integer-writes (integer.Signed w n) e) }
-        by (read.Value (integer.Unsigned w n)) e f =
-            let x = f .fine in
-            let m = x .most in
-            let l = x .small in
-            let o : 2 ^ (8 * w) ≤ 2 ^ 64 = pow-most w m in
-            record { goes = λ h. goes-one 8 w 0 n (held-of decl 8 w 0 n below (omega arith) (omega arith) (omega arith) (omega arith)) (λ z. omega arith) (λ z. omega arith) (integer-writes (integer.Unsigned w n) e) }
-        by read.Size e f = goes-refused 10
-        by read.Unsupported e f = goes-refused 11
+    unfolding leafBy
+    goes-integer = record {
+      goes = λ h. integer-goes book buffer decl below mem b (λ r. leafBy book width t k r buffer mem) id (λ w n. same (integer.Signed w n)) (λ w n. same (integer.Unsigned w n));
+    }
 
   -- ---- reals
 
@@ -161,7 +181,7 @@ module _ (book buffer : List ℕ) (decl : ℕ) (below : decl < 2 ^ 32) (width t 
       rw (eq-eqb (typeIdOf book t) (realId d) e) (exactly-back (leBytes (realBytes d) n) mem z)
 
   module _ (d : typeIdOf book t ≡ 4) (l : length mem ≡ 4) where
-    single-goes : (n : ℕ) → n ≡ leValue mem → n < 2 ^ 32 → Emits book buffer LeafBack (one (rec (rec-of decl 9 0 0 n)))
+    single-goes : (n : ℕ) → n ≡ leValue mem → n < 2 ^ 32 → Emits book buffer BackBy (one (rec (rec-of decl 9 0 0 n)))
     unfolding leafBy
     single-goes n q s = goes-one 9 0 0 n (held-of decl 9 0 0 n below (omega arith) (omega arith) (omega arith) (omega arith)) (λ z. omega arith) (λ z. omega arith) (real-writes false n d q l)
 
@@ -181,7 +201,7 @@ module _ (book buffer : List ℕ) (decl : ℕ) (below : decl < 2 ^ 32) (width t 
         by false e = record { goes = λ h. single-goes _ (e ∙ small) (rw (e, small) s) }
 
   module _ (d : typeIdOf book t ≡ 5) (l : length mem ≡ 8) where
-    double-goes : (n : ℕ) → n ≡ leValue mem → n < 2 ^ 64 → Emits book buffer LeafBack (one (rec (rec-of decl 10 0 0 n)))
+    double-goes : (n : ℕ) → n ≡ leValue mem → n < 2 ^ 64 → Emits book buffer BackBy (one (rec (rec-of decl 10 0 0 n)))
     unfolding leafBy
     double-goes n q s = goes-one 10 0 0 n (held-of decl 10 0 0 n below (omega arith) (omega arith) (omega arith) (omega arith)) (λ z. omega arith) (λ z. omega arith) (real-writes true n d q l)
 
@@ -261,7 +281,7 @@ module _ (book buffer : List ℕ) (decl : ℕ) (below : decl < 2 ^ 32) (width t 
     record-text w from xs s =
         rw (le-leb (from + length xs) (length buffer) (s .inside)) (ap (take (length xs)) (s .is) ∙ take-append-seam xs (s .rest))
 
-    goes-one-text : (w : ℕ) (xs : List ℕ) → w ≤ 1 → textBy (typeIdOf book t) xs mem ≡ holds mem → Emits book buffer LeafBack (one (text w decl xs))
+    goes-one-text : (w : ℕ) (xs : List ℕ) → w ≤ 1 → textBy (typeIdOf book t) (flagOf book t 5) xs mem ≡ holds mem → Emits book buffer BackBy (one (text w decl xs))
     unfolding tapeBytes textBytes leafBy textLeaf
     goes-one-text w xs o e =
         record {
@@ -278,18 +298,38 @@ module _ (book buffer : List ℕ) (decl : ℕ) (below : decl < 2 ^ 32) (width t 
               };
         }
 
-    narrow-back : (n : ℕ) → typeIdOf book t ≡ 30 → zerosAfter n 1 mem ≡ true → textBy (typeIdOf book t) (decodedBy decoder.Windows1252 (take n mem)) mem ≡ holds mem
-    unfolding textBy decodedBy
-    narrow-back n e h = rw e (padded-back _ n 1 (encode-decode (take n mem) (record { each = bytes-take n mem b })) h)
+    narrow-back : (n : ℕ) → typeIdOf book t ≡ 30 → flagOf book t 5 ≡ false → zerosAfter n 1 mem ≡ true
+        → textBy (typeIdOf book t) (flagOf book t 5) (decodedBy decoder.Windows1252 (take n mem)) mem ≡ holds mem
+    unfolding textBy stringBytes decodedBy
+    narrow-back n e m h = rw (e, m) (padded-back _ n 1 (encode-decode (take n mem) (record { each = bytes-take n mem b })) h)
+
+    marked-back : (n : ℕ) → typeIdOf book t ≡ 30 → flagOf book t 5 ≡ true → zerosAfter n 1 mem ≡ true → wellFormed (take n mem) ≡ true
+        → textBy (typeIdOf book t) (flagOf book t 5) (decodedBy decoder.Utf8 (take n mem)) mem ≡ holds mem
+    unfolding textBy stringBytes decodedBy
+    marked-back n e m h q = rw (e, m) (padded-back _ n 1 (text-formed (take n mem) q) h)
 
     wide-back : (n : ℕ) → typeIdOf book t ≡ 31 → zerosAfter n 2 mem ≡ true → isWhole (take n mem) ≡ true
-        → textBy (typeIdOf book t) (decodedBy decoder.Utf16 (take n mem)) mem ≡ holds mem
+        → textBy (typeIdOf book t) (flagOf book t 5) (decodedBy decoder.Utf16 (take n mem)) mem ≡ holds mem
     unfolding textBy decodedBy isWhole
     wide-back n e h q = rw e (padded-back _ n 2 (wide-again (take n mem) (bytes-take n mem b) q) h)
 
-    goes-narrow : (end : TextEnd) → typeIdOf book t ≡ 30 → Goes (value.Text decoder.Windows1252 end)
+    goes-narrow : (end : TextEnd) → typeIdOf book t ≡ 30 → flagOf book t 5 ≡ false → Goes (value.Text decoder.Windows1252 end)
     unfolding leafKept textKept
-    goes-narrow end e = record { goes = λ h. goes-one-text _ _ (end-small end) (narrow-back (endsAt end) e h) }
+    goes-narrow end e m = record { goes = λ h. goes-one-text _ _ (end-small end) (narrow-back (endsAt end) e m h) }
+
+    goes-marked : (end : TextEnd) → typeIdOf book t ≡ 30 → flagOf book t 5 ≡ true → Goes (value.Text decoder.Utf8 end)
+    unfolding leafKept textKept
+    goes-marked end e m =
+        record {
+          goes = λ h.
+              goes-one-text _ _ (end-small end) (marked-back (endsAt end) e m (and-left (zerosAfter (endsAt end) 1 mem) _ h) (and-right (zerosAfter (endsAt end) 1 mem) _ h));
+        }
+
+    -- a STRING, by its mark
+    goes-string : typeIdOf book t ≡ 30 → (m : Bool) → flagOf book t 5 ≡ m
+        → Goes (value.Text (cond m decoder.Utf8 decoder.Windows1252) (endBy (cond m decoder.Utf8 decoder.Windows1252) mem))
+    goes-string e true m = goes-marked _ e m
+    goes-string e false m = goes-narrow _ e m
 
     goes-wide : (end : TextEnd) → typeIdOf book t ≡ 31 → Goes (value.Text decoder.Utf16 end)
     unfolding leafKept textKept
@@ -304,7 +344,7 @@ module _ (book buffer : List ℕ) (decl : ℕ) (below : decl < 2 ^ 32) (width t 
     goes-text h =
         goes-cond (eqb (length mem) (sizeOf book t)) _ _
         (λ l. ⊎-elim
-        (λ e. rw e (goes-narrow _ e))
+        (λ e. rw e (goes-string e (flagOf book t 5) refl))
         (λ e. rw e (goes-wide _ e))
         h)
         (λ l. goes-refused 10)
@@ -396,7 +436,30 @@ module _ (book buffer : List ℕ) (small : length buffer < 2 ^ 64) (valid : Vali
   by-category category.Reference e = goes-pointer book buffer decl below width t mem b _ refl
   by-category category.Interface e = goes-pointer book buffer decl below width t mem b _ refl
 
+  -- a count of time: by its own width
+  count-cond : (n : ℕ) (x : Bool) (v w : LeafValue)
+      → (x ≡ true → Emits book buffer (LeafBack book buffer decl below mem b (λ r. countLeaf n r mem)) (traceOf decl v mem))
+      → (x ≡ false → Emits book buffer (LeafBack book buffer decl below mem b (λ r. countLeaf n r mem)) (traceOf decl w mem))
+      → Emits book buffer (LeafBack book buffer decl below mem b (λ r. countLeaf n r mem)) (traceOf decl (cond x v w) mem)
+  count-cond n true v w p q = p refl
+  count-cond n false v w p q = q refl
+
+  count-goes : (n : ℕ) → Emits book buffer (LeafBack book buffer decl below mem b (λ r. countLeaf n r mem)) (traceOf decl (leaves.pointerLeaf n mem) mem)
+  unfolding leaves.pointerLeaf pointerLeaf countLeaf
+  count-goes n =
+      count-cond n (eqb n 2) _ _ (λ p. integer-goes book buffer decl below mem b (λ r. countLeaf n r mem) UInt16 (λ w m. rw p) (λ w m. rw p))
+      (λ p. count-cond n (eqb n 4) _ _ (λ q. integer-goes book buffer decl below mem b (λ r. countLeaf n r mem) UInt32 (λ w m. rw (p, q)) (λ w m. rw (p, q)))
+      (λ q. count-cond n (eqb n 8) _ _ (λ s. integer-goes book buffer decl below mem b (λ r. countLeaf n r mem) UInt64 (λ w m. rw (p, q, s)) (λ w m. rw (p, q, s))) (λ s. record { emits = tt })))
+
+  by-count : (c : AdsTypeCategory) → GoesAs c → (n : ℕ) (x : Bool)
+      → leafKept book t mem (cond x (leaves.kindLeaf book width t mem (kindOfLeaf c)) (leaves.pointerLeaf n mem)) ≡ true
+      → Emits book buffer (LeafBack book buffer decl below mem b (λ r. cond x (leafBy book width t (targetOf c) r buffer mem) (countLeaf n r mem)))
+      (traceOf decl (cond x (leaves.kindLeaf book width t mem (kindOfLeaf c)) (leaves.pointerLeaf n mem)) mem)
+  by-count c g n true h = g .goes h
+  by-count c g n false h = count-goes n
+
   pub leaf-back : leafKept book t mem (leafAt book width t mem) ≡ true
-      → Emits book buffer (LeafBack book buffer decl below width t mem b (targetOf (categoryOf book width t))) (traceOf decl (leafAt book width t mem) mem)
-  unfolding leafAt leaves.leafBy
-  leaf-back h = by-category (categoryOf book width t) refl .goes h
+      → Emits book buffer (LeafBack book buffer decl below mem b (λ r. leafFor book width t (categoryOf book width t) r buffer mem)) (traceOf decl (leafAt book width t mem) mem)
+  unfolding leafAt leaves.leafBy leafFor
+  leaf-back h =
+      by-count (categoryOf book width t) (by-category (categoryOf book width t) refl) (countWidth book t (categoryOf book width t)) (eqb (countWidth book t (categoryOf book width t)) 0) h

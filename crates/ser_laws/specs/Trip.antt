@@ -5,7 +5,7 @@ use mathlib.Core.List.{List}
 use Prim.Native.Nat.{ℕ, zero, suc, _+_, _-_}
 use lib.ListN.{length, getD, take, drop, replicate}
 use lib.Dec.{eqb, leb}
-use Rattle.enc_utf_8.specs.Utf8.{noError}
+use Rattle.enc_utf_8.specs.Utf8.{noError, wellFormed}
 use Rattle.enc_utf_16.specs.Decode as utf16
 use Rattle.type_book.specs.Book.{nameOf, valueOf, fieldsOf, countOf, sameName}
 use Rattle.type_provider.specs.declared.Found.{Found}
@@ -44,13 +44,13 @@ unfoldable pub entryKept : List ℕ → List ℕ → Found → Bool
 entryKept book mem (found.At m) = sameName (valueOf book m) mem
 entryKept book mem found.Nothing = false
 
--- by its decoder, a text of n bytes is ended and has zeros alone after its end, and a WSTRING's is whole
+-- by its decoder, a text of n bytes is ended and has zeros alone after its end; a WSTRING's is whole, and that of a STRING in UTF-8 is well-formed
 unfoldable pub textKept : Decoder → ℕ → List ℕ → Bool
 textKept decoder.Windows1252 n mem = zerosAfter n 1 mem
 textKept decoder.Utf16 n mem = zerosAfter n 2 mem && isWhole (take n mem)
+textKept decoder.Utf8 n mem = zerosAfter n 1 mem && wellFormed (take n mem)
 
--- by a leaf's value: a bool's byte is 0 or 1; a text is ended and has zeros alone after its end, and a WSTRING's is whole; the first entry of
--- an entry's name has its value; there is no unit, which no type takes; an integer and a real always come back
+-- by a leaf's value: a bool's byte is 0 or 1; a text comes back by its decoder (above); the first entry of an entry's name has its value; there is no unit, which no type takes; an integer and a real always come back
 unfoldable pub leafKept : List ℕ → ℕ → List ℕ → LeafValue → Bool
 leafKept book t mem (leaf.Signed w b) = true
 leafKept book t mem (leaf.Unsigned w n) = true

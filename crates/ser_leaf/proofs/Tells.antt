@@ -74,9 +74,9 @@ module _ (P : ℕ → Type 0) where
     unfolding padded
     tells-padded bs zeros old = tells-cond (leb (length bs + zeros) (length old)) _ _ (tells-holds _) (tells-refused 10 p10)
 
-    tells-text-by : (id : ℕ) (text old : List ℕ) → Tells P (textBy id text old)
+    tells-text-by : (id : ℕ) (marked : Bool) (text old : List ℕ) → Tells P (textBy id marked text old)
     unfolding textBy
-    tells-text-by id text old = tells-cond (eqb id 30) _ _ (tells-padded _ 1 old) (tells-cond (eqb id 31) _ _ (tells-padded _ 2 old) (tells-refused 17 p17))
+    tells-text-by id marked text old = tells-cond (eqb id 30) _ _ (tells-padded _ 1 old) (tells-cond (eqb id 31) _ _ (tells-padded _ 2 old) (tells-refused 17 p17))
 
     module _ (book : List ℕ) (width t : ℕ) (old : List ℕ) where
       tells-bool : (b : ℕ) → Tells P (boolLeaf book t b old)
@@ -111,8 +111,8 @@ module _ (P : ℕ → Type 0) where
       tells-text : (text : List ℕ) (k : Target) → Tells P (textLeaf book t text old k)
       unfolding textLeaf
       tells-text text target.Enum = tells-entry text
-      tells-text text target.Pointer = tells-text-by _ text old
-      tells-text text target.Other = tells-text-by _ text old
+      tells-text text target.Pointer = tells-text-by _ _ text old
+      tells-text text target.Other = tells-text-by _ _ text old
 
       -- a leaf's record; 16 is told of a record of another kind alone
       pub leaf-tells : (k : Target) (r : Record) (text : List ℕ)

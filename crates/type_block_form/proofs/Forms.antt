@@ -1,6 +1,6 @@
 -- The form of one block: one law for each way out of each function. Assumes nothing.
 use mathlib.Core.Path.{_≡_, refl, sym, ap, _∙_}
-use mathlib.Core.Bool.{Bool, true, false, _&&_, not}
+use mathlib.Core.Bool.{Bool, true, false, cond, _&&_, not}
 use mathlib.Core.List.{List}
 use Prim.Native.Nat.{ℕ, _*_, _-_, _≤_, _<_}
 use native.Mathlib.Omega.{arith}
@@ -55,13 +55,21 @@ module _ (b : List ℕ) where
       names-rest h r s = rw (← e, ← q, not-false t g, ← f, ← o, not-false u h) s
 
 -- the flags of a type block, and the one place that opens their form
-pub flags-is : (flags id : ℕ) → ltb flags 32 ≡ flagsForm flags id
+pub flags-string : (flags id : ℕ) → id ≡ 30 → ltb flags 64 ≡ flagsForm flags id
 unfolding flagsForm
-flags-is flags id = refl
+flags-string flags id h = rw (eq-eqb id 30 h)
 
-pub flags-below : (flags id : ℕ) → flagsForm flags id ≡ true → flags < 32
+pub flags-other : (flags id : ℕ) → (id ≡ 30 → ⊥) → ltb flags 32 ≡ flagsForm flags id
 unfolding flagsForm
-flags-below flags id h = ltb-true flags 32 h
+flags-other flags id h = rw (ne-eqb id 30 h)
+
+pub flags-below : (flags id : ℕ) → flagsForm flags id ≡ true → flags < 64
+unfolding flagsForm
+flags-below flags id h = by (eqb id 30) h
+  where
+    by : (t : Bool) → cond t (ltb flags 64) (ltb flags 32) ≡ true → flags < 64
+    by true q = ltb-true flags 64 q
+    by false q = let z = ltb-true flags 32 q in omega arith
 
 module _ (b : List ℕ) where
   pub type-kind : (getD b 0 0 ≡ 1 → ⊥) → false ≡ typeForm b

@@ -1,6 +1,6 @@
 -- Refusals 2 and 3 of one block, as its list of 512 bytes: its sum, and the bytes that each kind allows (document 01, "The type book").
 -- Assumes nothing.
-use mathlib.Core.Bool.{Bool, true, _&&_}
+use mathlib.Core.Bool.{Bool, true, cond, _&&_}
 use mathlib.Core.List.{List, [], _∷_}
 use Prim.Native.Nat.{ℕ, _+_, _*_, _-_}
 use lib.ListN.{getD, take, drop, length}
@@ -47,9 +47,9 @@ namesForm block =
     nameForm (getD block 52 0) (part 54 254 block)
     && (nameForm (getD block 53 0) (part 254 454 block) && every isZero (part 454 508 block))
 
--- byte 1 of a type block, by its type id: bits 0 to 4, whatever the id is
+-- byte 1 of a type block, by its type id: bits 0 to 4, and bit 5 on an id 30 (STRING), whatever the category is
 unfoldable pub flagsForm : ℕ → ℕ → Bool
-flagsForm flags id = ltb flags 32
+flagsForm flags id = cond (eqb id 30) (ltb flags 64) (ltb flags 32)
 
 -- a type block: flags that its type id allows, at most eight dimensions, the counts that they use, two names
 unfoldable pub typeForm : List ℕ → Bool

@@ -108,10 +108,13 @@ fn names_form(block: &[u8]) -> bool
     all_zero(&block[454..508])
 }
 
-// The flags of a type block: five bits, whatever its type id is.
+// The flags of a type block: five bits, and a sixth that marks a STRING (id 30) as UTF-8.
 fn flags_form(flags: u8, id: u32) -> bool
     ensures { λ r. ⌜ r ≡ flagsForm flags id ⌝ }
 {
+    if id == 30 {
+        return flags < 64;
+    }
     flags < 32
 }
 

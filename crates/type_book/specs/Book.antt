@@ -31,7 +31,7 @@ kindOf book n = byteAt book n 0
 abbrev pub isType : List ℕ → ℕ → Bool
 isType book n = eqb (kindOf book n) 1
 
--- bit i of byte 1: 0 pointer, 1 reference, 2 enum, 3 has methods, 4 TcImplements
+-- bit i of byte 1: 0 pointer, 1 reference, 2 enum, 3 has methods, 4 TcImplements, 5 a STRING in UTF-8
 abbrev pub flagOf : List ℕ → ℕ → ℕ → Bool
 flagOf book n i = eqb (byteAt book n 1 / 2 ^ i % 2) 1
 

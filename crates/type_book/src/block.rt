@@ -117,6 +117,13 @@ pub fn has_tc_implements(book: &[u8], n: u32) -> bool
     has_flag(book, n, 16)
 }
 
+// Whether a STRING is marked as UTF-8.
+pub fn is_utf_8(book: &[u8], n: u32) -> bool
+    ensures { λ r. ⌜ r ≡ flagOf (now (book .entry)) n 5 ⌝ }
+{
+    has_flag(book, n, 32)
+}
+
 pub fn dimensions(book: &[u8], n: u32) -> u8
     ensures { λ r. ⌜ r ≡ dimensionsOf (now (book .entry)) n ⌝ }
 {

@@ -40,7 +40,7 @@ pub record Names (book : List ℕ) (n : ℕ) : Type 0 where
 
 pub record IsType (book : List ℕ) (n : ℕ) : Type 0 where
   pub kind : kindOf book n ≡ 1
-  pub flags : byteAt book n 1 < 32
+  pub flags : byteAt book n 1 < 64
   pub dimensions : dimensionsOf book n ≤ 8
   pub names : Names book n
 

@@ -37,7 +37,7 @@ pub fn kind(book: &[u8], n: u32) -> u8 {
     byte(book, n, 0)
 }
 
-/// A type's flag: 0 pointer, 1 reference, 2 enum, 3 has methods, 4 TcImplements.
+/// A type's flag: 0 pointer, 1 reference, 2 enum, 3 has methods, 4 TcImplements, 5 a STRING in UTF-8.
 pub fn flag(book: &[u8], n: u32, bit: u8) -> bool {
     byte(book, n, 1) >> bit & 1 == 1
 }

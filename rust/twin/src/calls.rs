@@ -54,6 +54,11 @@ pub fn utf_16_encode(bytes: &[u8], out: &mut [u8]) -> Option<usize> {
     put(&text::utf_16_encode(&String::from_utf8_lossy(bytes)), out, 0)
 }
 
+/// As the library's `utf_8_decode`.
+pub fn utf_8_decode(bytes: &[u8], out: &mut [u8], at: usize) -> Option<usize> {
+    put(text::utf_8_decode(bytes).as_bytes(), out, at)
+}
+
 /// As the library's `find`: a linear search.
 pub fn find(book: &[u8], name: &[u8]) -> Option<u32> {
     (0..block::count(book)).find(|&n| block::kind(book, n) == 1 && block::name(book, n) == name)

@@ -68,7 +68,9 @@ fn names(b: &[u8]) -> bool {
 
 fn is_type_form(b: &[u8]) -> bool {
     let counts = usize::from(b[2]);
-    b[0] == 1 && b[1] < 32 && counts <= 8 && b[3] == 0 && zero(&b[20 + 4 * counts..52]) && names(b)
+    // Bit 5 marks a STRING (id 30) as UTF-8.
+    let flags = b[1] < if b[4..8] == [30, 0, 0, 0] { 64 } else { 32 };
+    b[0] == 1 && flags && counts <= 8 && b[3] == 0 && zero(&b[20 + 4 * counts..52]) && names(b)
 }
 
 fn is_field_form(b: &[u8]) -> bool {

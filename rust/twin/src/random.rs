@@ -119,8 +119,11 @@ impl Maker<'_> {
         if self.odd() {
             match self.rng.below(5) {
                 0 => t.size = t.size.wrapping_add(self.rng.pick(&[1, 2, 4, 1000, u32::MAX])),
-                1 => t.id = self.rng.pick(&IDS),
-                2 => t.flags ^= 1 << self.rng.below(5),
+                1 => {
+                    t.id = self.rng.pick(&IDS);
+                    t.flags &= if t.id == 30 { 63 } else { 31 };
+                }
+                2 => t.flags ^= 1 << self.rng.below(if t.id == 30 { 6 } else { 5 }),
                 3 => t.type_name = self.some_name(),
                 _ => t.size = 0,
             }
@@ -152,7 +155,8 @@ impl Maker<'_> {
             0 => {
                 let size = self.rng.pick(&[0, 1, 2, 5, 9, 33]);
                 let name = self.fresh("STRING");
-                self.add(Type::new(&name).id(30).size(size), size);
+                let flags = self.rng.pick(&[0, 32]);
+                self.add(Type::new(&name).id(30).size(size).flags(flags), size);
             }
             1 => {
                 let size = self.rng.pick(&[0, 1, 2, 6, 7, 20]);
@@ -397,7 +401,8 @@ fn senseless(rng: &mut Rng, name: &str) -> Type {
     if rng.chance(200) {
         t.dimensions = (0..1 + rng.below(8)).map(|_| rng.pick(&[0, 1, 1, 2, 2, 3])).collect();
     }
-    t.flags = (0..5).map(|bit| u8::from(rng.chance(80)) << bit).sum();
+    let bits = if t.id == 30 { 6 } else { 5 };
+    t.flags = (0..bits).map(|bit| u8::from(rng.chance(80)) << bit).sum();
     if t.flags & 4 != 0 || rng.chance(50) {
         for _ in 0..rng.below(4) {
             let value = [rng.below(3) as u8, 0, 0, 0, 0, 0, 0, 0];

@@ -2,7 +2,7 @@
 
 use crate::category::{Category, determine};
 use crate::resolve::{Field, fields, look_up, resolve};
-use crate::{Book, Stop, block, text};
+use crate::{Book, Stop, block, text, time};
 
 const MOST_LEVELS: u32 = 64;
 const RECORD: usize = 24;
@@ -84,13 +84,18 @@ impl Reader<'_, '_> {
             return Err(Stop::Number(14));
         }
         let (book, t, named) = (self.book.bytes, of.is, of.named);
-        match determine(book, self.width, t) {
+        let category = determine(book, self.width, t);
+        if let Some(width) = time::count_width(block::name(book, t), category) {
+            return self.unsigned(named, width, bytes);
+        }
+        match category {
             Category::Primitive | Category::SubRange | Category::Bitset => self.number(of, bytes),
             Category::String => {
                 self.same_size(t, bytes)?;
-                let (text, ended) = match block::id(book, t) == 31 {
-                    true => (text::wstring(bytes), text::wstring_ended(bytes)),
-                    false => (text::string(bytes), text::string_ended(bytes)),
+                let (text, ended) = match (block::id(book, t), block::flag(book, t, 5)) {
+                    (31, _) => (text::wstring(bytes), text::wstring_ended(bytes)),
+                    (_, true) => (text::marked_string(bytes), text::string_ended(bytes)),
+                    (_, false) => (text::string(bytes), text::string_ended(bytes)),
                 };
                 self.sink.text(named, &text, ended)
             }
@@ -138,10 +143,14 @@ impl Reader<'_, '_> {
         if !matches!(self.width, 2 | 4 | 8) {
             return Err(Stop::Number(13));
         }
-        if bytes.len() != usize::from(self.width) {
+        self.unsigned(named, self.width, bytes)
+    }
+
+    fn unsigned(&mut self, named: u32, width: u8, bytes: &[u8]) -> Result<(), Stop> {
+        if bytes.len() != usize::from(width) {
             return Err(Stop::Number(10));
         }
-        self.sink.record(8, self.width, named, 0, low_first(bytes))
+        self.sink.record(8, width, named, 0, low_first(bytes))
     }
 
     fn entry(&mut self, of: Type, bytes: &[u8]) -> Result<(), Stop> {

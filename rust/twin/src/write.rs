@@ -233,6 +233,7 @@ impl<'w> Writer<'w> {
         let id = block::id(self.book.bytes, t);
         let (bytes, zeros) = match id {
             _ if self.category(t) == Category::Enum => return self.entry(t, text.as_bytes(), out),
+            30 if block::flag(self.book.bytes, t, 5) => (text.as_bytes().to_vec(), 1),
             30 => (text::windows_1252_encode(text), 1),
             31 => (text::utf_16_encode(text), 2),
             _ => return Err(MISMATCH),

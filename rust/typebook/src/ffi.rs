@@ -25,6 +25,8 @@ mod raw {
             at: usize,
         ) -> u64;
         pub fn gateway_utf_16_encode(text: *const u8, text_len: usize, out: *mut u8, out_len: usize) -> u64;
+        pub fn gateway_utf_8_decode(bytes: *const u8, bytes_len: usize, out: *mut u8, out_len: usize, at: usize)
+        -> u64;
         pub fn gateway_utf_8_well_formed(text: *const u8, text_len: usize) -> u8;
         pub fn gateway_find(book: *const u8, book_len: usize, name: *const u8, name_len: usize) -> u32;
         pub fn gateway_find_by(
@@ -292,6 +294,11 @@ pub mod total {
     /// Encodes UTF-8 as UTF-16, low byte first.
     pub fn utf_16_encode(text: &[u8], out: &mut [u8]) -> Option<usize> {
         place(unsafe { raw::gateway_utf_16_encode(text.as_ptr(), text.len(), out.as_mut_ptr(), out.len()) })
+    }
+
+    /// Decodes UTF-8, U+FFFD for each ill-formed part, from `at` on.
+    pub fn utf_8_decode(bytes: &[u8], out: &mut [u8], at: usize) -> Option<usize> {
+        place(unsafe { raw::gateway_utf_8_decode(bytes.as_ptr(), bytes.len(), out.as_mut_ptr(), out.len(), at) })
     }
 
     /// Whether a text is well-formed UTF-8.
@@ -645,6 +652,7 @@ pub mod total {
                 assert_eq!(raw::gateway_windows_1252_encode(null(), 0, null_mut(), 0), 0);
                 assert_eq!(raw::gateway_utf_16_decode(null(), 0, null_mut(), 0, 0), 0);
                 assert_eq!(raw::gateway_utf_16_encode(null(), 0, null_mut(), 0), 0);
+                assert_eq!(raw::gateway_utf_8_decode(null(), 0, null_mut(), 0, 0), 0);
                 assert_eq!(raw::gateway_utf_8_well_formed(null(), 0), 1);
             }
         }

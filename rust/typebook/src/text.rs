@@ -38,6 +38,15 @@ pub fn to_utf_16(text: &str) -> Vec<u8> {
     encoded(text, 2, total::utf_16_encode)
 }
 
+/// The text of UTF-8 bytes; each ill-formed part becomes U+FFFD, as the Encoding Standard has it, and a byte order mark stays.
+///
+/// ```
+/// assert_eq!(typebook::text::from_utf_8(b"A\xF0\x80"), "A\u{fffd}\u{fffd}");
+/// ```
+pub fn from_utf_8(bytes: &[u8]) -> String {
+    decoded(bytes, 3, total::utf_8_decode)
+}
+
 /// Whether bytes are well-formed UTF-8.
 ///
 /// ```

@@ -400,6 +400,10 @@ fn texts() {
             calls::utf_16_decode(&bytes, &mut out, at),
             twin::calls::utf_16_decode(&bytes, &mut other, at)
         );
+        assert_eq!(
+            calls::utf_8_decode(&bytes, &mut out, at),
+            twin::calls::utf_8_decode(&bytes, &mut other, at)
+        );
         assert_eq!(out, other);
         assert_eq!(
             calls::windows_1252_encode(&bytes, &mut out),
@@ -423,6 +427,7 @@ fn texts() {
             twin::text::windows_1252_decode(&bytes)
         );
         assert_eq!(typebook::text::from_utf_16(&bytes), twin::text::utf_16_decode(&bytes));
+        assert_eq!(typebook::text::from_utf_8(&bytes), twin::text::utf_8_decode(&bytes));
     }
 }
 

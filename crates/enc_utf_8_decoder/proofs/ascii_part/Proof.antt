@@ -1,0 +1,52 @@
+use Rattle.enc_utf_8_decoder.proofs.Blocks.{not-told, part-inside, part-told}
+use borrow.Author.Needs.{needs}
+use Rattle.enc_utf_8_decoder.proofs.ascii_part.Statement.{statement}
+use Rattle.enc_utf_8_decoder.proofs.ascii_part.Tie as tie
+use Rattle.enc_utf_8_decoder.proofs.ascii_part.Reads as reads
+use Rattle.enc_utf_8_decoder.proofs.ascii_part.Lts as lts
+use Rattle.enc_ascii.proofs.is_ascii.Reads as is-ascii-reads
+
+-- src/lib.rt:236:8
+sub-if1 : tie.Need-sub-if1
+sub-if1 c = search needs
+
+-- src/lib.rt:237:9
+returns : tie.Need-returns
+returns c = search not-told
+
+-- src/lib.rt:239:24
+add-is-ascii : tie.Need-add-is-ascii
+add-is-ascii c = search needs
+
+-- src/lib.rt:239:14
+sub-is-ascii : tie.Need-sub-is-ascii
+sub-is-ascii c = search needs
+
+-- src/lib.rt:239:14
+part-is-ascii-start : tie.Need-part-is-ascii-start
+part-is-ascii-start c = search needs
+
+-- src/lib.rt:239:14
+part-is-ascii-end : tie.Need-part-is-ascii-end
+part-is-ascii-end c = search needs
+
+-- src/lib.rt:239:5
+is-ascii-requires : tie.Need-is-ascii-requires
+is-ascii-requires c κs = search needs
+
+-- src/lib.rt:232:1
+returns-2 : tie.Need-returns-2
+returns-2 c = search (part-inside, part-told)
+
+pub ascii-part-spec : {M : Type 1} → statement M
+ascii-part-spec =
+    tie.close
+    (tie.spec
+    sub-if1
+    returns
+    add-is-ascii
+    sub-is-ascii
+    part-is-ascii-start
+    part-is-ascii-end
+    is-ascii-requires
+    returns-2)
