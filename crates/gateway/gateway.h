@@ -76,6 +76,12 @@ uint32_t gateway_find(const uint8_t *book, size_t book_len, const uint8_t *name,
 uint32_t gateway_find_by(const uint8_t *book, size_t book_len, const uint32_t *index, size_t index_len, const uint8_t *name,
                          size_t name_len);
 
+/* Builds an index of the names of the book's types into all of `index`, for gateway_requires_read_modify_write and gateway_missing_types, once
+ * the book has passed its checks. Returns 0; or 1 to 4 of the book, or 6 where `index` has fewer than 16,384 elements: `index` is then as
+ * before. Each type block takes, in the book's order, the first free of 64 slots from its name's place on; an element is 0 or one more than a
+ * type block's number. An index of another book may cost time and alters no answer. */
+uint8_t gateway_build_index(const uint8_t *buffer, size_t buffer_len, size_t len, uint32_t *index, size_t index_len);
+
 /* Fills `index` with the names of the book's types: each element is 0, or one more than a type block's number. Four elements for each
  * type serve well; 16,384 do for any book of 4,096 types. For a call or two. */
 void gateway_fill_names(const uint8_t *book, size_t book_len, uint32_t *index, size_t index_len);
@@ -139,18 +145,21 @@ uint8_t gateway_resolve_alias_in(const uint8_t *book, size_t book_len, const uin
 uint8_t gateway_resolve_indirection_in(const uint8_t *book, size_t book_len, const uint32_t *index, size_t index_len, uint8_t width,
                                        uint32_t root, uint64_t *values, size_t values_len);
 
-/* ---- the walk of the types that a type is made of: 8,192 numbers of scratch, 4,096 of a list */
+/* ---- the walk of the types that a type is made of: 16,384 numbers of an index, 8,192 of scratch, 4,096 of a list. The index is one that
+ * gateway_build_index made of the book; any other gives the same answers, later */
 
 /* 0: values: 1 where the memory of a value of the root's type must be read, changed and written back, else 0.
  * Else 1 to 6, 7, 8, 9. Scratch: as before after 1 to 6, else all zero. */
-uint8_t gateway_requires_read_modify_write(const uint8_t *buffer, size_t buffer_len, size_t len, uint8_t width, uint64_t root,
-                                           uint32_t *scratch, size_t scratch_len, uint64_t *values, size_t values_len);
+uint8_t gateway_requires_read_modify_write(const uint8_t *buffer, size_t buffer_len, size_t len, const uint32_t *index, size_t index_len,
+                                           uint8_t width, uint64_t root, uint32_t *scratch, size_t scratch_len, uint64_t *values,
+                                           size_t values_len);
 
 /* 0: values: how many types that the root is made of are not in the book, 1 where the walk is whole (else 0), and how many distinct
  * names were met. `list` starts with the blocks that name the missing types, in the order found, the rest as before; scratch all zero.
  * Else 1 to 6; scratch and list are then as before. */
-uint8_t gateway_missing_types(const uint8_t *buffer, size_t buffer_len, size_t len, uint8_t width, uint64_t root, uint32_t *scratch,
-                              size_t scratch_len, uint32_t *list, size_t list_len, uint64_t *values, size_t values_len);
+uint8_t gateway_missing_types(const uint8_t *buffer, size_t buffer_len, size_t len, const uint32_t *index, size_t index_len, uint8_t width,
+                              uint64_t root, uint32_t *scratch, size_t scratch_len, uint32_t *list, size_t list_len, uint64_t *values,
+                              size_t values_len);
 
 /* gateway_requires_read_modify_write in a checked book: 0, 6, 7, 8, 9. Scratch: as before after 6, else all zero. */
 uint8_t gateway_requires_read_modify_write_in(const uint8_t *book, size_t book_len, const uint32_t *index, size_t index_len,

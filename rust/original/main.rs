@@ -272,11 +272,12 @@ fn walks() {
         || by_names.missing_types_with(WIDTH, &mut scratch),
         || missing_types(&original, &cache),
     );
-    let (mut numbers, mut list) = (vec![0; 8_192], vec![0; 4_096]);
+    let (mut numbers, mut list, mut index) = (vec![0; 8_192], vec![0; 4_096], vec![0; typebook::calls::INDEX]);
+    assert_eq!(typebook::calls::build_index(&bytes, bytes.len(), &mut index), 0);
     pair(
         "missing_types, whole call with its checks",
         15,
-        || typebook::calls::missing_types(&bytes, bytes.len(), WIDTH, 0, &mut numbers, &mut list, &mut [0; 3]),
+        || typebook::calls::missing_types(&bytes, bytes.len(), &index, WIDTH, 0, &mut numbers, &mut list, &mut [0; 3]),
         || missing_types(&original, &cache),
     );
     prepared(&bytes);

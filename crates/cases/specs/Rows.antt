@@ -1,6 +1,5 @@
 -- The rows: what the definitions that the calls' contracts cite give, and what document 01 says. Assumes nothing.
 use mathlib.Core.List.{List, [], _∷_, _++_}
-use mathlib.Core.Bool.{_&&_}
 use Prim.Native.Nat.{ℕ, zero, suc, _+_}
 use lib.ListN.{length, take, replicate}
 use lib.IntN.{ℤ, pos, negsuc}
@@ -12,9 +11,8 @@ use Rattle.type_category.specs.Category.{categoryOf}
 use Rattle.type_category.specs.Number.{categoryNumbers}
 use Rattle.type_category.specs.declared.type_category.AdsTypeCategory.the-variants as category
 use Rattle.resolvers.specs.Calls.{resolutionNumbers, rootAlias}
-use Rattle.resolve_walk.specs.Scratch.{scratchFits, listFits}
 use Rattle.resolve_read_modify_write.specs.Calls.{rmwNumbers, rmwCall}
-use Rattle.resolve_missing_types.specs.Calls.{missingNumbers, missingCall, missingList}
+use Rattle.resolve_missing_types.specs.Calls.{missingNumbers, missingFits, missingCall, missingList}
 use Rattle.tape.specs.Record.{recordBytes}
 use Rattle.de_output.specs.Trace.{Trace, textRecord, textBytes, eventsOf, stepOf}
 use Rattle.de_output.specs.Answer.{readNumbers, answerOf, bufferAfter}
@@ -107,6 +105,10 @@ categoryRow book = bookNumbers (checkBook book (length book)) ++ categoryNumbers
 abbrev pub aliasRow : List ℕ → List ℕ
 aliasRow book = resolutionNumbers (rootAlias book (length book) 8 0)
 
+-- an index that is just long enough, of zeros
+abbrev pub index : List ℕ
+index = replicate 16384 0
+
 -- a scratch that is just long enough
 abbrev pub scratch : List ℕ
 scratch = replicate 8192 0
@@ -117,16 +119,16 @@ list = replicate 4096 0
 
 -- what `requires_read_modify_write` answers
 abbrev pub rmwRow : List ℕ → List ℕ
-rmwRow book = rmwNumbers (rmwCall book (length book) 8 0 scratch)
+rmwRow book = rmwNumbers (rmwCall book (length book) index 8 0 scratch)
 
 -- the list after `missing_types`
 abbrev pub listAfter : List ℕ → List ℕ
 listAfter book =
-    atRoot (λ n. list) (λ t. missingList (scratchFits scratch && listFits list) (take (length book) book) 8 t list) (checkRoot book (length book) 0)
+    atRoot (λ n. list) (λ t. missingList (missingFits index scratch list) (take (length book) book) 8 t list) (checkRoot book (length book) 0)
 
 -- what `missing_types` answers, and the list after it
 abbrev pub missingRow : List ℕ → List ℕ
-missingRow book = missingNumbers (missingCall book (length book) 8 0 scratch list) ++ listAfter book
+missingRow book = missingNumbers (missingCall book (length book) index 8 0 scratch list) ++ listAfter book
 
 -- what a read answers by its trace, on a tape of one record and a text buffer of `room` bytes, and that buffer after it
 abbrev pub readBy : Trace → ℕ → List ℕ

@@ -4,6 +4,9 @@ use mathlib.Core.Bool.{Bool, true}
 use mathlib.Core.List.{List}
 use Prim.Native.Nat.{ℕ}
 use Rattle.type_book.specs.Book.{isType}
+use Rattle.enc_number.specs.Answer.{refusalOf}
+use Rattle.type_index_build.specs.declared.Built.{Built}
+use Rattle.type_index_build.specs.Build.{builtNumbers, BuiltIs}
 use Rattle.type_cache.specs.declared.Appended.{Appended}
 use Rattle.type_cache.specs.Append.{appendedNumbers, AppendIs}
 use Rattle.resolvers.specs.declared.Resolved.{Resolved}
@@ -25,6 +28,12 @@ use Rattle.plan_save.specs.declared.Plan.{Plan}
 use Rattle.plan_save.specs.Call.{planNumbers, planRefusal, PlanIs}
 use Rattle.gateway_lent_values.specs.Values.{Gives}
 
+-- what the building of an index answers, as a number, and the numbers that it leaves
+pub record BuildGiven (buffer : List ℕ) (len : ℕ) (index : List ℕ) (r : ℕ) (index′ : List ℕ) : Type 0 where
+  pub answer : Built
+  pub by : BuiltIs buffer len index answer index′
+  pub gives : r ≡ refusalOf (builtNumbers answer)
+
 -- what appending answers, as a number and values, and the buffer that it leaves
 pub record AppendGiven (buffer : List ℕ) (len : ℕ) (piece before : List ℕ) (r : ℕ) (buffer′ after : List ℕ) : Type 0 where
   pub answer : Appended
@@ -43,9 +52,9 @@ pub record FieldsGiven (is : FieldsAnswer) (new records before : List ℕ) (r : 
   pub gives : Gives (fieldsNumbers answer) before r after
 
 -- what read-modify-write answers for a root, as a number and values, and the scratch that it leaves
-pub record RmwGiven (buffer : List ℕ) (len width root : ℕ) (scratch before : List ℕ) (r : ℕ) (scratch′ after : List ℕ) : Type 0 where
+pub record RmwGiven (buffer : List ℕ) (len : ℕ) (index : List ℕ) (width root : ℕ) (scratch before : List ℕ) (r : ℕ) (scratch′ after : List ℕ) : Type 0 where
   pub answer : Rmw
-  pub by : RmwIs buffer len width root scratch answer scratch′
+  pub by : RmwIs buffer len index width root scratch answer scratch′
   pub gives : Gives (rmwNumbers answer) before r after
 
 -- the same for type block `root` of a checked book, where the scratch fits or not
@@ -55,9 +64,9 @@ pub record RmwInGiven (fits : Bool) (book : List ℕ) (width root : ℕ) (scratc
   pub gives : Gives (rmwNumbers answer) before r after
 
 -- what `missing_types` answers for a root, as a number and values, and the scratch and the list that it leaves
-pub record MissingGiven (buffer : List ℕ) (len width root : ℕ) (scratch list before : List ℕ) (r : ℕ) (scratch′ list′ after : List ℕ) : Type 0 where
+pub record MissingGiven (buffer : List ℕ) (len : ℕ) (index : List ℕ) (width root : ℕ) (scratch list before : List ℕ) (r : ℕ) (scratch′ list′ after : List ℕ) : Type 0 where
   pub answer : Missing
-  pub by : MissingIs buffer len width root scratch list answer scratch′ list′
+  pub by : MissingIs buffer len index width root scratch list answer scratch′ list′
   pub gives : Gives (missingNumbers answer) before r after
 
 -- the same for type block `root` of a checked book, where scratch and list fit or not

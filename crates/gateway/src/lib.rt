@@ -6,12 +6,15 @@ ghost use Rattle.enc_utf_8_replacing.specs.Text as utf8;
 ghost use Rattle.enc_utf_16.specs.Decode as utf16Decode;
 ghost use Rattle.enc_utf_16.specs.Encode as utf16Encode;
 ghost use Rattle.type_provider.specs.Find.{find as findIn, foundNumbers};
-ghost use Rattle.type_index.specs.Index.{IndexOf};
+ghost use lib.ListN.{length};
+ghost use Rattle.type_index.specs.Index.{namesIndex, hintedIndex};
 ghost use Rattle.enc_utf_8.specs.Utf8.{wellFormed};
 ghost use Rattle.type_book_check.specs.Check.{checkBook, bookNumbers};
 ghost use Rattle.gateway_codes.specs.Numbers.{foundNumber};
 ghost use Rattle.enc_number.specs.Answer.{refusalOf, truthNumber};
+ghost use Rattle.gateway.specs.Calls.{BuildGiven};
 ghost use Rattle.gateway.specs.Numbers.{WroteAs, FoundAs};
+use type_index::Trust;
 
 pub mod book;
 pub mod plan;
@@ -66,13 +69,21 @@ pub extern "C" fn gateway_find(book: &[u8], name: &[u8]) -> u32
 pub extern "C" fn gateway_find_by(book: &[u8], index: &[u32], name: &[u8]) -> u32
     ensures { λ r. ⌜ FoundAs (now (book .entry)) (now (name .entry)) r ⌝ }
 {
-    gateway_codes::found(type_index::find_by(book, index, name))
+    gateway_codes::found(type_index::find_by(book, index, Trust::Unknown, name))
+}
+
+// Document 01's number: 0 where the index was built, for the two walks, else 1 to 4 of the book, or 6.
+#[no_mangle]
+pub extern "C" fn gateway_build_index(buffer: &[u8], len: usize, index: &mut [u32]) -> u8
+    ensures { λ r. ⌜ BuildGiven (now (buffer .entry)) len (now (index .entry)) r (now (index .exit)) ⌝ }
+{
+    type_index_build::refusal_of_built(type_index_build::build_index(buffer, len, index))
 }
 
 // An index of the names alone, for a call or two.
 #[no_mangle]
 pub extern "C" fn gateway_fill_names(book: &[u8], index: &mut [u32])
-    ensures { λ _. ⌜ IndexOf (now (book .entry)) (now (index .entry)) (now (index .exit)) ⌝ }
+    ensures { λ _. ⌜ now (index .exit) ≡ namesIndex (now (book .entry)) (length (now (index .entry))) ⌝ }
 {
     type_index::fill_names(book, index);
 }
@@ -80,7 +91,7 @@ pub extern "C" fn gateway_fill_names(book: &[u8], index: &mut [u32])
 // An index of the names and, where it is long enough, with a hint for each block.
 #[no_mangle]
 pub extern "C" fn gateway_fill_index(book: &[u8], index: &mut [u32])
-    ensures { λ _. ⌜ IndexOf (now (book .entry)) (now (index .entry)) (now (index .exit)) ⌝ }
+    ensures { λ _. ⌜ now (index .exit) ≡ hintedIndex (now (book .entry)) (namesIndex (now (book .entry)) (length (now (index .entry)))) ⌝ }
 {
     type_index::fill_index(book, index);
 }

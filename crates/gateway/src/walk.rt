@@ -1,4 +1,5 @@
-// The two walks of the types that a type is made of. The calls whose names end in `_in` take a book that was checked once.
+// The two walks of the types that a type is made of. The calls whose names end in `_in` take a book that was checked once. An index may hold
+// any numbers.
 ghost use mathlib.Core.Path.{_≡_};
 ghost use mathlib.Core.Bool.{true, _&&_};
 ghost use Rattle.type_book.specs.Book.{isType};
@@ -13,15 +14,23 @@ use gateway_walk_answers::give_rmw;
 pub extern "C" fn gateway_requires_read_modify_write(
     buffer: &[u8],
     len: usize,
+    index: &[u32],
     width: u8,
     root: u64,
     scratch: &mut [u32],
     values: &mut [u64],
 ) -> u8
-    ensures { λ r. ⌜ RmwGiven (now (buffer .entry)) len width root (now (scratch .entry)) (now (values .entry)) r (now (scratch .exit)) (now (values .exit)) ⌝ }
+    ensures { λ r. ⌜ RmwGiven (now (buffer .entry)) len (now (index .entry)) width root (now (scratch .entry)) (now (values .entry)) r (now (scratch .exit)) (now (values .exit)) ⌝ }
 {
     give_rmw(
-        resolve_read_modify_write::requires_read_modify_write(buffer, len, width, root, scratch),
+        resolve_read_modify_write::requires_read_modify_write(
+            buffer,
+            len,
+            index,
+            width,
+            root,
+            scratch,
+        ),
         values,
     )
 }
@@ -49,16 +58,17 @@ pub extern "C" fn gateway_requires_read_modify_write_in(
 pub extern "C" fn gateway_missing_types(
     buffer: &[u8],
     len: usize,
+    index: &[u32],
     width: u8,
     root: u64,
     scratch: &mut [u32],
     list: &mut [u32],
     values: &mut [u64],
 ) -> u8
-    ensures { λ r. ⌜ MissingGiven (now (buffer .entry)) len width root (now (scratch .entry)) (now (list .entry)) (now (values .entry)) r (now (scratch .exit)) (now (list .exit)) (now (values .exit)) ⌝ }
+    ensures { λ r. ⌜ MissingGiven (now (buffer .entry)) len (now (index .entry)) width root (now (scratch .entry)) (now (list .entry)) (now (values .entry)) r (now (scratch .exit)) (now (list .exit)) (now (values .exit)) ⌝ }
 {
     give_missing(
-        resolve_missing_types::missing_types(buffer, len, width, root, scratch, list),
+        resolve_missing_types::missing_types(buffer, len, index, width, root, scratch, list),
         values,
     )
 }

@@ -5,7 +5,7 @@ use mathlib.Core.Logic.{_↔_}
 use mathlib.Core.List.{List, [], _∷_}
 use Prim.Native.Nat.{ℕ, zero, suc}
 use native.Mathlib.Omega.{arith}
-use lib.ListN.{length}
+use lib.ListN.{length, replicate}
 use lib.Seq.{take-length}
 use Rattle.type_book.specs.Book.{typeNameOf}
 use Rattle.type_category.specs.Category.{categoryOf}
@@ -18,6 +18,7 @@ use Rattle.type_book_check.specs.Check.{atRoot}
 use Rattle.resolve_walk.specs.Walk.{Walk, over, full, met}
 use Rattle.resolve_walk.specs.Reads.{listed}
 use Rattle.resolve_walk.specs.Reached.{Needed}
+use Rattle.type_index.specs.Index.{indexFits}
 use Rattle.resolve_walk.specs.Scratch.{scratchFits, zeroed}
 use Rattle.resolve_missing_types.specs.Needs.{Defined}
 use Rattle.resolve_read_modify_write.proofs.Numbers.{rmw-is, rmw-says}
@@ -85,6 +86,14 @@ from-first : (book : List ℕ) → sweptFrom 1 book ≡ 0
 unfolding sweptFrom
 from-first book = refl
 
+-- an index that is long enough, of zeros: any numbers do
+spare : List ℕ
+spare = replicate 16384 0
+
+spare-fits : indexFits spare ≡ true
+unfolding spare
+spare-fits = refl
+
 module _ (c : List ℕ) (width root : ℕ) (name : List ℕ) (w : Theirs c width name) (defines : (x : List ℕ) → Needed c width name x → Defined c x)
     (sc : List ℕ) (long : scratchFits sc ≡ true) where
   -- an ask that lists none
@@ -95,25 +104,25 @@ module _ (c : List ℕ) (width root : ℕ) (name : List ℕ) (w : Theirs c width
     close : Closed c width root name s
     close = closed-at c width root name w s o (none-defined c width root name w s o e)
 
-    called : RmwIs (s .buffer) (s .len) width root sc r (zeroed sc)
+    called : RmwIs (s .buffer) (s .len) spare width root sc r (zeroed sc)
     unfolding rmwCall atRoot rmwAnswer
     called =
         record {
-          answer = rmw-says _ _ (rw (root-check c width root name w s o, long));
-          scratch = rw (root-check c width root name w s o, long);
+          answer = rmw-says _ _ (rw (root-check c width root name w s o, spare-fits, long));
+          scratch = rw (root-check c width root name w s o, spare-fits, long);
         }
 
     decide : (a : Rmw) → r ≡ a → Answered c width root name (ruled a s)
     unfolding ruled rmwNumbers
     decide rmw.Yes q =
-        let k = close .keeps sc long r (zeroed sc) called in
+        let k = close .keeps spare sc spare-fits long r (zeroed sc) called in
         record { answer = true; final = s; is = refl; right = (λ y. k .0 (rmw-says _ _ q), λ b. refl); closed = close }
     decide rmw.No q =
-        let k = close .keeps sc long r (zeroed sc) called in
+        let k = close .keeps spare sc spare-fits long r (zeroed sc) called in
         record { answer = false; final = s; is = refl; right = (λ y. true-no y, λ b. no-yes (sym q ∙ rmw-is _ _ (k .1 b))); closed = close }
-    decide (rmw.NotFound b) q = let z : refusalOf (rmwNumbers r) ≡ 0 = close .decides sc long r (zeroed sc) called in let y : _≡_ {A = ℕ} 7 0 = rw q at z in absurd (omega arith)
+    decide (rmw.NotFound b) q = let z : refusalOf (rmwNumbers r) ≡ 0 = close .decides spare sc spare-fits long r (zeroed sc) called in let y : _≡_ {A = ℕ} 7 0 = rw q at z in absurd (omega arith)
     decide (rmw.Refused n) q =
-        let z : refusalOf (rmwNumbers r) ≡ 0 = close .decides sc long r (zeroed sc) called in
+        let z : refusalOf (rmwNumbers r) ≡ 0 = close .decides spare sc spare-fits long r (zeroed sc) called in
         absurd (numbered (bookOf s) width (walkAt width root s) n q (rw q at z))
 
   -- an ask that lists some: the adds go on

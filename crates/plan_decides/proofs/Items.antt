@@ -19,6 +19,7 @@ use Rattle.type_cache.specs.Append.{appendRefusal}
 use Rattle.type_cache.specs.Same.{definitionOf}
 use Rattle.resolvers.proofs.Chains.{found-type}
 use Rattle.resolve_walk.specs.Reads.{listed, whole}
+use Rattle.type_index.specs.Index.{indexFits}
 use Rattle.resolve_walk.specs.Scratch.{scratchFits, listFits}
 use Rattle.resolve_read_modify_write.specs.declared.Rmw.{Rmw}
 use Rattle.resolve_read_modify_write.specs.declared.Rmw.the-variants as rmw
@@ -55,7 +56,7 @@ after-both c (i ∷ is) js s = after-both c is js (next c i s)
 
 -- whether a call is given its due does not depend on the calls after it
 given-with : (c : List ℕ) (s : Ours) (i : Call) (is js : List Call) → Lent c s i is → Lent c s i js
-given-with c s (ask sc ls) is js g = g
+given-with c s (ask ix sc ls) is js g = g
 given-with c s (add n) is js g = g
 given-with c s (Call.bytes m) is js g = g
 
@@ -140,11 +141,11 @@ apart-lacking b s t z e = let q : _≡_ {A = ℕ} 0 1 = cc in omega arith
 apart-refused : (n : ℕ) (s : Ours) (t : Bool) (z : Ours) → refused n s ≡ decided t z → ⊥
 apart-refused n s t z e = let q : _≡_ {A = ℕ} 0 1 = cc in omega arith
 
-module _ (c : List ℕ) (width root : ℕ) (sc list : List ℕ) (p : scratchFits sc ≡ true) (q : listFits list ≡ true) where
+module _ (c : List ℕ) (width root : ℕ) (ix sc list : List ℕ) (i : indexFits ix ≡ true) (p : scratchFits sc ≡ true) (q : listFits list ≡ true) where
   -- an ask alone, after which nothing is decided
   asked : (s : Ours) (o : Decision) → s ≡ outcomeOurs o → ((t : Bool) (z : Ours) → o ≡ decided t z → listed (walkAt width root s) ≡ []) → Made c width root s o
   unfolding afterCalls
-  asked s o e h = record { items = ask sc list ∷ []; given = more {i = ask sc list} (p, q) none; left = e; none = λ t z y. here (h t z y) }
+  asked s o e h = record { items = ask ix sc list ∷ []; given = more {i = ask ix sc list} (i, p, q) none; left = e; none = λ t z y. here (h t z y) }
 
   later-both : (is js : List Call) (s : Ours) → ListedNone c width root (afterCalls c is s) js → ListedNone c width root s (is ++ js)
   unfolding afterCalls
@@ -156,8 +157,8 @@ module _ (c : List ℕ) (width root : ℕ) (sc list : List ℕ) (p : scratchFits
   unfolding afterCalls
   goes-on s z o a m =
       record {
-        items = ask sc list ∷ (a .items ++ m .items);
-        given = more {i = ask sc list} (p, q) (each-both c (a .items) (m .items) s (a .given) (rw (a .left) (m .given)));
+        items = ask ix sc list ∷ (a .items ++ m .items);
+        given = more {i = ask ix sc list} (i, p, q) (each-both c (a .items) (m .items) s (a .given) (rw (a .left) (m .given)));
         left = after-both c (a .items) (m .items) s ∙ ap (afterCalls c (m .items)) (a .left) ∙ m .left;
         none = λ t y e. later (later-both (a .items) (m .items) s (rw (a .left) (m .none t y e)));
       }
@@ -166,7 +167,7 @@ module _ (c : List ℕ) (width root : ℕ) (sc list : List ℕ) (p : scratchFits
   ended : (s z : Ours) (o : Decision) → Adds c s z → z ≡ outcomeOurs o → ((t : Bool) (y : Ours) → o ≡ decided t y → ⊥) → Made c width root s o
   unfolding afterCalls
   ended s z o a e h =
-      record { items = ask sc list ∷ a .items; given = more {i = ask sc list} (p, q) (a .given); left = a .left ∙ e; none = λ t y k. absurd (h t y k) }
+      record { items = ask ix sc list ∷ a .items; given = more {i = ask ix sc list} (i, p, q) (a .given); left = a .left ∙ e; none = λ t y k. absurd (h t y k) }
 
   next-made : (go : Ours → Decision) → ((z : Ours) → Made c width root z (go z)) → (s : Ours) (a : Adding) → Adds c s (endOf a) → Made c width root s (nextRound go a)
   unfolding nextRound outcomeOurs
@@ -210,7 +211,7 @@ module _ (c : List ℕ) (width root : ℕ) (sc list : List ℕ) (p : scratchFits
 
 pub plan-made : PlanMade
 unfolding PlanMade
-plan-made c width root k s sc list p q = rounds-made c width root sc list p q k s
+plan-made c width root k s ix sc list i p q = rounds-made c width root ix sc list i p q k s
 
 -- ---- our book stays valid
 
@@ -240,7 +241,7 @@ module _ (s : Ours) (d : List ℕ) (v : checkBook (s .buffer) (s .len) ≡ Valid
           rw (buffer-kept (s .buffer) (s .len) d h, call-refused (s .buffer) (s .len) d h) (extends-same s v)
 
 extends-next : (c : List ℕ) (s : Ours) (i : Call) → checkBook (s .buffer) (s .len) ≡ Valid → Extends s (next c i s)
-extends-next c s (ask sc ls) v = extends-same s v
+extends-next c s (ask ix sc ls) v = extends-same s v
 extends-next c s (add n) v = appended-extends s (definitionOf c n) v
 extends-next c s (Call.bytes m) v = appended-extends s m v
 
@@ -255,5 +256,5 @@ pub plan-keeps : PlanKeeps
 unfolding PlanKeeps
 plan-keeps c width root k s v =
     let m : Made c width root s (planFrom c width root k s) =
-    rounds-made c width root (replicate 8192 0) (replicate 4096 0) refl refl k s in
+    rounds-made c width root (replicate 16384 0) (replicate 8192 0) (replicate 4096 0) refl refl refl k s in
     subst (λ (z : Ours). Extends s z) (m .left) (extends-after c (m .items) s v)

@@ -5,23 +5,24 @@ use mathlib.Core.List.{List, _++_}
 use Prim.Native.Nat.{ℕ}
 use Rattle.type_book_check.specs.declared.BookCheck.the-variants.{Valid}
 use Rattle.type_book_check.specs.Check.{checkBook}
+use Rattle.type_index.specs.Index.{indexFits}
 use Rattle.resolve_walk.specs.Scratch.{scratchFits, listFits}
 use Rattle.closure.specs.Calls.{Ours, bookOf, Call, afterCalls, Each}
 use Rattle.closure.specs.Demand.{Lent, ListedNone}
 use Rattle.plan_save.specs.Rounds.{Decision, decided, planFrom}
 use Rattle.plan_save.specs.Call.{outcomeOurs}
 
--- an outcome is what a list of calls left: each is an ask with scratch and list long enough or an add of the controller's, our buffer is what
--- they made of it, and an ask of the list listed none where read-modify-write was decided
+-- an outcome is what a list of calls left: each is an ask with index, scratch and list long enough or an add of the controller's, our buffer
+-- is what they made of it, and an ask of the list listed none where read-modify-write was decided
 pub record Made (c : List ℕ) (width root : ℕ) (s : Ours) (o : Decision) : Type 0 where
   pub items : List Call
   pub given : Each c (Lent c) s items
   pub left : afterCalls c items s ≡ outcomeOurs o
   pub none : (t : Bool) (z : Ours) → o ≡ decided t z → ListedNone c width root s items
 
--- the claim: whatever the books hold, the rounds are such a list. sc and list are what is lent to the asks
+-- the claim: whatever the books hold, the rounds are such a list. ix, sc and list are what is lent to the asks
 unfoldable pub PlanMade : Type 0
-PlanMade = (c : List ℕ) (width root k : ℕ) (s : Ours) (sc list : List ℕ) → scratchFits sc ≡ true → listFits list ≡ true
+PlanMade = (c : List ℕ) (width root k : ℕ) (s : Ours) (ix sc list : List ℕ) → indexFits ix ≡ true → scratchFits sc ≡ true → listFits list ≡ true
     → Made c width root s (planFrom c width root k s)
 
 -- our book is valid, and is the old one with whole definitions after it, or the old one: each call of a list left it so

@@ -72,7 +72,7 @@ fn ask(
     scratch: &mut [u32],
     list: &mut [u32],
 ) -> Asked
-    requires { ⌜ ValidBook (now book) × (isType (now book) root ≡ true) × (6144 ≤ length (now scratch)) × (4096 ≤ length (now list)) ⌝ }
+    requires { ⌜ ValidBook (now book) × (isType (now book) root ≡ true) × (8192 ≤ length (now scratch)) × (4096 ≤ length (now list)) ⌝ }
     ensures { λ r. ⌜ AskedIs (walkOf (now (book .entry)) width root) r (now (list .exit)) ⌝ }
 {
     fill_names(book, index);
@@ -93,7 +93,7 @@ fn ask(
 
 // Read-modify-write of a book that lacks no type that is needed, with the length of our book.
 fn decide(book: &[u8], index: &[u32], width: u8, root: u32, scratch: &mut [u32], len: usize) -> Plan
-    requires { ⌜ ValidBook (now book) × (isType (now book) root ≡ true) × (6144 ≤ length (now scratch)) ⌝ }
+    requires { ⌜ ValidBook (now book) × (isType (now book) root ≡ true) × (8192 ≤ length (now scratch)) ⌝ }
     ensures { λ r. ⌜ DecidedIs (rmwAnswer true (now (book .entry)) width root) len r ⌝ }
 {
     let answer = resolve_read_modify_write::requires_read_modify_write_in(
@@ -165,7 +165,7 @@ fn one_round(
     list: &mut [u32],
     from: u32,
 ) -> Round
-    requires { ⌜ ValidBook (now controller) × Ready (now controller) (now buffer) len (now known) × (isType (take len (now buffer)) root ≡ true) × (6144 ≤ length (now scratch)) × (4096 ≤ length (now list)) ⌝ }
+    requires { ⌜ ValidBook (now controller) × Ready (now controller) (now buffer) len (now known) × (isType (take len (now buffer)) root ≡ true) × (8192 ≤ length (now scratch)) × (4096 ≤ length (now list)) ⌝ }
     ensures { λ r. ⌜ RoundIs (now (controller .entry)) width root (now (buffer .entry)) len from r (now (buffer .exit)) (now (known .exit)) ⌝ }
 {
     let half = index.len() / 2;
@@ -212,7 +212,7 @@ fn plan_rounds(
     scratch: &mut [u32],
     list: &mut [u32],
 ) -> Plan
-    requires { ⌜ ValidBook (now controller) × Ready (now controller) (now buffer) len (now known) × (isType (take len (now buffer)) root ≡ true) × (6144 ≤ length (now scratch)) × (4096 ≤ length (now list)) ⌝ }
+    requires { ⌜ ValidBook (now controller) × Ready (now controller) (now buffer) len (now known) × (isType (take len (now buffer)) root ≡ true) × (8192 ≤ length (now scratch)) × (4096 ≤ length (now list)) ⌝ }
     ensures { λ r. ⌜ PlannedIs (planFrom (now (controller .entry)) width root 18 (ours (now (buffer .entry)) len)) r (now (buffer .exit)) ⌝ }
 {
     let mut at = len;
@@ -266,7 +266,7 @@ fn plan_in(
     scratch: &mut [u32],
     index: &mut [u32],
 ) -> Plan
-    requires { ⌜ ValidBook (now controller) × (checkBook (now buffer) len ≡ Valid) × (isType (take len (now buffer)) root ≡ true) × (6144 ≤ length (now scratch)) ⌝ }
+    requires { ⌜ ValidBook (now controller) × (checkBook (now buffer) len ≡ Valid) × (isType (take len (now buffer)) root ≡ true) × (8192 ≤ length (now scratch)) ⌝ }
     ensures { λ r. ⌜ PlannedIs (planFrom (now (controller .entry)) width root 18 (ours (now (buffer .entry)) len)) r (now (buffer .exit)) ⌝ }
 {
     let mut known = [0u8; 65536];
@@ -295,7 +295,7 @@ fn plan_clean(
     scratch: &mut [u32],
     index: &mut [u32],
 ) -> Plan
-    requires { ⌜ ValidBook (now controller) × (checkBook (now buffer) len ≡ Valid) × (isType (take len (now buffer)) root ≡ true) × (6144 ≤ length (now scratch)) ⌝ }
+    requires { ⌜ ValidBook (now controller) × (checkBook (now buffer) len ≡ Valid) × (isType (take len (now buffer)) root ≡ true) × (8192 ≤ length (now scratch)) ⌝ }
     ensures { λ r. ⌜ PlannedIn (planFrom (now (controller .entry)) width root 18 (ours (now (buffer .entry)) len)) (now (scratch .entry)) (now (index .entry)) r (now (buffer .exit)) (now (scratch .exit)) (now (index .exit)) ⌝ }
 {
     let plan = plan_in(buffer, len, controller, width, root, scratch, index);

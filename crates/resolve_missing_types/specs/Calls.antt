@@ -6,6 +6,7 @@ use mathlib.Core.List.{List, [], _∷_, _++_}
 use Prim.Native.Nat.{ℕ}
 use lib.ListN.{length, take, drop}
 use Rattle.enc_number.specs.Answer.{truthNumber}
+use Rattle.type_index.specs.Index.{indexFits}
 use Rattle.type_book_check.specs.Check.{checkRoot, atRoot}
 use Rattle.resolve_walk.specs.Walk.{walkOf}
 use Rattle.resolve_walk.specs.Reads.{count, listed, whole}
@@ -18,6 +19,10 @@ use Rattle.resolve_missing_types.specs.declared.Missing.the-variants as 
 unfoldable pub missingNumbers : Missing → List ℕ
 missingNumbers (missing.Listed n whole count) = 0 ∷ n ∷ truthNumber whole ∷ count ∷ []
 missingNumbers (missing.Refused n) = n ∷ []
+
+-- 6: index, scratch and list are long enough
+abbrev pub missingFits : List ℕ → List ℕ → List ℕ → Bool
+missingFits index sc list = indexFits index && (scratchFits sc && listFits list)
 
 -- how many blocks are listed, the mark "whole", and the number of distinct names met
 unfoldable pub missingAnswer : Bool → List ℕ → ℕ → ℕ → Missing
@@ -41,13 +46,13 @@ pub record MissingIn (fits : Bool) (book : List ℕ) (width t : ℕ) (sc list : 
   pub scratch : sc′ ≡ cond fits (zeroed sc) sc
   pub blocks : list′ ≡ missingList fits book width t list
 
--- the answer for a book in a buffer and a root: 1 to 5 first
-unfoldable pub missingCall : List ℕ → ℕ → ℕ → ℕ → List ℕ → List ℕ → Missing
-missingCall buffer len width root sc list =
-    atRoot missing.Refused (λ t. missingAnswer (scratchFits sc && listFits list) (take len buffer) width t) (checkRoot buffer len root)
+-- the answer for a book in a buffer and a root: 1 to 5 first. Of the index only its length counts, whatever it holds
+unfoldable pub missingCall : List ℕ → ℕ → List ℕ → ℕ → ℕ → List ℕ → List ℕ → Missing
+missingCall buffer len index width root sc list =
+    atRoot missing.Refused (λ t. missingAnswer (missingFits index sc list) (take len buffer) width t) (checkRoot buffer len root)
 
 -- the same for a book in a buffer and a root: 1 to 6 leave scratch and list as they were
-pub record MissingIs (buffer : List ℕ) (len width root : ℕ) (sc list : List ℕ) (r : Missing) (sc′ list′ : List ℕ) : Type 0 where
-  pub answer : missingNumbers r ≡ missingNumbers (missingCall buffer len width root sc list)
-  pub scratch : sc′ ≡ atRoot (λ n. sc) (λ t. cond (scratchFits sc && listFits list) (zeroed sc) sc) (checkRoot buffer len root)
-  pub blocks : list′ ≡ atRoot (λ n. list) (λ t. missingList (scratchFits sc && listFits list) (take len buffer) width t list) (checkRoot buffer len root)
+pub record MissingIs (buffer : List ℕ) (len : ℕ) (index : List ℕ) (width root : ℕ) (sc list : List ℕ) (r : Missing) (sc′ list′ : List ℕ) : Type 0 where
+  pub answer : missingNumbers r ≡ missingNumbers (missingCall buffer len index width root sc list)
+  pub scratch : sc′ ≡ atRoot (λ n. sc) (λ t. cond (missingFits index sc list) (zeroed sc) sc) (checkRoot buffer len root)
+  pub blocks : list′ ≡ atRoot (λ n. list) (λ t. missingList (missingFits index sc list) (take len buffer) width t list) (checkRoot buffer len root)

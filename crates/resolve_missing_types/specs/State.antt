@@ -1,10 +1,13 @@
 -- What is known of the missing list in the midst of the walk `all`, of which w is left. No contract of a public function cites this.
 -- Assumes nothing.
 use mathlib.Core.Path.{_≡_}
-use mathlib.Core.Bool.{Bool, false, _&&_}
+use mathlib.Core.Bool.{Bool, false, cond, _&&_}
 use mathlib.Core.List.{List, _++_}
 use Prim.Native.Nat.{ℕ, _+_, _-_, _≤_, _<_}
 use lib.ListN.{length, take, drop, set}
+use lib.Dec.{eqb}
+use Rattle.type_index.specs.declared.Trust.{Trust}
+use Rattle.type_index.specs.Trust.{trustThen, Trusted}
 use Rattle.resolve_walk_events.specs.declared.Event.{Event}
 use Rattle.resolve_walk_events.specs.declared.Event.the-variants.{Old, New, Full}
 use Rattle.resolve_walk_events.specs.declared.Event.the-variants as event
@@ -72,3 +75,9 @@ pend sc left (event.Lacks c d) = 1 + work sc (left - 1) d
 pend sc left (New t d c) = 1 + work sc (left - 1) d
 pend sc left (event.TooLong d) = 1 + work sc (left - 1) d
 pend sc left Full = 0
+
+-- what is known of the index once n blocks are listed, where `before` were: it is held against the book when one was listed, and what is known
+-- of it holds
+pub record Learned (book index : List ℕ) (t : Trust) (before n : ℕ) (r : Trust) : Type 0 where
+  pub is : r ≡ cond (eqb before n) t (trustThen book index t)
+  pub trusted : Trusted book index r

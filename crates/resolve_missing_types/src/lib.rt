@@ -1,15 +1,15 @@
 // Which types the book lacks, of those that a type is made of (the Rust's resolvers.rs): the walk of crate `resolve_walk`, read to its end.
 // `missing_types_in` takes a book that was checked once; `missing_types` checks it.
 ghost use mathlib.Core.Path.{_≡_};
-ghost use mathlib.Core.Bool.{true, _&&_};
+ghost use mathlib.Core.Bool.{true};
 ghost use Prim.Native.Nat.{_≤_, _<_, _+_};
 ghost use lib.ListN.{length, replicate};
 ghost use Rattle.type_book.specs.Book.{isType};
 ghost use Rattle.type_book_check.specs.Check.{ValidBook};
-ghost use Rattle.resolve_walk.specs.Scratch.{scratchFits, listFits};
+ghost use Rattle.type_index.specs.Trust.{Trusted};
 ghost use Rattle.resolve_walk.specs.State.{IsDue};
-ghost use Rattle.resolve_missing_types.specs.Calls.{Walked, MissingIn, MissingIs};
-ghost use Rattle.resolve_missing_types.specs.State.{OneMore, Applied};
+ghost use Rattle.resolve_missing_types.specs.Calls.{missingFits, Walked, MissingIn, MissingIs};
+ghost use Rattle.resolve_missing_types.specs.State.{OneMore, Applied, Learned};
 use enc_zeros::clear_numbers;
 use resolve_walk::MAX_TYPES_VISITED;
 use resolve_walk::list_fits;
@@ -18,6 +18,9 @@ use resolve_walk::start;
 use resolve_walk::step;
 use resolve_walk_events::Event;
 use type_book_check::RootCheck;
+use type_index::Trust;
+use type_index::hold_against;
+use type_index::index_fits;
 
 // What `missing_types` answers.
 pub enum Missing {
@@ -66,6 +69,18 @@ fn apply(e: Event, list: &mut [u32], left: usize, n: usize, ok: bool) -> Turn
     }
 }
 
+// What is known of the index after a turn: it is held against the book, once, when the first name is listed as not there, so that each
+// further one costs no search of the book.
+fn learn(book: &[u8], index: &[u32], trust: Trust, before: usize, n: usize) -> Trust
+    requires { ⌜ Trusted (now book) (now index) trust ⌝ }
+    ensures { λ r. ⌜ Learned (now (book .entry)) (now (index .entry)) trust before n r ⌝ }
+{
+    if before == n {
+        return trust;
+    }
+    hold_against(book, index, trust)
+}
+
 // The walk for the missing list, over a scratch of zeros.
 fn missing_walk(
     book: &[u8],
@@ -75,13 +90,14 @@ fn missing_walk(
     scratch: &mut [u32],
     list: &mut [u32],
 ) -> Missing
-    requires { ⌜ ValidBook (now book) × (isType (now book) root ≡ true) × (6144 ≤ length (now scratch)) × (4096 ≤ length (now list)) × (now scratch ≡ replicate (length (now scratch)) 0) ⌝ }
+    requires { ⌜ ValidBook (now book) × (isType (now book) root ≡ true) × (8192 ≤ length (now scratch)) × (4096 ≤ length (now list)) × (now scratch ≡ replicate (length (now scratch)) 0) ⌝ }
     ensures { λ r. ⌜ Walked (now (book .entry)) width root (now (list .entry)) r (now (list .exit)) ⌝ }
 {
     let mut e = start(book, index, width, root, scratch);
     let mut left = MAX_TYPES_VISITED;
     let mut n: usize = 0;
     let mut ok = true;
+    let mut trust = Trust::Unknown;
     loop {
         let turn = apply(e, list, left, n, ok);
         let Turn::More(l, d, k, o) = turn else {
@@ -90,10 +106,11 @@ fn missing_walk(
         if d == 0 {
             return Missing::Listed(k, o, MAX_TYPES_VISITED - l);
         }
+        trust = learn(book, index, trust, n, k);
         left = l;
         n = k;
         ok = o;
-        e = step(book, index, width, scratch, list, n, left, d);
+        e = step(book, index, trust, width, scratch, list, n, left, d);
     }
 }
 
@@ -106,7 +123,7 @@ pub fn missing_types_in(
     scratch: &mut [u32],
     list: &mut [u32],
 ) -> Missing
-    requires { ⌜ ValidBook (now book) × (isType (now book) root ≡ true) × (6144 ≤ length (now scratch)) × (4096 ≤ length (now list)) ⌝ }
+    requires { ⌜ ValidBook (now book) × (isType (now book) root ≡ true) × (8192 ≤ length (now scratch)) × (4096 ≤ length (now list)) ⌝ }
     ensures { λ r. ⌜ MissingIn true (now (book .entry)) width root (now (scratch .entry)) (now (list .entry)) r (now (scratch .exit)) (now (list .exit)) ⌝ }
 {
     clear_numbers(scratch);
@@ -115,37 +132,47 @@ pub fn missing_types_in(
     answer
 }
 
-// `missing_types` for type block `root` of a valid book: 6 where scratch or list is too short.
-fn missing_at(book: &[u8], width: u8, root: u32, scratch: &mut [u32], list: &mut [u32]) -> Missing
+// `missing_types` for type block `root` of a valid book: 6 where index, scratch or list is too short.
+fn missing_at(
+    book: &[u8],
+    index: &[u32],
+    width: u8,
+    root: u32,
+    scratch: &mut [u32],
+    list: &mut [u32],
+) -> Missing
     requires { ⌜ ValidBook (now book) × (isType (now book) root ≡ true) ⌝ }
-    ensures { λ r. ⌜ MissingIn (scratchFits (now (scratch .entry)) && listFits (now (list .entry))) (now (book .entry)) width root (now (scratch .entry)) (now (list .entry)) r (now (scratch .exit)) (now (list .exit)) ⌝ }
+    ensures { λ r. ⌜ MissingIn (missingFits (now (index .entry)) (now (scratch .entry)) (now (list .entry))) (now (book .entry)) width root (now (scratch .entry)) (now (list .entry)) r (now (scratch .exit)) (now (list .exit)) ⌝ }
 {
+    if !index_fits(index) {
+        return Missing::Refused(6);
+    }
     if !scratch_fits(scratch) {
         return Missing::Refused(6);
     }
     if !list_fits(list) {
         return Missing::Refused(6);
     }
-    let mut index = [0u32; 16384];
-    type_index::fill_names(book, &mut index);
-    missing_types_in(book, &index, width, root, scratch, list)
+    missing_types_in(book, index, width, root, scratch, list)
 }
 
 // Lists every type that the root is made of and the book lacks, each by the block that names it, in the order found: without an
-// error at the first, so that all can be fetched in one request. The book fills the first `len` bytes of the buffer.
+// error at the first, so that all can be fetched in one request. The book fills the first `len` bytes of the buffer. The index is one
+// that `build_index` made for it; any other gives the same answer, later.
 pub fn missing_types(
     buffer: &[u8],
     len: usize,
+    index: &[u32],
     width: u8,
     root: u64,
     scratch: &mut [u32],
     list: &mut [u32],
 ) -> Missing
-    ensures { λ r. ⌜ MissingIs (now (buffer .entry)) len width root (now (scratch .entry)) (now (list .entry)) r (now (scratch .exit)) (now (list .exit)) ⌝ }
+    ensures { λ r. ⌜ MissingIs (now (buffer .entry)) len (now (index .entry)) width root (now (scratch .entry)) (now (list .entry)) r (now (scratch .exit)) (now (list .exit)) ⌝ }
 {
     let check = type_book_check::check_root(buffer, len, root);
     match check {
-        RootCheck::Root(t) => missing_at(&buffer[..len], width, t, scratch, list),
+        RootCheck::Root(t) => missing_at(&buffer[..len], index, width, t, scratch, list),
         RootCheck::Refused(n) => Missing::Refused(n),
     }
 }

@@ -1,11 +1,12 @@
 -- `requires_read_modify_write`, over a book that fills the first `len` bytes of a buffer: refusals 1 to 5, then 6, then those of the walk.
 -- Assumes nothing.
 use mathlib.Core.Path.{_≡_}
-use mathlib.Core.Bool.{Bool, true, false, cond}
+use mathlib.Core.Bool.{Bool, true, false, cond, _&&_}
 use mathlib.Core.List.{List, [], _∷_}
 use Prim.Native.Nat.{ℕ}
 use lib.ListN.{take}
 use Rattle.enc_number.specs.Answer.{truthNumber}
+use Rattle.type_index.specs.Index.{indexFits}
 use Rattle.type_book_check.specs.Check.{checkRoot, atRoot}
 use Rattle.resolve_walk.specs.Walk.{walkOf}
 use Rattle.resolve_walk.specs.Scratch.{scratchFits, zeroed}
@@ -20,7 +21,11 @@ rmwNumbers rmw.No = 0 ∷ truthNumber false ∷ []
 rmwNumbers (rmw.NotFound b) = 7 ∷ b ∷ []
 rmwNumbers (rmw.Refused n) = n ∷ []
 
--- the answer for type block t of a valid book, where the scratch fits or not
+-- 6: index and scratch are long enough
+abbrev pub rmwFits : List ℕ → List ℕ → Bool
+rmwFits index sc = indexFits index && scratchFits sc
+
+-- the answer for type block t of a valid book, where what is lent fits or not
 unfoldable pub rmwAnswer : Bool → List ℕ → ℕ → ℕ → Rmw
 rmwAnswer true book width t = rmwOf book width (walkOf book width t)
 rmwAnswer false book width t = rmw.Refused 6
@@ -30,11 +35,12 @@ pub record RmwIn (fits : Bool) (book : List ℕ) (width t : ℕ) (sc : List ℕ)
   pub answer : rmwNumbers r ≡ rmwNumbers (rmwAnswer fits book width t)
   pub scratch : sc′ ≡ cond fits (zeroed sc) sc
 
--- the answer for a book in a buffer and a root: 1 to 5 first
-unfoldable pub rmwCall : List ℕ → ℕ → ℕ → ℕ → List ℕ → Rmw
-rmwCall buffer len width root sc = atRoot rmw.Refused (λ t. rmwAnswer (scratchFits sc) (take len buffer) width t) (checkRoot buffer len root)
+-- the answer for a book in a buffer and a root: 1 to 5 first. Of the index only its length counts, whatever it holds
+unfoldable pub rmwCall : List ℕ → ℕ → List ℕ → ℕ → ℕ → List ℕ → Rmw
+rmwCall buffer len index width root sc =
+    atRoot rmw.Refused (λ t. rmwAnswer (rmwFits index sc) (take len buffer) width t) (checkRoot buffer len root)
 
 -- the same for a book in a buffer and a root: 1 to 6 leave the scratch as it was
-pub record RmwIs (buffer : List ℕ) (len width root : ℕ) (sc : List ℕ) (r : Rmw) (sc′ : List ℕ) : Type 0 where
-  pub answer : rmwNumbers r ≡ rmwNumbers (rmwCall buffer len width root sc)
-  pub scratch : sc′ ≡ atRoot (λ n. sc) (λ t. cond (scratchFits sc) (zeroed sc) sc) (checkRoot buffer len root)
+pub record RmwIs (buffer : List ℕ) (len : ℕ) (index : List ℕ) (width root : ℕ) (sc : List ℕ) (r : Rmw) (sc′ : List ℕ) : Type 0 where
+  pub answer : rmwNumbers r ≡ rmwNumbers (rmwCall buffer len index width root sc)
+  pub scratch : sc′ ≡ atRoot (λ n. sc) (λ t. cond (rmwFits index sc) (zeroed sc) sc) (checkRoot buffer len root)

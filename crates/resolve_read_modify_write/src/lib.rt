@@ -7,10 +7,9 @@ ghost use Prim.Native.Nat.{_≤_};
 ghost use lib.ListN.{length, replicate};
 ghost use Rattle.type_book.specs.Book.{isType};
 ghost use Rattle.type_book_check.specs.Check.{ValidBook};
-ghost use Rattle.resolve_walk.specs.Scratch.{scratchFits};
 ghost use Rattle.resolve_walk.specs.State.{IsDue};
 ghost use Rattle.resolve_read_modify_write.specs.Reads.{keepsState};
-ghost use Rattle.resolve_read_modify_write.specs.Calls.{rmwAnswer, RmwIn, RmwIs};
+ghost use Rattle.resolve_read_modify_write.specs.Calls.{rmwFits, rmwAnswer, RmwIn, RmwIs};
 ghost use Rattle.resolve_read_modify_write.specs.State.{Decided};
 use enc_zeros::clear_numbers;
 use resolve_walk::MAX_TYPES_VISITED;
@@ -20,6 +19,8 @@ use resolve_walk::step;
 use resolve_walk_events::Event;
 use type_book_check::RootCheck;
 use type_category::type_category::AdsTypeCategory;
+use type_index::Trust;
+use type_index::index_fits;
 
 // What `requires_read_modify_write` answers.
 pub enum Rmw {
@@ -81,9 +82,10 @@ fn decide(e: Event, left: usize) -> Turn
     }
 }
 
-// The walk for read-modify-write, over a scratch of zeros. It ends at the first name that the book lacks, so it keeps no list.
+// The walk for read-modify-write, over a scratch of zeros. It ends at the first name that the book lacks, so it
+// keeps no list, and the index is not held against the book.
 fn rmw_walk(book: &[u8], index: &[u32], width: u8, root: u32, scratch: &mut [u32]) -> Rmw
-    requires { ⌜ ValidBook (now book) × (isType (now book) root ≡ true) × (6144 ≤ length (now scratch)) × (now scratch ≡ replicate (length (now scratch)) 0) ⌝ }
+    requires { ⌜ ValidBook (now book) × (isType (now book) root ≡ true) × (8192 ≤ length (now scratch)) × (now scratch ≡ replicate (length (now scratch)) 0) ⌝ }
     ensures { λ r. ⌜ r ≡ rmwAnswer true (now (book .entry)) width root ⌝ }
 {
     let none: [u32; 1] = [0];
@@ -98,7 +100,17 @@ fn rmw_walk(book: &[u8], index: &[u32], width: u8, root: u32, scratch: &mut [u32
                 if depth == 0 {
                     return Rmw::No;
                 }
-                let e = step(book, index, width, scratch, &none, 0, left, depth);
+                let e = step(
+                    book,
+                    index,
+                    Trust::Unknown,
+                    width,
+                    scratch,
+                    &none,
+                    0,
+                    left,
+                    depth,
+                );
                 here = decide(e, left);
             }
         }
@@ -113,7 +125,7 @@ pub fn requires_read_modify_write_in(
     root: u32,
     scratch: &mut [u32],
 ) -> Rmw
-    requires { ⌜ ValidBook (now book) × (isType (now book) root ≡ true) × (6144 ≤ length (now scratch)) ⌝ }
+    requires { ⌜ ValidBook (now book) × (isType (now book) root ≡ true) × (8192 ≤ length (now scratch)) ⌝ }
     ensures { λ r. ⌜ RmwIn true (now (book .entry)) width root (now (scratch .entry)) r (now (scratch .exit)) ⌝ }
 {
     clear_numbers(scratch);
@@ -122,33 +134,36 @@ pub fn requires_read_modify_write_in(
     answer
 }
 
-// `requires_read_modify_write` for type block `root` of a valid book: 6 where the scratch is too short.
-fn rmw_at(book: &[u8], width: u8, root: u32, scratch: &mut [u32]) -> Rmw
+// `requires_read_modify_write` for type block `root` of a valid book: 6 where index or scratch is too short.
+fn rmw_at(book: &[u8], index: &[u32], width: u8, root: u32, scratch: &mut [u32]) -> Rmw
     requires { ⌜ ValidBook (now book) × (isType (now book) root ≡ true) ⌝ }
-    ensures { λ r. ⌜ RmwIn (scratchFits (now (scratch .entry))) (now (book .entry)) width root (now (scratch .entry)) r (now (scratch .exit)) ⌝ }
+    ensures { λ r. ⌜ RmwIn (rmwFits (now (index .entry)) (now (scratch .entry))) (now (book .entry)) width root (now (scratch .entry)) r (now (scratch .exit)) ⌝ }
 {
+    if !index_fits(index) {
+        return Rmw::Refused(6);
+    }
     if !scratch_fits(scratch) {
         return Rmw::Refused(6);
     }
-    let mut index = [0u32; 16384];
-    type_index::fill_names(book, &mut index);
-    requires_read_modify_write_in(book, &index, width, root, scratch)
+    requires_read_modify_write_in(book, index, width, root, scratch)
 }
 
 // Whether the memory of a value of the root's type must be read, changed and written back: it is, or is made of, a function block.
-// The book fills the first `len` bytes of the buffer.
+// The book fills the first `len` bytes of the buffer. The index is one that `build_index` made for it; any other gives the same answer,
+// later.
 pub fn requires_read_modify_write(
     buffer: &[u8],
     len: usize,
+    index: &[u32],
     width: u8,
     root: u64,
     scratch: &mut [u32],
 ) -> Rmw
-    ensures { λ r. ⌜ RmwIs (now (buffer .entry)) len width root (now (scratch .entry)) r (now (scratch .exit)) ⌝ }
+    ensures { λ r. ⌜ RmwIs (now (buffer .entry)) len (now (index .entry)) width root (now (scratch .entry)) r (now (scratch .exit)) ⌝ }
 {
     let check = type_book_check::check_root(buffer, len, root);
     match check {
-        RootCheck::Root(t) => rmw_at(&buffer[..len], width, t, scratch),
+        RootCheck::Root(t) => rmw_at(&buffer[..len], index, width, t, scratch),
         RootCheck::Refused(n) => Rmw::Refused(n),
     }
 }

@@ -3,13 +3,14 @@ use mathlib.Core.Path.{_≡_, refl, sym, _∙_}
 use mathlib.Core.Bool.{true, false}
 use mathlib.Core.List.{List, List·Memᴰ, List·Memᴰ·not-nil, List·Memᴰ·eq-of-singleton, List·Memᴰ·cases-cons}
 use mathlib.Core.Logic.{⊎-elim}
-use Prim.Native.Nat.{ℕ, zero, suc, _+_, _<_}
+use Prim.Native.Nat.{ℕ, zero, suc, _+_, _≤_, _<_}
 use native.Mathlib.Omega.{arith}
 use borrow.Author.Tests.{ne-eqb, lt-ltb}
 use Rattle.type_provider.specs.declared.Found.{Found}
 use Rattle.type_provider.specs.declared.Found.the-variants as found
 use Rattle.type_book.specs.Book.{kindOf, isType, dimensionsOf, fieldsOf, nameOf, typeNameOf}
-use Rattle.type_provider.specs.Find.{find}
+use lib.ListN.{length}
+use Rattle.type_provider.specs.Find.{find, searched}
 use Rattle.type_provider.proofs.Finds.{find-named, named-name}
 use Rattle.type_category.specs.declared.type_category.AdsTypeCategory.{AdsTypeCategory}
 use Rattle.type_category.specs.declared.type_category.AdsTypeCategory.the-variants as category
@@ -21,7 +22,7 @@ use Rattle.resolvers.proofs.Chains.{found-typed}
 use Rattle.resolve_walk_scratch.specs.declared.Parts.{Parts}
 use Rattle.resolve_walk_scratch.specs.declared.Parts.the-variants.{Element, Fields, Nothing}
 use Rattle.resolve_walk_scratch.specs.Parts.{partsKind, blocksAfter, partsIn, partsOf}
-use Rattle.resolve_walk_scratch.specs.Scratch.{isPart}
+use Rattle.resolve_walk_scratch.specs.Scratch.{isPart, lackingBit, BitIn}
 use Rattle.resolve_walk_scratch.proofs.Places.{type-below, part-field, part-dimensions}
 
 -- ---- parts
@@ -73,6 +74,17 @@ part-is book width t v y b m = by (partsKind (categoryOf book width t)) refl m
 pub find-name : (book name : List ℕ) (t : ℕ) → find book name ≡ found.At t → nameOf book t ≡ name
 find-name book name t e = named-name book name t (find-named book name t e .named)
 
--- what block b names is below block 65,536
-pub found-below : (book : List ℕ) (b : ℕ) (f : Found) → f ≡ find book (typeNameOf book b) → (t : ℕ) → f ≡ found.At t → ValidBook book → t < 65536
-found-below book b f ef t h v = type-below book t v (found-typed book b f ef t h)
+-- what block b names, and a name that the book lacks, have a bit in the scratch
+pub low-bit : (sc : List ℕ) (t : ℕ) → t < 131072 → 8192 ≤ length sc → BitIn sc t
+low-bit sc t l z = record { low = l; room = omega arith }
+
+pub found-low : (book : List ℕ) (b : ℕ) (f : Found) → f ≡ find book (typeNameOf book b) → (t : ℕ) → f ≡ found.At t → ValidBook book → t < 131072
+found-low book b f ef t h v = let l = type-below book t v (found-typed book b f ef t h) in omega arith
+
+pub lacking-low : (name : List ℕ) (b : ℕ) → b ≡ lackingBit name → b < 131072
+unfolding lackingBit
+lacking-low name b e = rw e (omega arith)
+
+-- what is found is below block 65,536
+pub find-below : (book name : List ℕ) (t : ℕ) → find book name ≡ found.At t → t < 65536
+find-below book name t e = let l : t < searched book = find-named book name t e .below in omega arith

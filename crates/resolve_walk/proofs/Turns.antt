@@ -1,6 +1,6 @@
 -- What a turn of the walk does to the state, and what `step` and `start` owe at each exit. Assumes nothing.
 use mathlib.Core.Path.{_≡_, refl, sym, ap, _∙_}
-use mathlib.Core.Bool.{Bool, true, false, _||_, and-true, and-false}
+use mathlib.Core.Bool.{Bool, true, false, _&&_, _||_, and-true, and-false}
 use mathlib.Core.Logic.{⊎-elim}
 use mathlib.Core.List.{List, [], _∷_, _++_, List·Memᴰ, List·Memᴰ·head, List·Memᴰ·tail, List·Memᴰ·not-nil, List·Memᴰ·append-cases}
 use Prim.Native.Nat.{ℕ, zero, suc, _+_, _*_, _-_, _/_, _%_, _^_, _≤_, _<_}
@@ -20,7 +20,8 @@ use Rattle.resolvers.specs.declared.Resolved.{Resolved}
 use Rattle.resolvers.specs.declared.Resolved.the-variants.{Base, Lacks, TooLong}
 use Rattle.resolvers.specs.Resolve.{chainOnward, resolveAlias}
 use Rattle.resolve_walk_scratch.specs.declared.Taken.{Taken}
-use Rattle.resolve_walk_scratch.specs.Scratch.{stackOf, markedIn, isPart, namesIt, hasRef, Took}
+use Rattle.resolve_walk_scratch.specs.Scratch.{stackOf, markedIn, lackingBit, isPart, namesIt, hasRef, wasListed, Took, BlockMarked}
+use Rattle.resolve_walk_scratch.proofs.Places.{bit-past}
 use Rattle.resolve_walk_scratch.specs.Parts.{partsOf}
 use Rattle.resolve_walk_events.specs.Events.{settledEvent, Dead, Settled, Settles}
 use Rattle.resolve_walk_events.specs.declared.Event.{Event}
@@ -29,7 +30,7 @@ use Rattle.resolve_walk_events.specs.declared.Event.the-variants as event
 use Rattle.resolve_walk.specs.Walk.{Walk, met, comesTo, has, push, walk, meet, walkOf}
 use Rattle.resolve_walk.specs.State.{seenBy, turnEvent, newOn, turnOn, stepEvent, stepOn, LeftToWalk, After, work, Falls, Due, Stepped, Started}
 use Rattle.resolve_walk.proofs.Goes.{walk-old, walk-fresh, walk-stop}
-use Rattle.resolve_walk.proofs.Places.{find-name, part-is}
+use Rattle.resolve_walk.proofs.Places.{find-name, find-below, part-is}
 
 at-nothing : {X : Type 0} {t : ℕ} → At t ≡ Nothing → X
 at-nothing e = absurd (let z : _≡_ {A = ℕ} 0 1 = cc in omega arith)
@@ -50,15 +51,30 @@ not-same y x n = by (sameName y x) refl
 
 -- ---- which names were visited
 
+-- no block that is found has the bit of a name that is not
+apart : (t : ℕ) (x : List ℕ) → t < 65536 → eqb t (lackingBit x) ≡ false
+apart t x l = ne-eqb t (lackingBit x) (λ e. let b = bit-past x in omega arith)
+
+apart′ : (x : List ℕ) (t : ℕ) → t < 65536 → eqb (lackingBit x) t ≡ false
+apart′ x t l = ne-eqb (lackingBit x) t (λ e. let b = bit-past x in omega arith)
+
+-- no bit is lost
+kept : (sc sc′ : List ℕ) (t : ℕ) → ((u : ℕ) → markedIn sc′ u ≡ eqb t u || markedIn sc u) → (u : ℕ) → markedIn sc u ≡ true → markedIn sc′ u ≡ true
+kept sc sc′ t m u h = m u ∙ by (eqb t u)
+  where
+    by : (g : Bool) → g || markedIn sc u ≡ true
+    by true = refl
+    by false = h
+
 module _ (book ls sc sc′ : List ℕ) where
   seen-marks : ((u : ℕ) → markedIn sc′ u ≡ markedIn sc u) → (x : List ℕ) (f : Found) → seenBy book sc ls x f ≡ seenBy book sc′ ls x f
-  unfolding seenBy
+  unfolding seenBy wasListed
   seen-marks m x (At t) = sym (m t)
-  seen-marks m x Nothing = refl
+  seen-marks m x Nothing = rw (m (lackingBit x))
 
   module _ (v : List (List ℕ)) (y : List ℕ) (t : ℕ) (ey : find book y ≡ At t) (m : (u : ℕ) → markedIn sc′ u ≡ eqb t u || markedIn sc u) where
     seen-new : (x : List ℕ) (f : Found) → find book x ≡ f → has v x ≡ seenBy book sc ls x f → has (y ∷ v) x ≡ seenBy book sc′ ls x f
-    unfolding seenBy has
+    unfolding seenBy has wasListed
     seen-new x (At u) ex h =
         let e : sameName y x ≡ eqb t u =
         same-as y x t u
@@ -67,7 +83,8 @@ module _ (book ls sc sc′ : List ℕ) where
         rw (h, m u, e)
     seen-new x Nothing ex h =
         let e : sameName y x ≡ false = not-same y x (λ q. at-nothing (sym ey ∙ ap (find book) q ∙ ex)) in
-        rw (h, e)
+        let d : eqb t (lackingBit x) ≡ false = apart t x (find-below book y t ey) in
+        rw (h, e, m (lackingBit x), d)
 
 has-ref-snoc : (book ls : List ℕ) (b : ℕ) (x : List ℕ) → hasRef book (ls ++ (b ∷ [])) x ≡ namesIt book b x || hasRef book ls x
 unfolding hasRef
@@ -81,23 +98,54 @@ has-ref-snoc book (a ∷ ls) b x = rw (has-ref-snoc book ls b x) (swap (namesIt 
     swap false false = refl
 
 -- a listed alias tells of no name
-seen-alias : (book ls sc : List ℕ) (c : ℕ) → isPart book c ≡ false → (x : List ℕ) (f : Found) → seenBy book sc ls x f ≡ seenBy book sc (ls ++ (c ∷ [])) x f
-unfolding seenBy namesIt
-seen-alias book ls sc c h x (At u) = refl
-seen-alias book ls sc c h x Nothing = sym (has-ref-snoc book ls c x ∙ rw h (ap (λ (t : Bool). t || hasRef book ls x) (and-false (sameName (typeNameOf book c) x))))
+ref-alias : (book ls : List ℕ) (c : ℕ) → isPart book c ≡ false → (x : List ℕ) → hasRef book (ls ++ (c ∷ [])) x ≡ hasRef book ls x
+unfolding namesIt
+ref-alias book ls c h x = has-ref-snoc book ls c x ∙ rw h (ap (λ (t : Bool). t || hasRef book ls x) (and-false (sameName (typeNameOf book c) x)))
 
-seen-lacking : (book ls sc : List ℕ) (v : List (List ℕ)) (b : ℕ) → isPart book b ≡ true → find book (typeNameOf book b) ≡ Nothing → (x : List ℕ) (f : Found) → find book x ≡ f
-    → has v x ≡ seenBy book sc ls x f → has (typeNameOf book b ∷ v) x ≡ seenBy book sc (ls ++ (b ∷ [])) x f
-unfolding seenBy has namesIt
-seen-lacking book ls sc v b a ey x (At u) ex h =
-    let e : sameName (typeNameOf book b) x ≡ false = not-same (typeNameOf book b) x (λ q. at-nothing (sym ex ∙ ap (find book) (sym q) ∙ ey)) in
-    rw (h, e)
-seen-lacking book ls sc v b a ey x Nothing ex h = rw (h, has-ref-snoc book ls b x, a, and-true (sameName (typeNameOf book b) x))
+seen-alias : (book ls sc : List ℕ) (c : ℕ) → isPart book c ≡ false → (x : List ℕ) (f : Found) → seenBy book sc ls x f ≡ seenBy book sc (ls ++ (c ∷ [])) x f
+unfolding seenBy wasListed
+seen-alias book ls sc c h x (At u) = refl
+seen-alias book ls sc c h x Nothing = rw (ref-alias book ls c h x)
+
+-- a lacking name's bit is set, and its block listed
+module _ (book ls sc sc′ : List ℕ) (b : ℕ) (m : (u : ℕ) → markedIn sc′ u ≡ eqb (lackingBit (typeNameOf book b)) u || markedIn sc u)
+    (told : (x : List ℕ) → hasRef book ls x ≡ true → markedIn sc (lackingBit x) ≡ true) where
+  name-told : (x : List ℕ) (g : Bool) → sameName (typeNameOf book b) x ≡ g → namesIt book b x || hasRef book ls x ≡ true → markedIn sc′ (lackingBit x) ≡ true
+  unfolding namesIt
+  name-told x true e h = let q : typeNameOf book b ≡ x = same-eq _ _ e in m (lackingBit x) ∙ rw (q, eq-eqb (lackingBit x) (lackingBit x) refl)
+  name-told x false e h = kept sc sc′ (lackingBit (typeNameOf book b)) m (lackingBit x) (told x (rw e at h))
+
+  told-lacking : (x : List ℕ) → hasRef book (ls ++ (b ∷ [])) x ≡ true → markedIn sc′ (lackingBit x) ≡ true
+  told-lacking x h = name-told x (sameName (typeNameOf book b) x) refl (sym (has-ref-snoc book ls b x) ∙ h)
+
+  module _ (v : List (List ℕ)) (a : isPart book b ≡ true) (ey : find book (typeNameOf book b) ≡ Nothing) where
+    other : (x : List ℕ) (r : Bool) → hasRef book ls x ≡ r → markedIn sc (lackingBit x) && r ≡ (eqb (lackingBit (typeNameOf book b)) (lackingBit x) || markedIn sc (lackingBit x)) && r
+    other x true e = rw (told x e) (by (eqb (lackingBit (typeNameOf book b)) (lackingBit x)))
+      where
+        by : (g : Bool) → true ≡ (g || true) && true
+        by true = refl
+        by false = refl
+    other x false e =
+        and-false (markedIn sc (lackingBit x)) ∙ sym (and-false (eqb (lackingBit (typeNameOf book b)) (lackingBit x) || markedIn sc (lackingBit x)))
+
+    lacking-by : (x : List ℕ) (g : Bool) → sameName (typeNameOf book b) x ≡ g → has v x ≡ wasListed book sc ls x
+        → g || has v x ≡ markedIn sc′ (lackingBit x) && (g && isPart book b || hasRef book ls x)
+    unfolding wasListed
+    lacking-by x true e h = let q : typeNameOf book b ≡ x = same-eq _ _ e in sym (rw (m (lackingBit x), q, eq-eqb (lackingBit x) (lackingBit x) refl, a))
+    lacking-by x false e h = rw (h, m (lackingBit x)) (other x (hasRef book ls x) refl)
+
+    seen-lacking : (x : List ℕ) (f : Found) → find book x ≡ f
+        → has v x ≡ seenBy book sc ls x f → has (typeNameOf book b ∷ v) x ≡ seenBy book sc′ (ls ++ (b ∷ [])) x f
+    unfolding seenBy has namesIt wasListed
+    seen-lacking x (At u) ex h =
+        let e : sameName (typeNameOf book b) x ≡ false = not-same (typeNameOf book b) x (λ q. at-nothing (sym ex ∙ ap (find book) (sym q) ∙ ey)) in
+        rw (h, e, m u, apart′ (typeNameOf book b) u (find-below book x u ex))
+    seen-lacking x Nothing ex h = rw (has-ref-snoc book ls b x) (lacking-by x (sameName (typeNameOf book b) x) refl h)
 
 -- ---- a name that the book defines, and is new
 
 module _ (book : List ℕ) (width : ℕ) (ls : List ℕ) (v : List (List ℕ)) (sc : List ℕ) (left d b : ℕ) (y : List ℕ) (t : ℕ)
-    (seen : (x : List ℕ) → has v x ≡ seenBy book sc ls x (find book x)) (valid : ValidBook book)
+    (seen : (x : List ℕ) → has v x ≡ seenBy book sc ls x (find book x)) (told : (x : List ℕ) → hasRef book ls x ≡ true → markedIn sc (lackingBit x) ≡ true) (valid : ValidBook book)
     (parts : (c : ℕ) → List·Memᴰ c (stackOf sc d) → isPart book c ≡ true) (room : d + left ≤ 4096) (n : 0 < left) (ey : find book y ≡ At t) {w : Walk}
     (ew : w ≡ met b y (comesTo book width b (At t)) (walk book width (left - 1) (y ∷ v) (push book width (comesTo book width b (At t)) (stackOf sc d)))) where
   met-as : (a : Resolved) → resolveAlias book width t ≡ a → w ≡ met b y a (walk book width (left - 1) (y ∷ v) (push book width a (stackOf sc d)))
@@ -105,11 +153,12 @@ module _ (book : List ℕ) (width : ℕ) (ls : List ℕ) (v : List (List ℕ)) (
   met-as a h = ew ∙ ap (λ (a : Resolved). met b y a (walk book width (left - 1) (y ∷ v) (push book width a (stackOf sc d)))) h
 
   dead-left : {r : ℕ} {sc′ : List ℕ} → Dead sc d t r sc′ → (ls′ : List ℕ) → ((x : List ℕ) (f : Found) → seenBy book sc′ ls x f ≡ seenBy book sc′ ls′ x f)
-      → LeftToWalk book width sc′ ls′ (left - 1) r (walk book width (left - 1) (y ∷ v) (stackOf sc d))
-  dead-left {r} {sc′} x ls′ q =
+      → ((x : List ℕ) → hasRef book ls′ x ≡ hasRef book ls x) → LeftToWalk book width sc′ ls′ (left - 1) r (walk book width (left - 1) (y ∷ v) (stackOf sc d))
+  dead-left {r} {sc′} x ls′ q o =
       record {
         v = y ∷ v;
         seen = λ p z. seen-new book ls sc sc′ v y t ey (x .marks) z (find book z) refl (seen z) ∙ q z (find book z);
+        told = λ z h. kept sc sc′ t (x .marks) (lackingBit z) (told z (sym (o z) ∙ h));
         is = ap (walk book width (left - 1) (y ∷ v)) (sym (x .top));
         room = let m = x .more in omega arith;
         valid = valid;
@@ -125,7 +174,7 @@ module _ (book : List ℕ) (width : ℕ) (ls : List ℕ) (v : List (List ℕ)) (
         name = y;
         next = walk book width (left - 1) (y ∷ v) (stackOf sc d);
         is = met-as (Lacks c) (s .to);
-        left-over = dead-left (s .dead) (ls ++ (c ∷ [])) (seen-alias book ls sc′ c (s .alias));
+        left-over = dead-left (s .dead) (ls ++ (c ∷ [])) (seen-alias book ls sc′ c (s .alias)) (ref-alias book ls c (s .alias));
       }
   settled-after (New u k c) sc′ x =
       record {
@@ -137,6 +186,7 @@ module _ (book : List ℕ) (width : ℕ) (ls : List ℕ) (v : List (List ℕ)) (
         left-over = record {
           v = y ∷ v;
           seen = λ p z. seen-new book ls sc sc′ v y t ey (x .marks) z (find book z) refl (seen z);
+          told = λ z h. kept sc sc′ t (x .marks) (lackingBit z) (told z h);
           is = ap (walk book width (left - 1) (y ∷ v)) (sym (x .top));
           room = let m = x .more in omega arith;
           valid = valid;
@@ -149,7 +199,7 @@ module _ (book : List ℕ) (width : ℕ) (ls : List ℕ) (v : List (List ℕ)) (
         name = y;
         next = walk book width (left - 1) (y ∷ v) (stackOf sc d);
         is = met-as TooLong (s .to);
-        left-over = dead-left (s .dead) ls (λ x f. refl);
+        left-over = dead-left (s .dead) ls (λ x f. refl) (λ x. refl);
       }
   settled-after Full sc′ s = absurd s
 
@@ -166,6 +216,9 @@ settled-falls book width sc left d t m n h Full sc′ s = absurd s
 module _ (book : List ℕ) (width : ℕ) (ls : List ℕ) (left : ℕ) {sc sc′ : List ℕ} {depth : ℕ} {k : Taken} (pos : 0 < depth) (took : Took sc depth k sc′) where
   seen-after : {w : Walk} (l : LeftToWalk book width sc ls left depth w) (x : List ℕ) → has (l .v) x ≡ seenBy book sc′ ls x (find book x)
   seen-after l x = l .seen pos x ∙ seen-marks book ls sc sc′ (took .marks) x (find book x)
+
+  told-after : {w : Walk} (l : LeftToWalk book width sc ls left depth w) (x : List ℕ) → hasRef book ls x ≡ true → markedIn sc′ (lackingBit x) ≡ true
+  told-after l x h = took .marks (lackingBit x) ∙ l .told x h
 
   is-seen : {w : Walk} (l : LeftToWalk book width sc ls left depth w) (f : Found) → f ≡ find book (typeNameOf book (k .block))
       → has (l .v) (typeNameOf book (k .block)) ≡ seenBy book sc′ ls (typeNameOf book (k .block)) f
@@ -196,6 +249,7 @@ module _ (book : List ℕ) (width : ℕ) (ls : List ℕ) (left : ℕ) {sc sc′ 
           goes = λ w l. record {
             v = l .v;
             seen = λ p. seen-after l;
+            told = told-after l;
             is = is-top l ∙ walk-old book width (l .v) (stackOf sc′ (k .depth)) (k .block) left (is-seen l f ef ∙ h);
             room = let a = l .room in let b = took .less in omega arith;
             valid = l .valid;
@@ -254,7 +308,7 @@ module _ (book : List ℕ) (width : ℕ) (ls : List ℕ) (left : ℕ) {sc sc′ 
             record {
               goes = λ w l.
                   let rm : k .depth + left ≤ 4096 = let a = l .room in let b = took .less in omega arith in
-                  settled-after book width ls (l .v) sc′ left (k .depth) (k .block) (typeNameOf book (k .block)) t (seen-after l) (l .valid) (parts-after l) rm p ey
+                  settled-after book width ls (l .v) sc′ left (k .depth) (k .block) (typeNameOf book (k .block)) t (seen-after l) (told-after l) (l .valid) (parts-after l) rm p ey
                   (is-met fresh n l (At t) ft) r sc″ (x .so);
               falls = settled-falls book width sc′ left (k .depth) t (work sc left depth) p (omega (arith, length-top)) r sc″ (x .so);
               event = event-is (rw (fresh, z, ft) (x .event));
@@ -263,11 +317,11 @@ module _ (book : List ℕ) (width : ℕ) (ls : List ℕ) (left : ℕ) {sc sc′ 
 
     -- the book lacks it
     module _ (ft : f ≡ Nothing) (name : List ℕ) (en : name ≡ typeNameOf book (k .block)) where
-      pub step-listed : (g : Bool) → g ≡ hasRef book ls name → g ≡ true → Stepped book width sc ls left depth (Old (k .depth)) sc′
+      pub step-listed : (g : Bool) → g ≡ wasListed book sc′ ls name → g ≡ true → Stepped book width sc ls left depth (Old (k .depth)) sc′
       unfolding seenBy
       step-listed g eg h = stepped-old (rw (ft, ← en) (sym eg ∙ h))
 
-      module _ (g : Bool) (eg : g ≡ hasRef book ls name) (h : g ≡ false) where
+      module _ (g : Bool) (eg : g ≡ wasListed book sc′ ls name) (h : g ≡ false) where
         fresh′ : seenBy book sc′ ls (typeNameOf book (k .block)) f ≡ false
         unfolding seenBy
         fresh′ = rw (ft, ← en) (sym eg ∙ h)
@@ -275,11 +329,16 @@ module _ (book : List ℕ) (width : ℕ) (ls : List ℕ) (left : ℕ) {sc sc′ 
         pub step-full′ : left ≡ 0 → Stepped book width sc ls left depth Full sc′
         step-full′ z = stepped-stop fresh′ z
 
-        pub step-lacking : (left ≡ 0 → ⊥) → Stepped book width sc ls left depth (event.Lacks (k .block) (k .depth)) sc′
+        pub step-lacking : (left ≡ 0 → ⊥) → depth + left ≤ 4096 → (u : ℕ) → u ≡ lackingBit name → {sc″ : List ℕ} → BlockMarked sc′ u sc″
+            → Stepped book width sc ls left depth (event.Lacks (k .block) (k .depth)) sc″
         unfolding push chainOnward work turnEvent turnOn newOn settledEvent
-        step-lacking n =
+        step-lacking n lim u eu {sc″} x =
             let ey : find book (typeNameOf book (k .block)) ≡ Nothing = sym ef ∙ ft in
             let z : eqb left 0 ≡ false = ne-eqb left 0 n in
+            let q : u ≡ lackingBit (typeNameOf book (k .block)) = rw (← en) eu in
+            let m : (v : ℕ) → markedIn sc″ v ≡ eqb (lackingBit (typeNameOf book (k .block))) v || markedIn sc′ v = λ v. rw (← q) (x .marks v) in
+            let below : k .depth ≤ 4096 = let b = took .less in omega arith in
+            let stack : stackOf sc″ (k .depth) ≡ stackOf sc′ (k .depth) = x .stack (k .depth) below in
             record {
               goes = λ w l.
                   let pb : isPart book (k .block) ≡ true = l .parts (k .block) (rw (took .top) (List·Memᴰ·head refl)) in
@@ -290,16 +349,17 @@ module _ (book : List ℕ) (width : ℕ) (ls : List ℕ) (left : ℕ) {sc sc′ 
                     is = is-met fresh′ n l Nothing ft;
                     left-over = record {
                       v = typeNameOf book (k .block) ∷ l .v;
-                      seen = λ p y. seen-lacking book ls sc′ (l .v) (k .block) pb ey y (find book y) refl (seen-after l y);
-                      is = refl;
+                      seen = λ p y. seen-lacking book ls sc′ sc″ (k .block) m (told-after l) (l .v) pb ey y (find book y) refl (seen-after l y);
+                      told = told-lacking book ls sc′ sc″ (k .block) m (told-after l);
+                      is = ap (walk book width (left - 1) (typeNameOf book (k .block) ∷ l .v)) (sym stack);
                       room = let a = l .room in let b = took .less in omega (arith, n);
                       valid = l .valid;
-                      parts = parts-after l;
+                      parts = λ c p. parts-after l c (rw stack at p);
                     };
                   };
-              falls = (omega (arith, n), omega (arith, n, length-top));
+              falls = (omega (arith, n), rw stack (omega (arith, n, length-top)));
               event = event-is (rw (fresh′, z, ft));
-              numbers = numbers-are (rw (fresh′, z, ft));
+              numbers = numbers-are (rw (fresh′, z, ft) (rw q at (x .numbers)));
             }
 
 -- ---- the start
@@ -315,9 +375,13 @@ unfolding markedIn
 no-marks m u = rw (zero-at m (4096 + u / 32), zero-div (2 ^ (u % 32)))
 
 none-seen : (book sc : List ℕ) → sc ≡ replicate (length sc) 0 → (y : List ℕ) (g : Found) → has [] y ≡ seenBy book sc [] y g
-unfolding has seenBy hasRef
+unfolding has seenBy hasRef wasListed
 none-seen book sc z y (At u) = sym (ap (λ (l : List ℕ). markedIn l u) z ∙ no-marks (length sc) u)
-none-seen book sc z y Nothing = refl
+none-seen book sc z y Nothing = sym (and-false (markedIn sc (lackingBit y)))
+
+none-told : (book sc x : List ℕ) → hasRef book [] x ≡ true → markedIn sc (lackingBit x) ≡ true
+unfolding hasRef
+none-told book sc x h = absurd (let z : _≡_ {A = ℕ} 0 1 = cc in omega arith)
 
 settled-due : (book : List ℕ) (width : ℕ) (sc : List ℕ) (d t left : ℕ) → 0 < left → (r : Event) (sc′ : List ℕ) → Settled book width sc d t r sc′ → Due left r
 settled-due book width sc d t left n (Old k) sc′ s = absurd s
@@ -334,7 +398,7 @@ start-settled book width root v y sc {sc′} {r} z x =
     let all : walkOf book width root ≡ met root (nameOf book root) (comesTo book width root (At root)) (walk book width 4095 (nameOf book root ∷ []) (push book width (comesTo book width root (At root)) [])) = rw own in
     record {
       goes =
-          settled-after book width [] [] sc 4096 0 root (nameOf book root) root (λ y. none-seen book sc z y (find book y)) v (λ c m. absurd (List·Memᴰ·not-nil m)) (omega arith) (omega arith)
+          settled-after book width [] [] sc 4096 0 root (nameOf book root) root (λ y. none-seen book sc z y (find book y)) (none-told book sc) v (λ c m. absurd (List·Memᴰ·not-nil m)) (omega arith) (omega arith)
           own all r sc′ (x .so);
       due = settled-due book width sc 0 root 4096 (omega arith) r sc′ (x .so);
       event = x .event;

@@ -12,7 +12,7 @@ use Rattle.resolve_walk.specs.Scratch.{scratchFits, listFits}
 
 module _ (g : Bool) (h : not g ≡ false) where
   -- the scratch has room for the stack and the bits
-  pub scratch-room : (sc : List ℕ) → g ≡ scratchFits sc → 6144 ≤ length sc
+  pub scratch-room : (sc : List ℕ) → g ≡ scratchFits sc → 8192 ≤ length sc
   scratch-room sc e = let p = leb-true 8192 (length sc) (sym e ∙ not-false g h) in omega arith
 
   -- the list has room for every name
@@ -25,7 +25,7 @@ module _ (g : Bool) (h : not g ≡ false) where
 pub zeros : (sc sc₁ : List ℕ) → sc₁ ≡ replicate (length sc) 0 → sc₁ ≡ replicate (length sc₁) 0
 zeros sc sc₁ z = z ∙ ap (λ (n : ℕ). replicate n 0) (sym (ap length z ∙ length-replicate (length sc) 0))
 
-pub zeros-room : (sc sc₁ : List ℕ) → sc₁ ≡ replicate (length sc) 0 → 6144 ≤ length sc → 6144 ≤ length sc₁
+pub zeros-room : (sc sc₁ : List ℕ) → sc₁ ≡ replicate (length sc) 0 → 8192 ≤ length sc → 8192 ≤ length sc₁
 zeros-room sc sc₁ z h = let e = ap length z ∙ length-replicate (length sc) 0 in omega arith
 
 -- sc₃ is cleared after a walk over sc₁

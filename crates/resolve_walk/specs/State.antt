@@ -16,17 +16,17 @@ use Rattle.type_book_check.specs.Check.{ValidBook}
 use Rattle.resolvers.specs.declared.Resolved.the-variants.{Base, Lacks, TooLong}
 use Rattle.resolvers.specs.Resolve.{resolveAlias}
 use Rattle.resolve_walk_scratch.specs.declared.Taken.{Taken}
-use Rattle.resolve_walk_scratch.specs.Scratch.{stackOf, markedIn, isPart, hasRef, takenAt, takenFrom}
+use Rattle.resolve_walk_scratch.specs.Scratch.{stackOf, markedIn, markedOn, lackingBit, isPart, hasRef, wasListed, takenAt, takenFrom}
 use Rattle.resolve_walk_events.specs.Events.{settledEvent, settledOn}
 use Rattle.resolve_walk_events.specs.declared.Event.{Event}
 use Rattle.resolve_walk_events.specs.declared.Event.the-variants.{Old, New, Full}
 use Rattle.resolve_walk_events.specs.declared.Event.the-variants as event
 use Rattle.resolve_walk.specs.Walk.{Walk, full, met, comesTo, has, walk, walkOf}
 
--- a name was visited: where the book defines it, by its bit; else a listed block names it as a part
+-- a name was visited: where the book defines it, by its block's bit; else its own bit is set, and a listed block names it as a part
 unfoldable pub seenBy : List ℕ → List ℕ → List ℕ → List ℕ → Found → Bool
 seenBy book sc ls x (At t) = markedIn sc t
-seenBy book sc ls x Nothing = hasRef book ls x
+seenBy book sc ls x Nothing = wasListed book sc ls x
 
 -- ---- the event and the numbers of a turn
 
@@ -36,15 +36,15 @@ turnEvent book width sc ls left k f =
     cond (seenBy book sc ls (typeNameOf book (k .block)) f) (Old (k .depth))
     (cond (eqb left 0) Full (settledEvent book width (k .depth) (comesTo book width (k .block) f)))
 
--- the scratch after a new name, by what its look-up found: a name that the book lacks has no block to mark
-unfoldable pub newOn : List ℕ → ℕ → List ℕ → ℕ → Found → List ℕ
-newOn book width sc depth (At t) = settledOn book width sc depth t (resolveAlias book width t)
-newOn book width sc depth Nothing = sc
+-- the scratch after the new name x, by what its look-up found: a name that the book lacks has no block to mark, but a bit of its own
+unfoldable pub newOn : List ℕ → ℕ → List ℕ → ℕ → List ℕ → Found → List ℕ
+newOn book width sc depth x (At t) = settledOn book width sc depth t (resolveAlias book width t)
+newOn book width sc depth x Nothing = markedOn sc (lackingBit x)
 
 -- the scratch then: as the block was taken off it, unless the name is new
 unfoldable pub turnOn : List ℕ → ℕ → List ℕ → List ℕ → ℕ → Taken → Found → List ℕ
 turnOn book width sc ls left k f =
-    cond (seenBy book sc ls (typeNameOf book (k .block)) f || eqb left 0) sc (newOn book width sc (k .depth) f)
+    cond (seenBy book sc ls (typeNameOf book (k .block)) f || eqb left 0) sc (newOn book width sc (k .depth) (typeNameOf book (k .block)) f)
 
 -- the event of one turn: the top block is taken off, and its type name looked up
 unfoldable pub stepEvent : List ℕ → ℕ → List ℕ → List ℕ → ℕ → ℕ → Event
@@ -62,6 +62,7 @@ stepOn book width sc ls left depth =
 pub record LeftToWalk (book : List ℕ) (width : ℕ) (sc ls : List ℕ) (left depth : ℕ) (w : Walk) : Type 0 where
   pub v : List (List ℕ)
   pub seen : 0 < depth → (x : List ℕ) → has v x ≡ seenBy book sc ls x (find book x)
+  pub told : (x : List ℕ) → hasRef book ls x ≡ true → markedIn sc (lackingBit x) ≡ true
   pub is : w ≡ walk book width left v (stackOf sc depth)
   pub room : depth + left ≤ 4096
   pub valid : ValidBook book

@@ -6,24 +6,28 @@ ghost use mathlib.Core.Bool.{true};
 ghost use Prim.Native.Nat.{_≤_, _<_, _+_};
 ghost use lib.ListN.{length, take as first, replicate};
 ghost use Rattle.type_book.specs.Book.{isType};
+ghost use Rattle.type_index.specs.Trust.{Trusted};
 ghost use Rattle.type_book_check.specs.Check.{ValidBook};
 ghost use Rattle.resolve_walk.specs.Scratch.{scratchFits, listFits};
 ghost use Rattle.resolve_walk.specs.State.{Stepped, Started};
 use resolve_walk_events::Event;
 use resolve_walk_events::settle;
-use resolve_walk_scratch::in_list;
+use resolve_walk_scratch::lacking_bit;
+use resolve_walk_scratch::mark;
 use resolve_walk_scratch::marked;
 use resolve_walk_scratch::take;
-use resolvers::named_in;
+use resolve_walk_scratch::was_listed;
+use resolvers::named_by;
 use type_book::block;
+use type_index::Trust;
 use type_provider::Found;
 
 // The maximum number of distinct type names to visit before a corrupted type table is assumed: this guards against very wide type
 // graphs only, since cycles end at the visited names.
 pub const MAX_TYPES_VISITED: usize = 4096;
 
-// The numbers that a caller lends as scratch. A walk uses 6,144 of them: a stack of at most one entry for each name visited, and a
-// bit for each of 65,536 blocks.
+// The numbers that a caller lends as scratch: a stack of at most one entry for each name visited, a bit for each of 65,536 blocks, and as
+// many for the hashes of names that the book lacks.
 const SCRATCH: usize = 8192;
 
 // 6: the scratch is long enough.
@@ -40,10 +44,11 @@ pub fn list_fits(list: &[u32]) -> bool
     list.len() >= MAX_TYPES_VISITED
 }
 
-// One turn: the top block's name is new, or was visited.
+// One turn, with what the call knows of its index: the top block's name is new, or was visited.
 pub fn step(
     book: &[u8],
     index: &[u32],
+    trust: Trust,
     width: u8,
     scratch: &mut [u32],
     list: &[u32],
@@ -51,19 +56,21 @@ pub fn step(
     left: usize,
     depth: usize,
 ) -> Event
-    requires { ⌜ ValidBook (now book) × (6144 ≤ length (now scratch)) × (n ≤ length (now list)) × (0 < depth) × (depth + left ≤ 4096) ⌝ }
+    requires { ⌜ ValidBook (now book) × Trusted (now book) (now index) trust × (8192 ≤ length (now scratch)) × (n ≤ length (now list)) × (0 < depth) × (depth + left ≤ 4096) ⌝ }
     ensures { λ r. ⌜ Stepped (now (book .entry)) width (now (scratch .entry)) (first n (now (list .entry))) left depth r (now (scratch .exit)) ⌝ }
 {
     let taken = take(scratch, depth);
     let b = taken.block;
     let d = taken.depth;
-    let Found::At(t) = named_in(book, index, b) else {
-        if in_list(book, list, n, block::type_name(book, b)) {
+    let Found::At(t) = named_by(book, index, trust, b) else {
+        let name = block::type_name(book, b);
+        if was_listed(book, scratch, list, n, name) {
             return Event::Old(d);
         }
         if left == 0 {
             return Event::Full;
         }
+        mark(scratch, lacking_bit(name));
         return Event::Lacks(b, d);
     };
     if marked(scratch, t) {
@@ -72,13 +79,13 @@ pub fn step(
     if left == 0 {
         return Event::Full;
     }
-    settle(book, index, width, scratch, d, t)
+    settle(book, index, trust, width, scratch, d, t)
 }
 
 // The first event: the root's own name, which finds the root block in a valid book.
 pub fn start(book: &[u8], index: &[u32], width: u8, root: u32, scratch: &mut [u32]) -> Event
-    requires { ⌜ ValidBook (now book) × (isType (now book) root ≡ true) × (6144 ≤ length (now scratch)) × (now scratch ≡ replicate (length (now scratch)) 0) ⌝ }
+    requires { ⌜ ValidBook (now book) × (isType (now book) root ≡ true) × (8192 ≤ length (now scratch)) × (now scratch ≡ replicate (length (now scratch)) 0) ⌝ }
     ensures { λ r. ⌜ Started (now (book .entry)) width root (now (scratch .entry)) r (now (scratch .exit)) ⌝ }
 {
-    settle(book, index, width, scratch, 0, root)
+    settle(book, index, Trust::Unknown, width, scratch, 0, root)
 }

@@ -5,12 +5,14 @@ ghost use mathlib.Core.Bool.{true};
 ghost use Prim.Native.Nat.{_≤_, _<_};
 ghost use lib.ListN.{length};
 ghost use Rattle.type_book.specs.Book.{isType};
+ghost use Rattle.type_index.specs.Trust.{Trusted};
 ghost use Rattle.type_book_check.specs.Check.{ValidBook};
 ghost use Rattle.resolve_walk_events.specs.Events.{Settles};
 use resolve_walk_scratch::expand;
 use resolve_walk_scratch::mark;
 use resolvers::Resolved;
 use type_category::type_category::AdsTypeCategory;
+use type_index::Trust;
 
 // What one turn of a walk finds; the last number is the entries on the stack after it.
 pub enum Event {
@@ -30,15 +32,16 @@ pub enum Event {
 fn settle_alias(
     book: &[u8],
     index: &[u32],
+    trust: Trust,
     width: u8,
     scratch: &mut [u32],
     depth: usize,
     t: u32,
 ) -> Event
-    requires { ⌜ ValidBook (now book) × (isType (now book) t ≡ true) × (depth < 4096) × (6144 ≤ length (now scratch)) ⌝ }
+    requires { ⌜ ValidBook (now book) × Trusted (now book) (now index) trust × (isType (now book) t ≡ true) × (depth < 4096) × (6144 ≤ length (now scratch)) ⌝ }
     ensures { λ r. ⌜ Settles (now (book .entry)) width (now (scratch .entry)) depth t r (now (scratch .exit)) ⌝ }
 {
-    let resolved = resolvers::resolve_alias_in(book, index, width, t);
+    let resolved = resolvers::resolve_alias_by(book, index, trust, width, t);
     match resolved {
         Resolved::Base(u) => {
             let category = AdsTypeCategory::determine(book, width, u);
@@ -59,17 +62,18 @@ fn settle_alias(
 pub fn settle(
     book: &[u8],
     index: &[u32],
+    trust: Trust,
     width: u8,
     scratch: &mut [u32],
     depth: usize,
     t: u32,
 ) -> Event
-    requires { ⌜ ValidBook (now book) × (isType (now book) t ≡ true) × (depth < 4096) × (6144 ≤ length (now scratch)) ⌝ }
+    requires { ⌜ ValidBook (now book) × Trusted (now book) (now index) trust × (isType (now book) t ≡ true) × (depth < 4096) × (6144 ≤ length (now scratch)) ⌝ }
     ensures { λ r. ⌜ Settles (now (book .entry)) width (now (scratch .entry)) depth t r (now (scratch .exit)) ⌝ }
 {
     let category = AdsTypeCategory::determine(book, width, t);
     if resolvers::goes_on(category, false) {
-        return settle_alias(book, index, width, scratch, depth, t);
+        return settle_alias(book, index, trust, width, scratch, depth, t);
     }
     Event::New(t, expand(book, scratch, depth, t, t, category), category)
 }

@@ -11,7 +11,7 @@ use lib.Bits.{bitOr, or-shr, or-mod, or-zero-r}
 use lib.Pow.{pow-pos, pow-lt, pow-add, shl-shr}
 use lib.Dec.{eqb, ltb}
 use borrow.Author.Tests.{eqb-true, eqb-false, ltb-true, ltb-false}
-use Rattle.resolve_walk_scratch.specs.Scratch.{markedIn, markedOn, BlockMarked}
+use Rattle.resolve_walk_scratch.specs.Scratch.{markedIn, markedOn, BitIn, BlockMarked}
 use Rattle.resolve_walk_scratch.proofs.Stacks.{stack-set}
 
 one-bit : (j k : ℕ) → (j ≡ k → ⊥) → 2 ^ j / 2 ^ k % 2 ≡ 0
@@ -66,16 +66,17 @@ module _ (sc : List ℕ) (t : ℕ) (z : 4096 + t / 32 < length sc) where
           rw (h, q, getD-set-same sc (4096 + t / 32) y 0 z, bit-same (getD sc (4096 + t / 32) 0) (t % 32))
       by false h = word (eqb (t / 32) (u / 32)) refl h
 
-pub mark-is : (sc : List ℕ) (t : ℕ) → t < 65536 → 6144 ≤ length sc → BlockMarked sc t (set sc (4096 + t / 32) (bitOr (getD sc (4096 + t / 32) 0) (1 * 2 ^ (t % 32) % 4294967296)))
+pub mark-is : (sc : List ℕ) (t : ℕ) → BitIn sc t → BlockMarked sc t (set sc (4096 + t / 32) (bitOr (getD sc (4096 + t / 32) 0) (1 * 2 ^ (t % 32) % 4294967296)))
 unfolding markedOn
-mark-is sc t h z =
+mark-is sc t p =
+    let z : 4096 + t / 32 < length sc = p .room in
     let k : t % 32 < 32 = omega arith in
     let b : 2 ^ (t % 32) < 4294967296 = pow-lt k in
     let q : 1 * 2 ^ (t % 32) % 4294967296 ≡ 2 ^ (t % 32) = let o : 1 * 2 ^ (t % 32) ≡ 2 ^ (t % 32) = omega arith in rw o (mod-eq-of-lt b) in
     rw q
     (record {
       stack = λ d l. stack-set sc _ _ d (omega arith);
-      marks = marks sc t (omega arith);
+      marks = marks sc t z;
       numbers = refl;
     })
 

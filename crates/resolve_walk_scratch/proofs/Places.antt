@@ -1,8 +1,8 @@
 -- Blocks of a valid book: where types and fields stand, which blocks name a type as a part, and names among the listed. Assumes nothing.
 use mathlib.Core.Path.{_≡_, refl, sym, _∙_}
-use mathlib.Core.Bool.{Bool, true, false, _||_}
+use mathlib.Core.Bool.{Bool, true, false, _&&_, _||_}
 use mathlib.Core.List.{List}
-use Prim.Native.Nat.{ℕ, _+_, _*_, _≤_, _<_}
+use Prim.Native.Nat.{ℕ, _+_, _*_, _/_, _%_, _≤_, _<_}
 use native.Mathlib.Omega.{arith}
 use native.Mathlib.Numerals.{add-one}
 use lib.ListN.{length, getD, take, drop, drop-of-length-le}
@@ -12,9 +12,10 @@ use borrow.Author.Tests.{eqb-true}
 use mir.Syntax.{w32}
 use mir.Val.{Fits}
 use Rattle.type_book.specs.Book.{blocks, kindOf, isType, dimensionsOf, fieldsOf, typeNameOf, sameName}
+use Rattle.type_marks.specs.Marks.{hashOf}
 use Rattle.type_book_check.specs.Check.{ValidBook}
 use Rattle.type_book_check.proofs.Valid.{valid-size, valid-below, valid-type}
-use Rattle.resolve_walk_scratch.specs.Scratch.{isPart, namesIt, hasRef}
+use Rattle.resolve_walk_scratch.specs.Scratch.{markedIn, lackingBit, isPart, namesIt, hasRef, wasListed, BitIn}
 
 -- ---- types and their fields
 
@@ -24,6 +25,10 @@ module _ (book : List ℕ) (t : ℕ) (v : ValidBook book) (y : isType book t ≡
       let b : t < blocks book = valid-below book v t 0 (eqb-true (kindOf book t) 1 y) in
       let f : blocks book ≤ 65536 = valid-size book v .few in
       omega arith
+
+  -- its bit stands in the scratch
+  pub type-bit : (sc : List ℕ) → 6144 ≤ length sc → BitIn sc t
+  type-bit sc z = let b = type-below in record { low = omega arith; room = omega arith }
 
   pub fields-below : (n : ℕ) → n ≡ fieldsOf book t → n < 65536
   fields-below n e =
@@ -83,3 +88,27 @@ module _ (book list : List ℕ) (n : ℕ) (name : List ℕ) (w : n ≤ length li
     in-none h =
         let q : length (take n list) ≤ i = rw (length-take-le n list w) h in
         sym (inv ∙ rw (drop-of-length-le (take n list) q))
+
+-- ---- the bit of a name that the book lacks
+
+pub bit-is : (name : List ℕ) (h : ℕ) → h ≡ hashOf name → 65536 + h % 65536 ≡ lackingBit name
+unfolding lackingBit
+bit-is name h e = rw e
+
+-- no block has it
+pub bit-past : (name : List ℕ) → 65536 ≤ lackingBit name
+unfolding lackingBit
+bit-past name = omega arith
+
+pub bit-in : (sc name : List ℕ) (b : ℕ) → b ≡ lackingBit name → 8192 ≤ length sc → BitIn sc b
+unfolding lackingBit
+bit-in sc name b e z = record { low = rw e (omega arith); room = rw e (omega arith) }
+
+module _ (book sc ls name : List ℕ) (b : ℕ) (eb : b ≡ lackingBit name) (g : Bool) (eg : g ≡ markedIn sc b) where
+  pub listed-maybe : g ≡ true → (r : Bool) → r ≡ hasRef book ls name → r ≡ wasListed book sc ls name
+  unfolding wasListed
+  listed-maybe h r er = rw (← eb, ← eg, h) er
+
+  pub listed-not : g ≡ false → false ≡ wasListed book sc ls name
+  unfolding wasListed
+  listed-not h = rw (← eb, ← eg, h)

@@ -1,5 +1,5 @@
 -- How a walk's stack and its visited blocks stand in numbers: the stack in scratch 0 to 4,095, a bit for each block visited in 4,096 to
--- 6,143; and what is done to them. No call of document 01 names this in its contract. Assumes nothing.
+-- 6,143, one for each hash of a name that the book lacks in 6,144 to 8,191; and what is done to them. No call of document 01 names this in its contract. Assumes nothing.
 use mathlib.Core.Path.{_≡_}
 use mathlib.Core.Bool.{Bool, false, cond, _||_, _&&_, not}
 use mathlib.Core.List.{List, [], _∷_, _++_}
@@ -8,6 +8,7 @@ use lib.ListN.{length, getD, set}
 use lib.Bits.{bitOr}
 use lib.Dec.{eqb, ltb}
 use Rattle.type_book.specs.Book.{isType, dimensionsOf, fieldsOf, typeNameOf, sameName}
+use Rattle.type_marks.specs.Marks.{hashOf}
 use Rattle.type_category.specs.declared.type_category.AdsTypeCategory.{AdsTypeCategory}
 use Rattle.resolve_walk_scratch.specs.declared.Parts.{Parts}
 use Rattle.resolve_walk_scratch.specs.declared.Parts.the-variants.{Element, Fields, Nothing}
@@ -42,6 +43,19 @@ namesIt book b x = sameName (typeNameOf book b) x && isPart book b
 unfoldable pub hasRef : List ℕ → List ℕ → List ℕ → Bool
 hasRef book [] x = false
 hasRef book (b ∷ bs) x = namesIt book b x || hasRef book bs x
+
+-- the bit of a name that the book lacks, by its hash: it stands after those of the 65,536 blocks
+unfoldable pub lackingBit : List ℕ → ℕ
+lackingBit name = 65536 + hashOf name % 65536
+
+-- a name that the book lacks was visited: its bit is set, and a listed block names it as a part
+unfoldable pub wasListed : List ℕ → List ℕ → List ℕ → List ℕ → Bool
+wasListed book sc ls x = markedIn sc (lackingBit x) && hasRef book ls x
+
+-- bit t stands in the scratch
+pub record BitIn (sc : List ℕ) (t : ℕ) : Type 0 where
+  pub low : t < 131072
+  pub room : 4096 + t / 32 < length sc
 
 -- ---- the numbers after a call
 

@@ -1,5 +1,6 @@
 // The blocks that a walk has still to visit and those that it has visited, as numbers in the lent scratch: a stack in 0 to 4,095, a bit
-// for each of 65,536 blocks in 4,096 to 6,143. A name that the book lacks has no block: it was visited if a listed block names it.
+// for each of 65,536 blocks in 4,096 to 6,143. A name that the book lacks has no block: it was visited if a listed block names it. In 6,144
+// to 8,191 its hash has a bit, so that the list is searched only for a name that may stand in it.
 // These functions are for the walks alone, which show what their `requires` ask for.
 ghost use mathlib.Core.Path.{_≡_};
 ghost use mathlib.Core.Bool.{true};
@@ -8,12 +9,16 @@ ghost use lib.ListN.{length, take as first};
 ghost use Rattle.type_book.specs.Book.{isType};
 ghost use Rattle.type_book_check.specs.Check.{ValidBook};
 ghost use Rattle.resolve_walk_scratch.specs.Parts.{partsKind};
-ghost use Rattle.resolve_walk_scratch.specs.Scratch.{markedIn, isPart, namesIt, hasRef, Took, BlockMarked, Pushed, MarkedAndPushed};
+ghost use Rattle.resolve_walk_scratch.specs.Scratch.{markedIn, lackingBit, isPart, namesIt, hasRef, wasListed, BitIn, Took, BlockMarked, Pushed, MarkedAndPushed};
 use type_book::block;
 use type_category::type_category::AdsTypeCategory;
+use type_marks::hash;
 
 // The first number of the bits: the stack before it has an entry for each name that a walk may visit.
 const MARKS: usize = 4096;
+
+// The first bit of the names that the book lacks, after those of the blocks.
+const LACKING: u32 = 65536;
 
 // What a type is made of: the type that an array names, the types of fields, or nothing that is walked.
 pub enum Parts {
@@ -31,7 +36,7 @@ pub struct Taken {
 // ---- the bits and the stack
 
 pub fn marked(scratch: &[u32], t: u32) -> bool
-    requires { ⌜ (t < 65536) × (6144 ≤ length (now scratch)) ⌝ }
+    requires { ⌜ BitIn (now scratch) t ⌝ }
     ensures { λ r. ⌜ r ≡ markedIn (now (scratch .entry)) t ⌝ }
 {
     let i = MARKS + (t / 32) as usize;
@@ -39,7 +44,7 @@ pub fn marked(scratch: &[u32], t: u32) -> bool
 }
 
 pub fn mark(scratch: &mut [u32], t: u32)
-    requires { ⌜ (t < 65536) × (6144 ≤ length (now scratch)) ⌝ }
+    requires { ⌜ BitIn (now scratch) t ⌝ }
     ensures { λ _. ⌜ BlockMarked (now (scratch .entry)) t (now (scratch .exit)) ⌝ }
 {
     let i = MARKS + (t / 32) as usize;
@@ -175,6 +180,24 @@ pub fn in_list(book: &[u8], list: &[u32], n: usize, name: &[u8]) -> bool
             return true;
         }
         i += 1;
+    }
+    false
+}
+
+// The bit of a name that the book lacks: names of one hash share it.
+pub fn lacking_bit(name: &[u8]) -> u32
+    ensures { λ r. ⌜ r ≡ lackingBit (now (name .entry)) ⌝ }
+{
+    LACKING + hash(name) % 65536
+}
+
+// Whether one of the first n listed blocks names it, where that must have set its bit.
+pub fn was_listed(book: &[u8], scratch: &[u32], list: &[u32], n: usize, name: &[u8]) -> bool
+    requires { ⌜ (n ≤ length (now list)) × (8192 ≤ length (now scratch)) ⌝ }
+    ensures { λ r. ⌜ r ≡ wasListed (now (book .entry)) (now (scratch .entry)) (first n (now (list .entry))) (now (name .entry)) ⌝ }
+{
+    if marked(scratch, lacking_bit(name)) {
+        return in_list(book, list, n, name);
     }
     false
 }

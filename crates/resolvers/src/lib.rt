@@ -4,11 +4,13 @@ ghost use mathlib.Core.Path.{_≡_};
 ghost use mathlib.Core.Bool.{true};
 ghost use Rattle.type_book.specs.Book.{isType, typeNameOf};
 ghost use Rattle.type_provider.specs.Find.{find, foundNumbers};
+ghost use Rattle.type_index.specs.Trust.{Trusted};
 ghost use Rattle.type_book_check.specs.Check.{ValidBook};
 ghost use Rattle.resolvers.specs.Resolve.{goesOn, isFollowed, resolveType, resolveAlias, resolveIndirection, ResolvedIs, LookedUp};
 ghost use Rattle.resolvers.specs.Calls.{resolutionNumbers, resolution, rootAlias, rootIndirection};
 use type_book_check::RootCheck;
 use type_category::type_category::AdsTypeCategory;
+use type_index::Trust;
 use type_provider::Found;
 
 // The maximum number of look-ups on a chain of aliases, or of aliases and references (the Rust's MAX_INDIRECTION_DEPTH is the same
@@ -66,17 +68,25 @@ fn is_followed(book: &[u8], width: u8, n: u32, references: bool) -> bool
     goes_on(AdsTypeCategory::determine(book, width, n), references)
 }
 
-// The type that block b names, as a field, as an array or as an alias.
+// The type that block b names, as a field, as an array or as an alias, with what the call knows of its index.
+pub fn named_by(book: &[u8], index: &[u32], trust: Trust, b: u32) -> Found
+    requires { ⌜ ValidBook (now book) × Trusted (now book) (now index) trust ⌝ }
+    ensures { λ r. ⌜ foundNumbers r ≡ foundNumbers (find (now (book .entry)) (typeNameOf (now (book .entry)) b)) ⌝ }
+{
+    type_index::type_of(book, index, trust, b)
+}
+
+// The same with any index.
 pub fn named_in(book: &[u8], index: &[u32], b: u32) -> Found
     requires { ⌜ ValidBook (now book) ⌝ }
     ensures { λ r. ⌜ foundNumbers r ≡ foundNumbers (find (now (book .entry)) (typeNameOf (now (book .entry)) b)) ⌝ }
 {
-    type_index::type_of(book, index, b)
+    named_by(book, index, Trust::Unknown, b)
 }
 
 // Follows the chain from type block t on.
-fn follow(book: &[u8], index: &[u32], width: u8, t: u32, references: bool) -> Resolved
-    requires { ⌜ ValidBook (now book) × (isType (now book) t ≡ true) ⌝ }
+fn follow(book: &[u8], index: &[u32], trust: Trust, width: u8, t: u32, references: bool) -> Resolved
+    requires { ⌜ ValidBook (now book) × Trusted (now book) (now index) trust × (isType (now book) t ≡ true) ⌝ }
     ensures { λ r. ⌜ ResolvedIs (now (book .entry)) (resolveType references (now (book .entry)) width t) r ⌝ }
 {
     let mut at = t;
@@ -85,7 +95,7 @@ fn follow(book: &[u8], index: &[u32], width: u8, t: u32, references: bool) -> Re
         if !is_followed(book, width, at, references) {
             return Resolved::Base(at);
         }
-        let found = named_in(book, index, at);
+        let found = named_by(book, index, trust, at);
         let Found::At(u) = found else {
             return Resolved::Lacks(at);
         };
@@ -95,12 +105,20 @@ fn follow(book: &[u8], index: &[u32], width: u8, t: u32, references: bool) -> Re
     Resolved::TooLong
 }
 
-// Resolves type block t down to a type that is no alias.
+// Resolves type block t down to a type that is no alias, with what the call knows of its index.
+pub fn resolve_alias_by(book: &[u8], index: &[u32], trust: Trust, width: u8, t: u32) -> Resolved
+    requires { ⌜ ValidBook (now book) × Trusted (now book) (now index) trust × (isType (now book) t ≡ true) ⌝ }
+    ensures { λ r. ⌜ ResolvedIs (now (book .entry)) (resolveAlias (now (book .entry)) width t) r ⌝ }
+{
+    follow(book, index, trust, width, t, false)
+}
+
+// The same with any index.
 pub fn resolve_alias_in(book: &[u8], index: &[u32], width: u8, t: u32) -> Resolved
     requires { ⌜ ValidBook (now book) × (isType (now book) t ≡ true) ⌝ }
     ensures { λ r. ⌜ ResolvedIs (now (book .entry)) (resolveAlias (now (book .entry)) width t) r ⌝ }
 {
-    follow(book, index, width, t, false)
+    resolve_alias_by(book, index, Trust::Unknown, width, t)
 }
 
 // Resolves type block t down to a type that is neither an alias nor a reference.
@@ -108,7 +126,7 @@ pub fn resolve_indirection_in(book: &[u8], index: &[u32], width: u8, t: u32) -> 
     requires { ⌜ ValidBook (now book) × (isType (now book) t ≡ true) ⌝ }
     ensures { λ r. ⌜ ResolvedIs (now (book .entry)) (resolveIndirection (now (book .entry)) width t) r ⌝ }
 {
-    follow(book, index, width, t, true)
+    follow(book, index, Trust::Unknown, width, t, true)
 }
 
 // The type that block b names, as a field or as an array, with its aliases resolved.
@@ -131,7 +149,7 @@ fn resolve_root(book: &[u8], width: u8, t: u32, references: bool) -> Resolution
 {
     let mut index = [0u32; 16384];
     type_index::fill_names(book, &mut index);
-    let resolved = follow(book, &index, width, t, references);
+    let resolved = follow(book, &index, Trust::Unknown, width, t, references);
     match resolved {
         Resolved::Base(u) => Resolution::Block(u),
         Resolved::Lacks(c) => Resolution::NotFound(c),

@@ -1,2 +1,3 @@
 pub mod Index
-pub mod Probe
+pub mod Parts
+pub mod Trust

@@ -94,11 +94,16 @@ fn rmw_reply(rmw: Rmw) -> Reply {
     }
 }
 
+// The numbers of a lent index. The answers are the same whatever it holds: one walk gets an index that leads nowhere, the other the book's.
+const INDEX: usize = 16384;
+
 fn rmw(input: &[u8], book: &[u8], len: usize, scratch: &mut [u32], answer: &mut [u8]) -> usize {
     let root = u32_at(input, 1) as u64;
+    let index = [0xffff_ffffu32; INDEX];
     let rmw = resolve_read_modify_write::requires_read_modify_write(
         book,
         len,
+        &index,
         byte_at(input, 0),
         root,
         scratch,
@@ -145,9 +150,12 @@ fn missing(
     answer: &mut [u8],
 ) -> usize {
     let root = u32_at(input, 1) as u64;
+    let mut index = [0u32; INDEX];
+    type_index_build::build_index(book, len, &mut index);
     let missing = resolve_missing_types::missing_types(
         book,
         len,
+        &index,
         byte_at(input, 0),
         root,
         scratch,

@@ -91,12 +91,26 @@ fn agreed(
     }
 }
 
+/// The index of a book that was checked.
+fn index(bytes: &[u8]) -> Vec<u32> {
+    let mut index = vec![1; calls::INDEX];
+    assert_eq!(calls::build_index(bytes, bytes.len(), &mut index), 0);
+    index
+}
+
 fn rmw(book: &TypeBook, t: TypeRef, width: u8) -> Result<String, Refusal> {
     let result = t.requires_read_modify_write(width);
     let (mut scratch, mut values) = (vec![1; 8_192], [0]);
     let bytes = book.bytes();
-    let number =
-        calls::requires_read_modify_write(bytes, bytes.len(), width, t.block().into(), &mut scratch, &mut values);
+    let number = calls::requires_read_modify_write(
+        bytes,
+        bytes.len(),
+        &index(bytes),
+        width,
+        t.block().into(),
+        &mut scratch,
+        &mut values,
+    );
     let yes = result.as_ref().is_ok_and(|&yes| yes);
     match same(number, values[0], &result) && (result.is_err() || yes == (values[0] == 1)) {
         true => result.map(|yes| if yes { "yes".into() } else { "no".into() }),
@@ -107,7 +121,16 @@ fn rmw(book: &TypeBook, t: TypeRef, width: u8) -> Result<String, Refusal> {
 fn listed(book: &TypeBook, t: TypeRef, width: u8, missing: &Missing) -> String {
     let (mut scratch, mut list, mut values) = (vec![1; 8_192], vec![1; 4_096], [0; 3]);
     let (bytes, root) = (book.bytes(), t.block().into());
-    let number = calls::missing_types(bytes, bytes.len(), width, root, &mut scratch, &mut list, &mut values);
+    let number = calls::missing_types(
+        bytes,
+        bytes.len(),
+        &index(bytes),
+        width,
+        root,
+        &mut scratch,
+        &mut list,
+        &mut values,
+    );
     let told = [
         missing.blocks.len() as u64,
         u64::from(missing.whole),

@@ -2,7 +2,7 @@
 
 use std::hint::black_box;
 use std::time::Duration;
-use twin::make::{Type, book};
+use twin::make::{Type, book, wide};
 
 /// The types of the large books.
 pub const TYPES: usize = 4_096;
@@ -21,6 +21,21 @@ pub fn reached() -> Vec<u8> {
         })
         .collect();
     book(&types)
+}
+
+/// A root of 4,096 fields, each of a name that the book lacks, in a book of 4,096 types.
+pub fn lacking() -> Vec<u8> {
+    let others = (1..TYPES).map(|n| Type::new(&name(n)).id(2).size(2));
+    book(&[wide(TYPES as u32)].into_iter().chain(others).collect::<Vec<_>>())
+}
+
+/// A root of 4,000 fields, each of a type of its own, in a book of 20,000 types: more than an index of 16,384 numbers holds.
+pub fn among_20_000() -> Vec<u8> {
+    let root = (0..4_000).fold(Type::new("ST_Machine").size(8_000), |t, i| {
+        t.field(&format!("nField{i}"), &name(5 * i), 2 * i as u32, 2)
+    });
+    let others = (0..19_999).map(|n| Type::new(&name(n)).id(2).size(2));
+    book(&[root].into_iter().chain(others).collect::<Vec<_>>())
 }
 
 /// So many types of ours, each of which names a type that our book lacks, which names the next of ours: our book and the controller's.

@@ -1,6 +1,6 @@
 //! Times the static library against the plain twin: walks, reads, writes, look-ups, checks, encodings.
 //!
-//!     cargo run --release --offline -p speed             # all; with the word plan the plans alone
+//!     cargo run --release --offline -p speed             # all; with the word plan the plans alone, with index change request 14's table
 //!
 //! Medians of rounds in which the two sides take turns; above 1 the port is quicker. Nothing of the gate needs it.
 
@@ -49,14 +49,55 @@ fn walks() {
 }
 
 fn whole_walk(bytes: &[u8]) {
-    let (mut scratch, mut list) = (vec![0; 8_192], vec![0; 4_096]);
-    let (mut others, mut other_list) = (scratch.clone(), list.clone());
+    let (mut scratch, mut list, mut index) = (vec![0; 8_192], vec![0; 4_096], vec![0; calls::INDEX]);
+    let (mut others, mut other_list, none) = (scratch.clone(), list.clone(), index.clone());
+    let len = bytes.len();
     pair(
-        "missing_types, whole call",
+        "build_index and missing_types, whole calls",
         9,
-        || calls::missing_types(bytes, bytes.len(), WIDTH, 0, &mut scratch, &mut list, &mut [0; 3]),
-        || twin::calls::missing_types(bytes, bytes.len(), WIDTH, 0, &mut others, &mut other_list, &mut [0; 3]),
+        || {
+            calls::build_index(bytes, len, &mut index);
+            calls::missing_types(bytes, len, &index, WIDTH, 0, &mut scratch, &mut list, &mut [0; 3])
+        },
+        || twin::calls::missing_types(bytes, len, &none, WIDTH, 0, &mut others, &mut other_list, &mut [0; 3]),
     );
+}
+
+/// `missing_types` with a lent index of 16,384 numbers against the twin that scans the book in order, the checks of the book apart: the
+/// calls' own checks are timed in the same turns and taken off. `build`: the index is built anew each time, and its time counts.
+fn lent(what: &str, rounds: usize, bytes: &[u8], build: bool) {
+    let (len, plain) = (bytes.len(), twin::Book::without_map(bytes));
+    let (mut scratch, mut list, mut values) = (vec![0; 8_192], vec![0; 4_096], [0; 3]);
+    let mut index = vec![u32::MAX; calls::INDEX];
+    let mut wanted = None;
+    let t = turns(
+        rounds,
+        &mut [
+            &mut || {
+                if build {
+                    assert_eq!(calls::build_index(bytes, len, &mut index), 0);
+                }
+                let (s, l) = (&mut scratch, &mut list);
+                assert_eq!(calls::missing_types(bytes, len, &index, WIDTH, 0, s, l, &mut values), 0);
+            },
+            &mut || (0..1 + u32::from(build)).for_each(|_| keep(calls::check_book(bytes, len))),
+            &mut || wanted = Some(twin::walk::missing_types(&plain, WIDTH, 0)),
+        ],
+    );
+    let wanted = wanted.expect("a round");
+    assert_eq!(values[0] as usize, wanted.blocks.len());
+    assert_eq!(list[..wanted.blocks.len()], wanted.blocks);
+    line(what, t[0].saturating_sub(t[1]), t[2]);
+}
+
+fn indexes() {
+    head("missing_types, checks apart, building counted in", "scan");
+    let (all, lacking) = (speed::reached(), speed::lacking());
+    lent("4,096 types of four fields, all reached", 9, &all, true);
+    lent("the same, a foreign index", 3, &all, false);
+    lent("4,096 fields of lacking names among 4,096 types", 9, &lacking, true);
+    lent("the same, a foreign index", 3, &lacking, false);
+    lent("4,000 of 20,000 types reached", 9, &speed::among_20_000(), true);
 }
 
 /// A plan from our book by the controller's: the whole call, with the checks of both books, against the twin's with and without them.
@@ -301,10 +342,13 @@ fn texts(what: &str, text: &str) {
 }
 
 fn main() {
-    if std::env::args().nth(1).as_deref() == Some("plan") {
-        return plans();
+    match std::env::args().nth(1).as_deref() {
+        Some("plan") => return plans(),
+        Some("index") => return indexes(),
+        _ => {}
     }
     walks();
+    indexes();
     plans();
     reads("a struct of 200 fields among 4,096 types", speed::struct_of_200());
     reads("an array of 10,000 structs of 6 fields", speed::array_of_10_000());

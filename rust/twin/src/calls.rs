@@ -1,5 +1,6 @@
 //! The calls in the library's shape: any bytes, lent buffers, an answer by number and values.
 
+use crate::index::{INDEX, built};
 use crate::read::{Reader, Sink};
 use crate::resolve::{fields_within, resolve};
 use crate::write::{Writer, well_formed};
@@ -106,10 +107,23 @@ pub fn resolve_fields(buffer: &[u8], len: usize, width: u8, root: u64, records: 
     }
 }
 
+/// As the library's `build_index`.
+pub fn build_index(buffer: &[u8], len: usize, index: &mut [u32]) -> u8 {
+    match check::check_book(buffer, len) {
+        0 if index.len() < INDEX => 6,
+        0 => {
+            index.copy_from_slice(&built(&buffer[..len], index.len()));
+            0
+        }
+        number => number,
+    }
+}
+
 /// As the library's `requires_read_modify_write`.
 pub fn requires_read_modify_write(
     buffer: &[u8],
     len: usize,
+    index: &[u32],
     width: u8,
     root: u64,
     scratch: &mut [u32],
@@ -119,7 +133,7 @@ pub fn requires_read_modify_write(
         Ok(root) => root,
         Err(number) => return number,
     };
-    if scratch.len() < SCRATCH {
+    if index.len() < INDEX || scratch.len() < SCRATCH {
         return 6;
     }
     scratch.fill(0);
@@ -130,9 +144,11 @@ pub fn requires_read_modify_write(
 }
 
 /// As the library's `missing_types`.
+#[allow(clippy::too_many_arguments)]
 pub fn missing_types(
     buffer: &[u8],
     len: usize,
+    index: &[u32],
     width: u8,
     root: u64,
     scratch: &mut [u32],
@@ -143,7 +159,7 @@ pub fn missing_types(
         Ok(root) => root,
         Err(number) => return number,
     };
-    if scratch.len() < SCRATCH || list.len() < LIST {
+    if index.len() < INDEX || scratch.len() < SCRATCH || list.len() < LIST {
         return 6;
     }
     scratch.fill(0);

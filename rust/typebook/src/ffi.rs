@@ -37,6 +37,13 @@ mod raw {
             name: *const u8,
             name_len: usize,
         ) -> u32;
+        pub fn gateway_build_index(
+            buffer: *const u8,
+            buffer_len: usize,
+            len: usize,
+            index: *mut u32,
+            index_len: usize,
+        ) -> u8;
         pub fn gateway_fill_names(book: *const u8, book_len: usize, index: *mut u32, index_len: usize);
         pub fn gateway_fill_index(book: *const u8, book_len: usize, index: *mut u32, index_len: usize);
         pub fn gateway_check_book(buffer: *const u8, buffer_len: usize, len: usize) -> u8;
@@ -99,6 +106,8 @@ mod raw {
             buffer: *const u8,
             buffer_len: usize,
             len: usize,
+            index: *const u32,
+            index_len: usize,
             width: u8,
             root: u64,
             scratch: *mut u32,
@@ -110,6 +119,8 @@ mod raw {
             buffer: *const u8,
             buffer_len: usize,
             len: usize,
+            index: *const u32,
+            index_len: usize,
             width: u8,
             root: u64,
             scratch: *mut u32,
@@ -419,10 +430,21 @@ pub mod total {
         }
     }
 
-    /// Value: 1 if a function block lies anywhere in the root, else 0.
+    /// The numbers that the two walks want of an index, at least.
+    pub const INDEX: usize = 16_384;
+
+    /// Builds an index of the names of the book's types into all of `index`, for the two walks: document 01's number, 0 where it is
+    /// done. 6 where it has fewer than [`INDEX`] numbers.
+    pub fn build_index(buffer: &[u8], len: usize, index: &mut [u32]) -> u8 {
+        unsafe { raw::gateway_build_index(buffer.as_ptr(), buffer.len(), len, index.as_mut_ptr(), index.len()) }
+    }
+
+    /// Value: 1 if a function block lies anywhere in the root, else 0. The index is one of [`build_index`]; any other gives the same
+    /// answer, later.
     pub fn requires_read_modify_write(
         buffer: &[u8],
         len: usize,
+        index: &[u32],
         width: u8,
         root: u64,
         scratch: &mut [u32],
@@ -433,6 +455,8 @@ pub mod total {
                 buffer.as_ptr(),
                 buffer.len(),
                 len,
+                index.as_ptr(),
+                index.len(),
                 width,
                 root,
                 scratch.as_mut_ptr(),
@@ -443,10 +467,12 @@ pub mod total {
         }
     }
 
-    /// Values: blocks listed, 1 if the walk is whole, distinct names met.
+    /// Values: blocks listed, 1 if the walk is whole, distinct names met. The index as in [`requires_read_modify_write`].
+    #[allow(clippy::too_many_arguments)]
     pub fn missing_types(
         buffer: &[u8],
         len: usize,
+        index: &[u32],
         width: u8,
         root: u64,
         scratch: &mut [u32],
@@ -458,6 +484,8 @@ pub mod total {
                 buffer.as_ptr(),
                 buffer.len(),
                 len,
+                index.as_ptr(),
+                index.len(),
                 width,
                 root,
                 scratch.as_mut_ptr(),
@@ -586,6 +614,7 @@ pub mod total {
                 assert_eq!(raw::gateway_check_book(null(), 0, usize::MAX), 1);
                 assert_eq!(raw::gateway_find(null(), 0, null(), 0), u32::MAX);
                 assert_eq!(raw::gateway_find_by(null(), 0, null(), 0, null(), 0), u32::MAX);
+                assert_eq!(raw::gateway_build_index(null(), 0, 0, null_mut(), 0), 1);
                 raw::gateway_fill_names(null(), 0, null_mut(), 0);
                 raw::gateway_fill_index(null(), 0, null_mut(), 0);
                 assert_eq!(raw::gateway_is_type(null(), 0, 0), 0);
@@ -607,11 +636,37 @@ pub mod total {
                     1
                 );
                 assert_eq!(
-                    raw::gateway_requires_read_modify_write(null(), 0, 0, 8, 0, null_mut(), 0, null_mut(), 0),
+                    raw::gateway_requires_read_modify_write(
+                        null(),
+                        0,
+                        0,
+                        null(),
+                        0,
+                        8,
+                        0,
+                        null_mut(),
+                        0,
+                        null_mut(),
+                        0
+                    ),
                     1
                 );
                 assert_eq!(
-                    raw::gateway_missing_types(null(), 0, 0, 8, 0, null_mut(), 0, null_mut(), 0, null_mut(), 0),
+                    raw::gateway_missing_types(
+                        null(),
+                        0,
+                        0,
+                        null(),
+                        0,
+                        8,
+                        0,
+                        null_mut(),
+                        0,
+                        null_mut(),
+                        0,
+                        null_mut(),
+                        0
+                    ),
                     1
                 );
                 assert_eq!(

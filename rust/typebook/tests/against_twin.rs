@@ -208,6 +208,34 @@ fn chains_and_fields() {
     });
 }
 
+/// An index for a walk: one that was built, or numbers of the kinds that must not be followed, and now and then one that is too short.
+fn index(rng: &mut Rng, book: &[u8], len: usize) -> Vec<u32> {
+    let mut index = vec![rng.pick(&[0, 1, 7, u32::MAX]); rng.pick(&[16_384, 16_384, 16_384, 20_000, 16_383])];
+    match rng.below(3) {
+        0 => {
+            calls::build_index(book, len, &mut index);
+        }
+        1 => index.fill_with(|| rng.below(40) as u32),
+        _ => {}
+    }
+    index
+}
+
+/// The built index, number by number, and the buffer as it was after a refusal.
+#[test]
+fn built_indexes() {
+    run(&[0, 1, 2, 3, 4, 6], |rng, c| {
+        let (mut index, mut other) = twice(
+            rng.number() as u32,
+            rng.pick(&[16_384, 16_384, 16_385, 20_000, 16_383, 0]),
+        );
+        let answer = calls::build_index(&c.book, c.len, &mut index);
+        assert_eq!(answer, twin::calls::build_index(&c.book, c.len, &mut other));
+        assert_eq!(index, other);
+        vec![answer]
+    });
+}
+
 #[test]
 fn walks() {
     // 9 wants 4,097 names; tests/refusals.rs has it.
@@ -215,19 +243,20 @@ fn walks() {
         let (book, len, width, root) = (&c.book[..], c.len, c.width, c.root);
         let (mut v, mut w) = values(rng);
         let (mut scratch, mut other) = twice(rng.number() as u32, rng.pick(&[8_192, 8_192, 16_383, 20_000, 8_191, 0]));
-        let answer = calls::requires_read_modify_write(book, len, width, root, &mut scratch, &mut v);
+        let index = &index(rng, book, len);
+        let answer = calls::requires_read_modify_write(book, len, index, width, root, &mut scratch, &mut v);
         assert_eq!(
             answer,
-            twin::calls::requires_read_modify_write(book, len, width, root, &mut other, &mut w)
+            twin::calls::requires_read_modify_write(book, len, index, width, root, &mut other, &mut w)
         );
         assert!(v == w && scratch == other);
         let (mut v, mut w) = values(rng);
         let (mut list, mut others) = twice(7, rng.pick(&[4_096, 4_096, 4_096, 5_000, 4_095, 0]));
         let (mut scratch, mut other) = twice(5, scratch.len());
-        let missing = calls::missing_types(book, len, width, root, &mut scratch, &mut list, &mut v);
+        let missing = calls::missing_types(book, len, index, width, root, &mut scratch, &mut list, &mut v);
         assert_eq!(
             missing,
-            twin::calls::missing_types(book, len, width, root, &mut other, &mut others, &mut w)
+            twin::calls::missing_types(book, len, index, width, root, &mut other, &mut others, &mut w)
         );
         assert!(v == w && scratch == other && list == others);
         vec![answer, missing]

@@ -216,14 +216,17 @@ fn scratch_kept(answer: u8, scratch: &[u32]) -> u8 {
 
 fn rmw(width: u8, root: u64, mut parts: Parts, book: &[u8]) -> Vec<u8> {
     let (mut scratch, mut v) = (lent(&mut parts), [0]);
-    let n = calls::requires_read_modify_write(book, book.len(), width, root, &mut scratch, &mut v);
+    let index = vec![u32::MAX; calls::INDEX];
+    let n = calls::requires_read_modify_write(book, book.len(), &index, width, root, &mut scratch, &mut v);
     let told = if n == 0 { vec![0, v[0] as u8] } else { refusal(n, v[0]) };
     [told, vec![scratch_kept(n, &scratch)]].concat()
 }
 
 fn missing(width: u8, root: u64, mut parts: Parts, book: &[u8]) -> Vec<u8> {
     let (mut scratch, mut list, mut v) = (lent(&mut parts), lent(&mut parts), [0; 3]);
-    let n = calls::missing_types(book, book.len(), width, root, &mut scratch, &mut list, &mut v);
+    let mut index = vec![0; calls::INDEX];
+    calls::build_index(book, book.len(), &mut index);
+    let n = calls::missing_types(book, book.len(), &index, width, root, &mut scratch, &mut list, &mut v);
     let listed = v[0] as usize;
     let told = match n {
         0 => [vec![0, v[1] as u8], u32s(&[v[2] as u32]), u32s(&list[..listed])].concat(),

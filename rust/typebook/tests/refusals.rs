@@ -18,9 +18,16 @@ fn answer_of(book: &[u8], memory: &[u8]) -> u8 {
     read(book, memory).0
 }
 
+/// The index of a valid book.
+fn index(book: &[u8]) -> Vec<u32> {
+    let mut index = vec![9; calls::INDEX];
+    assert_eq!(calls::build_index(book, book.len(), &mut index), 0);
+    index
+}
+
 fn rmw(book: &[u8]) -> (u8, u64) {
     let (mut scratch, mut values) = (vec![9; 8_192], [99]);
-    let answer = calls::requires_read_modify_write(book, book.len(), WIDTH, 0, &mut scratch, &mut values);
+    let answer = calls::requires_read_modify_write(book, book.len(), &index(book), WIDTH, 0, &mut scratch, &mut values);
     assert!(scratch.iter().all(|&n| n == 0));
     (answer, values[0])
 }
@@ -28,7 +35,16 @@ fn rmw(book: &[u8]) -> (u8, u64) {
 fn missing(book: &[u8]) -> (Vec<u32>, u64, u64) {
     let (mut scratch, mut list, mut values) = (vec![9; 8_192], vec![7; 4_096], [99; 3]);
     assert_eq!(
-        calls::missing_types(book, book.len(), WIDTH, 0, &mut scratch, &mut list, &mut values),
+        calls::missing_types(
+            book,
+            book.len(),
+            &index(book),
+            WIDTH,
+            0,
+            &mut scratch,
+            &mut list,
+            &mut values
+        ),
         0
     );
     let listed = values[0] as usize;
@@ -94,11 +110,11 @@ fn refusal_5_the_root() {
             5
         );
         assert_eq!(
-            calls::requires_read_modify_write(&bytes, bytes.len(), WIDTH, root, &mut [], &mut values),
+            calls::requires_read_modify_write(&bytes, bytes.len(), &[], WIDTH, root, &mut [], &mut values),
             5
         );
         assert_eq!(
-            calls::missing_types(&bytes, bytes.len(), WIDTH, root, &mut [], &mut [], &mut values),
+            calls::missing_types(&bytes, bytes.len(), &[], WIDTH, root, &mut [], &mut [], &mut values),
             5
         );
         assert_eq!(
@@ -114,22 +130,35 @@ fn refusal_5_the_root() {
 }
 
 #[test]
-fn refusal_6_scratch_and_list() {
+fn refusal_6_index_scratch_and_list() {
     let bytes = example();
+    let (index, few) = (index(&bytes), [0; 16_383]);
     let (mut values, len) = ([7; 3], bytes.len());
     let (mut short, mut long, mut list) = (vec![7; 8_191], vec![7; 8_192], vec![7; 4_095]);
     assert_eq!(
-        calls::requires_read_modify_write(&bytes, len, WIDTH, 0, &mut short, &mut values),
+        calls::requires_read_modify_write(&bytes, len, &index, WIDTH, 0, &mut short, &mut values),
         6
     );
     assert_eq!(
-        calls::missing_types(&bytes, len, WIDTH, 0, &mut long, &mut list, &mut values),
+        calls::missing_types(&bytes, len, &index, WIDTH, 0, &mut long, &mut list, &mut values),
         6
     );
     assert_eq!(
-        calls::missing_types(&bytes, len, WIDTH, 0, &mut short, &mut [0; 4_096], &mut values),
+        calls::missing_types(&bytes, len, &index, WIDTH, 0, &mut short, &mut [0; 4_096], &mut values),
         6
     );
+    assert_eq!(
+        calls::requires_read_modify_write(&bytes, len, &few, WIDTH, 0, &mut long, &mut values),
+        6
+    );
+    assert_eq!(
+        calls::missing_types(&bytes, len, &few, WIDTH, 0, &mut long, &mut [0; 4_096], &mut values),
+        6
+    );
+    let mut few = [7; 16_383];
+    assert_eq!(calls::build_index(&bytes, len, &mut few), 6);
+    assert_eq!(calls::build_index(&bytes, len - 1, &mut few), 1);
+    assert!(few.iter().all(|&n| n == 7));
     assert!(short.iter().chain(&long).chain(&list).all(|&n| n == 7) && values == [7; 3]);
 }
 

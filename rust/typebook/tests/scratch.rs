@@ -18,8 +18,9 @@ fn walks(bytes: &[u8], scratch: usize) -> Answers {
     let mut left = [vec![7; scratch], vec![7; scratch]];
     let (mut value, mut values, mut list) = ([0], [0; 3], vec![7; 4_096]);
     let [one, other] = &mut left;
-    let yes = calls::requires_read_modify_write(bytes, bytes.len(), WIDTH, 0, one, &mut value);
-    let lists = calls::missing_types(bytes, bytes.len(), WIDTH, 0, other, &mut list, &mut values);
+    let index = vec![0; calls::INDEX];
+    let yes = calls::requires_read_modify_write(bytes, bytes.len(), &index, WIDTH, 0, one, &mut value);
+    let lists = calls::missing_types(bytes, bytes.len(), &index, WIDTH, 0, other, &mut list, &mut values);
     Answers {
         rmw: (yes, value[0]),
         missing: (lists, values),

@@ -1,5 +1,5 @@
 use Rattle.resolve_walk.proofs.Zeros.{scratch-room, list-room}
-use Rattle.resolve_missing_types.proofs.Ends.{missing-scratch, missing-list, missing-fits}
+use Rattle.gateway_once_checked.proofs.Ends.{scratch-short, list-short, both-long}
 use borrow.Author.Needs.{needs}
 use Rattle.gateway_once_checked.proofs.missing_in.Statement.{statement}
 use Rattle.gateway_once_checked.proofs.missing_in.Tie as tie
@@ -9,7 +9,7 @@ use Rattle.resolve_missing_types.proofs.missing_types_in.Reads as resolve-missi
 use Rattle.resolve_walk.proofs.list_fits.Reads as list-fits-reads
 use Rattle.resolve_walk.proofs.scratch_fits.Reads as scratch-fits-reads
 
-ruleset exits = (missing-scratch, missing-list, missing-fits)
+ruleset exits = (scratch-short, list-short, both-long)
 
 -- src/lib.rt:37:9
 scratch-fits-requires : tie.Need-scratch-fits-requires

@@ -1,5 +1,5 @@
 use Rattle.resolve_walk.proofs.Zeros.{scratch-room}
-use Rattle.resolve_read_modify_write.proofs.Ends.{rmw-scratch, rmw-fits}
+use Rattle.gateway_once_checked.proofs.Ends.{rmw-short, rmw-long}
 use borrow.Author.Needs.{needs}
 use Rattle.gateway_once_checked.proofs.rmw_in.Statement.{statement}
 use Rattle.gateway_once_checked.proofs.rmw_in.Tie as tie
@@ -8,7 +8,7 @@ use Rattle.gateway_once_checked.proofs.rmw_in.Lts as lts
 use Rattle.resolve_read_modify_write.proofs.requires_read_modify_write_in.Reads as requires-read-modify-write-in-reads
 use Rattle.resolve_walk.proofs.scratch_fits.Reads as scratch-fits-reads
 
-ruleset exits = (rmw-scratch, rmw-fits)
+ruleset exits = (rmw-short, rmw-long)
 
 -- src/lib.rt:19:9
 scratch-fits-requires : tie.Need-scratch-fits-requires

@@ -1,3 +1,4 @@
+use Rattle.type_index.proofs.Trusts.{unknown-trusted}
 use Rattle.plan_adds.proofs.Fetches.{theirs-is}
 use borrow.Author.Needs.{needs}
 use Rattle.plan_adds.proofs.find_theirs.Statement.{statement}
@@ -9,7 +10,7 @@ type-name-requires c κs = search needs
 
 -- src/lib.rt:58:5
 find-by-requires : tie.Need-find-by-requires
-find-by-requires c κs = search needs
+find-by-requires c κs = search unknown-trusted
 
 -- src/lib.rt:54:1
 returns : tie.Need-returns

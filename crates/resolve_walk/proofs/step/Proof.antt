@@ -1,8 +1,9 @@
+-- `step` meets its contract. Assumes nothing.
 use Rattle.resolvers.proofs.Chains.{found-typed}
-use Rattle.resolve_walk.proofs.Places.{found-below}
+use Rattle.resolve_walk.proofs.Places.{low-bit, found-low, lacking-low}
 use Rattle.resolve_walk.proofs.Turns.{step-marked, step-full, step-new, step-listed, step-full′, step-lacking}
-use borrow.Author.Needs.{needs}
 use Rattle.type_provider.proofs.Numbers.{found-is}
+use borrow.Author.Needs.{needs}
 use Rattle.resolve_walk.proofs.step.Statement.{statement}
 use Rattle.resolve_walk.proofs.step.Tie as tie
 
@@ -11,8 +12,8 @@ ruleset exits = (step-marked, step-full, step-new, step-listed, step-full′, st
 take-requires : tie.Need-take-requires
 take-requires c κs = search needs
 
-named-in-requires : tie.Need-named-in-requires
-named-in-requires c κs = search needs
+named-by-requires : tie.Need-named-by-requires
+named-by-requires c κs = search needs
 
 enum-known-t : tie.Need-enum-known-t
 enum-known-t c = search needs
@@ -23,8 +24,8 @@ enum-told c = search needs
 type-name-requires : tie.Need-type-name-requires
 type-name-requires c κs = search needs
 
-in-list-requires : tie.Need-in-list-requires
-in-list-requires c κs = search needs
+was-listed-requires : tie.Need-was-listed-requires
+was-listed-requires c κs = search needs
 
 same-length : tie.Need-same-length
 same-length c = search needs
@@ -38,6 +39,12 @@ same-length-2 c = search needs
 returns-2 : tie.Need-returns-2
 returns-2 c = search exits
 
+lacking-bit-requires : tie.Need-lacking-bit-requires
+lacking-bit-requires c κs = search needs
+
+mark-requires : tie.Need-mark-requires
+mark-requires c κs = low-bit _ _ (search lacking-low) (search needs)
+
 same-length-3 : tie.Need-same-length-3
 same-length-3 c = search needs
 
@@ -45,7 +52,7 @@ returns-3 : tie.Need-returns-3
 returns-3 c = search exits
 
 marked-requires : tie.Need-marked-requires
-marked-requires c κs = (search (found-below, found-is), search needs)
+marked-requires c κs = low-bit _ _ (search (found-low, found-is)) (search needs)
 
 same-length-4 : tie.Need-same-length-4
 same-length-4 c = search needs
@@ -60,7 +67,7 @@ returns-5 : tie.Need-returns-5
 returns-5 c = search exits
 
 settle-requires : tie.Need-settle-requires
-settle-requires c κs = (search needs, search (found-typed, found-is), search needs, search needs)
+settle-requires c κs = (search needs, search needs, search (found-typed, found-is), search needs, search needs)
 
 same-length-6 : tie.Need-same-length-6
 same-length-6 c = search needs
@@ -73,15 +80,17 @@ step-spec =
     tie.close
     (tie.spec
     take-requires
-    named-in-requires
+    named-by-requires
     enum-known-t
     enum-told
     type-name-requires
-    in-list-requires
+    was-listed-requires
     same-length
     returns
     same-length-2
     returns-2
+    lacking-bit-requires
+    mark-requires
     same-length-3
     returns-3
     marked-requires

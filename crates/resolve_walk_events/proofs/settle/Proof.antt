@@ -1,7 +1,7 @@
 -- `settle` meets its contract. Assumes nothing.
 use Rattle.resolve_walk_events.proofs.Settles.{settle-own}
-use borrow.Author.Needs.{needs}
 use Rattle.type_category.proofs.Numbers.{category-is}
+use borrow.Author.Needs.{needs}
 use Rattle.resolve_walk_events.proofs.settle.Statement.{statement}
 use Rattle.resolve_walk_events.proofs.settle.Tie as tie
 

@@ -1,8 +1,8 @@
 -- `settle_alias` meets its contract. Assumes nothing.
-use Rattle.resolve_walk_scratch.proofs.Places.{type-below}
+use Rattle.resolve_walk_scratch.proofs.Places.{type-bit}
 use Rattle.resolve_walk_events.proofs.Settles.{settle-base, settle-lacks, settle-long, base-type}
-use borrow.Author.Needs.{needs}
 use Rattle.type_category.proofs.Numbers.{category-is}
+use borrow.Author.Needs.{needs}
 use Rattle.resolve_walk_events.proofs.settle_alias.Statement.{statement}
 use Rattle.resolve_walk_events.proofs.settle_alias.Tie as tie
 
@@ -10,8 +10,8 @@ ruleset typed = (needs, base-type)
 
 ruleset exits = (settle-base, settle-lacks, settle-long, category-is)
 
-resolve-alias-in-requires : tie.Need-resolve-alias-in-requires
-resolve-alias-in-requires c κs = search needs
+resolve-alias-by-requires : tie.Need-resolve-alias-by-requires
+resolve-alias-by-requires c κs = search needs
 
 enum-known-resolved : tie.Need-enum-known-resolved
 enum-known-resolved c = search needs
@@ -26,13 +26,13 @@ enum-known-resolved-2 : tie.Need-enum-known-resolved-2
 enum-known-resolved-2 c = search needs
 
 mark-requires : tie.Need-mark-requires
-mark-requires c κs = (search type-below, search needs)
+mark-requires c κs = search type-bit
 
 enum-told : tie.Need-enum-told
 enum-told c = search needs
 
 mark-requires-2 : tie.Need-mark-requires-2
-mark-requires-2 c κs = (search type-below, search needs)
+mark-requires-2 c κs = search type-bit
 
 same-length : tie.Need-same-length
 same-length c = search needs
@@ -56,7 +56,7 @@ pub settle-alias-spec : {M : Type 1} → statement M
 settle-alias-spec =
     tie.close
     (tie.spec
-    resolve-alias-in-requires
+    resolve-alias-by-requires
     enum-known-resolved
     determine-requires
     expand-requires

@@ -1,4 +1,4 @@
--- `follow` meets its contract. The loop keeps: the whole chain is that from the block at hand, with the look-ups left; that block is a type block. Assumes nothing.
+-- `follow` meets its contract. Assumes nothing.
 use borrow.Author.Needs.{needs}
 use mathlib.Core.Path.{_≡_, refl}
 use mathlib.Core.Bool.{true}
@@ -12,11 +12,11 @@ use Rattle.resolvers.proofs.follow.Tie as tie
 ruleset exits = (chain-end, chain-base, chain-lacks, found-is)
 
 abbrev Inv-loop : tie.InvT-loop
-Inv-loop book index width t references at₀ left₀ at left =
+Inv-loop book index trust width t references at₀ left₀ at left =
     (resolveType references book width t ≡ followIn (isFollowed references book width) book left at) × (isType book at ≡ true)
 
 abbrev μ-loop : tie.MeasureT-loop
-μ-loop book index width t references at₀ left₀ at left =
+μ-loop book index trust width t references at₀ left₀ at left =
     left
 
 loop-holds : tie.Need-loop-holds Inv-loop μ-loop
@@ -28,8 +28,8 @@ is-followed-requires c κs = search needs
 returns : tie.Need-returns Inv-loop μ-loop
 returns c = search exits
 
-named-in-requires : tie.Need-named-in-requires Inv-loop μ-loop
-named-in-requires c κs = search needs
+named-by-requires : tie.Need-named-by-requires Inv-loop μ-loop
+named-by-requires c κs = search needs
 
 enum-known-found : tie.Need-enum-known-found Inv-loop μ-loop
 enum-known-found c = search needs
@@ -61,7 +61,7 @@ follow-spec =
     loop-holds
     is-followed-requires
     returns
-    named-in-requires
+    named-by-requires
     enum-known-found
     enum-told
     returns-2

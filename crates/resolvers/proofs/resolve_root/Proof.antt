@@ -1,7 +1,8 @@
 -- `resolve_root` meets its contract. Assumes nothing.
+use Rattle.type_index.proofs.Trusts.{unknown-trusted}
 use Rattle.resolvers.proofs.Calls.{resolution-base, resolution-lacks, resolution-endless}
-use borrow.Author.Needs.{needs}
 use Rattle.resolvers.proofs.Numbers.{resolution-says}
+use borrow.Author.Needs.{needs}
 use Rattle.resolvers.proofs.resolve_root.Statement.{statement}
 use Rattle.resolvers.proofs.resolve_root.Tie as tie
 
@@ -17,7 +18,7 @@ slice-aggregate-follow : tie.Need-slice-aggregate-follow
 slice-aggregate-follow c = search needs
 
 follow-requires : tie.Need-follow-requires
-follow-requires c κs = search needs
+follow-requires c κs = (search needs, search unknown-trusted, search needs)
 
 enum-known-resolved : tie.Need-enum-known-resolved
 enum-known-resolved c = search needs

@@ -1,14 +1,15 @@
--- `type_index::enter` meets its contract. Assumes nothing.
-use Rattle.type_index.proofs.Slots.{entered-at}
+-- `enter` meets its contract. Assumes nothing.
+use borrow.Author.Tests.{not-true, not-false}
+use Rattle.type_index.proofs.Entries.{entered-other, entered-at, entered-full}
 use borrow.Author.Needs.{needs}
 use Rattle.type_index.proofs.enter.Statement.{statement}
 use Rattle.type_index.proofs.enter.Tie as tie
 
-kind-requires : tie.Need-kind-requires
-kind-requires c κs = search needs
+is-type-requires : tie.Need-is-type-requires
+is-type-requires c κs = search needs
 
 returns : tie.Need-returns
-returns c = search needs
+returns c = search (not-true, not-false, entered-other, entered-at, entered-full)
 
 name-requires : tie.Need-name-requires
 name-requires c κs = search needs
@@ -20,7 +21,7 @@ same-length : tie.Need-same-length
 same-length c = search needs
 
 returns-2 : tie.Need-returns-2
-returns-2 c = search needs
+returns-2 c = search (not-true, not-false, entered-other, entered-at, entered-full)
 
 add-index : tie.Need-add-index
 add-index c = search needs
@@ -35,13 +36,13 @@ same-length-2 : tie.Need-same-length-2
 same-length-2 c = search needs
 
 returns-3 : tie.Need-returns-3
-returns-3 c = search entered-at
+returns-3 c = search (not-true, not-false, entered-other, entered-at, entered-full)
 
 pub enter-spec : {M : Type 1} → statement M
 enter-spec =
     tie.close
     (tie.spec
-    kind-requires
+    is-type-requires
     returns
     name-requires
     free-slot-requires

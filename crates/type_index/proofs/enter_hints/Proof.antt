@@ -1,16 +1,16 @@
--- `type_index::enter_hints` meets its contract. The loop keeps an index of the book. Assumes nothing.
+-- `enter_hints` meets its contract. Assumes nothing.
+use mathlib.Core.Path.{_≡_}
 use borrow.Author.Needs.{needs}
-use mathlib.Core.Path.{_≡_, refl}
-use Prim.Native.Nat.{_+_, _-_, _≤_}
+use Prim.Native.Nat.{_≤_, _-_, _+_}
 use lib.ListN.{length}
-use Rattle.type_index.specs.Probe.{Entered}
-use Rattle.type_index.proofs.Slots.{entered-none, entered-hint, entered-more}
+use Rattle.type_index.specs.Index.{hintsFrom, hintedIndex}
+use Rattle.type_index.proofs.Entries.{hints-start, hints-again, hints-end}
 use Rattle.type_index.proofs.enter_hints.Statement.{statement}
 use Rattle.type_index.proofs.enter_hints.Tie as tie
 
 abbrev Inv-loop : tie.InvT-loop
 Inv-loop book index₀ first i₀ index i =
-    (first ≤ i) × (length index ≤ first + 65536) × (length index ≡ length index₀) × Entered book index₀ index
+    (first ≤ i) × (length index ≤ first + 65536) × (length index ≡ length index₀) × (hintsFrom book index (i - first) (length index₀ - i) ≡ hintedIndex book index₀)
 
 abbrev μ-loop : tie.MeasureT-loop
 μ-loop book index₀ first i₀ index i =
@@ -20,7 +20,7 @@ hints-at-requires : tie.Need-hints-at-requires Inv-loop μ-loop
 hints-at-requires c κs = search needs
 
 loop-holds : tie.Need-loop-holds Inv-loop μ-loop
-loop-holds c = (search needs, search needs, refl, search entered-none)
+loop-holds c = (search needs, search needs, search needs, search hints-start)
 
 sub-hint : tie.Need-sub-hint Inv-loop μ-loop
 sub-hint c = search needs
@@ -44,13 +44,13 @@ loop-less : tie.Need-loop-less Inv-loop μ-loop
 loop-less c = search needs
 
 loop-again : tie.Need-loop-again Inv-loop μ-loop
-loop-again c = (search needs, search needs, search needs, search (entered-more, entered-hint))
+loop-again c = (search needs, search needs, search needs, search hints-again)
 
 same-length : tie.Need-same-length Inv-loop μ-loop
 same-length c = search needs
 
 returns : tie.Need-returns Inv-loop μ-loop
-returns c = search needs
+returns c = search hints-end
 
 pub enter-hints-spec : {M : Type 1} → statement M
 enter-hints-spec =

@@ -1,10 +1,8 @@
--- `type_index::hint` meets its contract. Assumes nothing.
-use Rattle.type_index.proofs.Slots.{hint-none, hint-found, hint-fits}
+-- `hint` meets its contract. Assumes nothing.
+use Rattle.type_index.proofs.Probes.{hint-found, hint-none, hint-fits}
 use borrow.Author.Needs.{needs}
 use Rattle.type_index.proofs.hint.Statement.{statement}
 use Rattle.type_index.proofs.hint.Tie as tie
-
-ruleset exits = (hint-none, hint-found)
 
 type-name-requires : tie.Need-type-name-requires
 type-name-requires c κs = search needs
@@ -22,10 +20,10 @@ enum-told : tie.Need-enum-told
 enum-told c = search needs
 
 returns : tie.Need-returns
-returns c = search exits
+returns c = search (hint-found, hint-none)
 
 returns-2 : tie.Need-returns-2
-returns-2 c = search exits
+returns-2 c = search (hint-found, hint-none)
 
 pub hint-spec : {M : Type 1} → statement M
 hint-spec =

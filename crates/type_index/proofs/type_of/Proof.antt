@@ -1,10 +1,8 @@
--- `type_index::type_of` meets its contract. Assumes nothing.
-use Rattle.type_index.proofs.Slots.{of-hint, of-name}
+-- `type_of` meets its contract. Assumes nothing.
+use Rattle.type_index.proofs.Trusts.{of-hint, of-name}
 use borrow.Author.Needs.{needs}
 use Rattle.type_index.proofs.type_of.Statement.{statement}
 use Rattle.type_index.proofs.type_of.Tie as tie
-
-ruleset exits = (of-hint, of-name)
 
 type-name-requires : tie.Need-type-name-requires
 type-name-requires c κs = search needs
@@ -25,10 +23,10 @@ find-by-requires : tie.Need-find-by-requires
 find-by-requires c κs = search needs
 
 returns : tie.Need-returns
-returns c = search exits
+returns c = search (of-hint, of-name)
 
 returns-2 : tie.Need-returns-2
-returns-2 c = search exits
+returns-2 c = search (of-hint, of-name)
 
 pub type-of-spec : {M : Type 1} → statement M
 type-of-spec =

@@ -1,0 +1,46 @@
+//! The index of names that the document's change request 14 asks for, written from the format's description (docs/FORMAT.md).
+
+use crate::block;
+
+/// The numbers of an index, at least.
+pub const INDEX: usize = 16_384;
+
+/// How many slots are tried for a name.
+const TRIES: usize = 64;
+
+/// Both halves of a number, each by a product of its own.
+fn mixed(x: u64) -> u64 {
+    ((x & 0xffff_ffff) * 0x9e37_79b1) ^ ((x >> 32) * 0x85eb_ca77)
+}
+
+/// Up to eight bytes as a number, the low byte first.
+fn number(bytes: &[u8]) -> u64 {
+    bytes.iter().rev().fold(0, |n, &b| (n << 8) | u64::from(b))
+}
+
+/// The hash of a name, of 32 bits: its length, each whole part of eight bytes, and its last eight bytes.
+pub fn hash(name: &[u8]) -> u32 {
+    let start = name.len().saturating_sub(8);
+    let parts = name.chunks_exact(8).chain([&name[start..]]);
+    let h = parts.fold(name.len() as u64, |h, part| mixed(h ^ number(part)));
+    (h ^ (h >> 32)) as u32
+}
+
+/// Where a book's index of `len` numbers ends to be slots: one number for each block is kept free where it has three for each.
+fn slots(blocks: usize, len: usize) -> usize {
+    if len / 3 < blocks { len } else { len - blocks }
+}
+
+/// Every number of the index of a book's types.
+pub fn built(book: &[u8], len: usize) -> Vec<u32> {
+    let (mut index, blocks) = (vec![0; len], block::count(book));
+    let slots = slots(blocks as usize, len);
+    for n in (0..blocks).filter(|&n| block::kind(book, n) == 1) {
+        let place = ((u64::from(hash(block::name(book, n))) * slots as u64) >> 32) as usize;
+        let free = (0..TRIES).map(|i| (place + i) % slots).find(|&i| index[i] == 0);
+        if let Some(slot) = free {
+            index[slot] = n + 1;
+        }
+    }
+    index
+}
