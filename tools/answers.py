@@ -18,6 +18,12 @@ def oracle(folder):
     return book, client.Oracle()
 
 
+def check(book, data):
+    """The refusal of a book, 1 to 4, or 0, as the oracle's module `book` reads document 01. Change request 5 came after it: a book of no
+    bytes is valid."""
+    return (book.check(data) or 0) if data else 0
+
+
 class Encodings:
     def __init__(self, program):
         self.p = subprocess.Popen([program], stdin=subprocess.PIPE, stdout=subprocess.PIPE)

@@ -14,7 +14,7 @@ import sys
 import tempfile
 from random import Random
 
-from answers import oracle
+from answers import check, oracle
 from document_02 import completed
 
 TOP = os.path.join(os.path.dirname(os.path.abspath(__file__)), "..")
@@ -57,8 +57,10 @@ class Trial:
     def expected(self, data, memory):
         if len(data) > BOOK:
             return "refused 1\n"
-        if number := self.b.check(data):
+        if number := check(self.b, data):
             return f"refused {number}\n"
+        if not data:
+            return "refused 5\n"
         if len(memory) > MEMORY:
             return "refused 10\n"
         words = self.oracle.ask("read", 8, data, 0, memory, RECORDS, TEXT).split(" raw=")[0].split()
@@ -137,11 +139,12 @@ class Trial:
         self.compare("A118 all blocks", b"".join(T(f"T{i}", id=b.INT16, size=2).bytes() for i in range(128)), b"\1\0", "walk T0 2\nint 16 1\n")
         self.compare("A118 all bytes", book(T("STRING(4095)", id=b.STRING, size=4096)), bytes(4096), "walk STRING(4095) 4096\ntext\n")
         # A119, absent files
-        self.compare("A119 no book", None, memory, "refused 1\n")
+        self.compare("X3 no book", None, memory, "refused 5\n")
+        self.compare("X3 no book, long memory", None, bytes(4097), "refused 5\n")
         self.compare("A119 no memory", example, None, "refused 10\n")
         self.compare("A119 no memory, none type", book(T("N", size=6)), None, "walk N 0\nunit\n")
-        self.compare("A119 neither", None, None, "refused 1\n")
-        self.compare("A119 book can't be opened", False, memory, "refused 1\n")
+        self.compare("X3 neither", None, None, "refused 5\n")
+        self.compare("X3 book can't be opened", False, memory, "refused 5\n")
         self.compare("A119 memory can't be opened", book(T("N", size=6)), False, "walk N 0\nunit\n")
         # A120, the head's name
         self.compare("A120 alias root", book(T("ALIAS", "INT", id=b.INT16, size=2), int16), b"\1\0", "walk ALIAS 2\nint 16 1\n")

@@ -5,7 +5,7 @@
  * lent for the call alone: nothing is kept.
  *
  * What is returned. Unless the comment says otherwise: 0, or the number of the refusal (document 01's table):
- *    1 the book is empty, not whole blocks of 512 bytes, over 65,536 blocks, or longer than its buffer
+ *    1 the book is not whole blocks of 512 bytes, over 65,536 blocks, or longer than its buffer
  *    2 a block's sum differs               3 a block's form                     4 two type blocks of one name
  *    5 the root is no type block           6 scratch or list too short          7 a type name that is not in the book
  *    8 a chain of aliases of 32 hops       9 a 4,097th name (read-modify-write only)
@@ -13,13 +13,19 @@
  *   14 level 65                           15 tape, text, records or book buffer too short
  *   16 the tape's form    17 a value that does not go with its type, or an array's count
  *   18 a field or entry name that the type does not have    19 an integer that does not fit
+ *   23 a root's name that no type can have
  *
  * Values. `values` takes a call's numbers over its first elements, as many as fit; its other elements stay as before. With refusal 7
  * values[0] is the block whose type name is not in the book; any other refusal leaves `values` as before (but see gateway_plan_save).
  * Three elements are enough for every call.
  *
  * The book. `buffer` holds a type book in its first `len` bytes; a `len` beyond the buffer is refused (1). `width` is the size of
- * the controller's pointers in bytes. `root` is a block's number, from 0 on; one that is no type block of the book is refused (5).
+ * the controller's pointers in bytes. `root` is a block's number, from 0 on; one that is no type block of the book is refused (5). A book
+ * of 0 bytes is valid and has no type.
+ *
+ * The calls whose names end in _named take the root's name in place of its number. A name of over 200 bytes, or with a byte that is not
+ * 20h to 7Eh, is refused with 23 in the place of 5. A name that the book lacks is refused with 7 where the call's walk begins, and values[0] is
+ * then 4294967295, which is no block's number.
  *
  * The calls whose names end in _in are for many calls on one book and test neither book nor root. They may only be called with a
  * `book` for which gateway_check_book(book, book_len, book_len) returned 0, unchanged since, and a `root` for which gateway_is_type
@@ -123,15 +129,28 @@ uint8_t gateway_append(uint8_t *buffer, size_t buffer_len, size_t len, const uin
 uint8_t gateway_resolve_alias(const uint8_t *buffer, size_t buffer_len, size_t len, uint8_t width, uint64_t root, uint64_t *values,
                               size_t values_len);
 
+/* gateway_resolve_alias by a name: 0, 1 to 4, 7, 8, 23. */
+uint8_t gateway_resolve_alias_named(const uint8_t *buffer, size_t buffer_len, size_t len, uint8_t width, const uint8_t *name,
+                                    size_t name_len, uint64_t *values, size_t values_len);
+
 /* The same with aliases and references resolved. */
 uint8_t gateway_resolve_indirection(const uint8_t *buffer, size_t buffer_len, size_t len, uint8_t width, uint64_t root,
                                     uint64_t *values, size_t values_len);
+
+/* gateway_resolve_indirection by a name. */
+uint8_t gateway_resolve_indirection_named(const uint8_t *buffer, size_t buffer_len, size_t len, uint8_t width,
+                                          const uint8_t *name, size_t name_len, uint64_t *values, size_t values_len);
 
 /* 0: values: the number of fields of the root block itself; `records` starts with four numbers for each field, in order (its offset, its
  * size, the block of its type with aliases resolved, its own block), the rest as before.
  * Else 1 to 5, 7, 8, or 15 where the records do not fit; `records` is then as before. */
 uint8_t gateway_resolve_fields(const uint8_t *buffer, size_t buffer_len, size_t len, uint8_t width, uint64_t root, uint32_t *records,
                                size_t records_len, uint64_t *values, size_t values_len);
+
+/* gateway_resolve_fields by a name: 0, 1 to 4, 7, 8, 15, 23; a name that the book lacks is 7 whatever the room. */
+uint8_t gateway_resolve_fields_named(const uint8_t *buffer, size_t buffer_len, size_t len, uint8_t width, const uint8_t *name,
+                                     size_t name_len, uint32_t *records, size_t records_len, uint64_t *values,
+                                     size_t values_len);
 
 /* gateway_resolve_fields in a checked book: 0, 7, 8 or 15. */
 uint8_t gateway_resolve_fields_in(const uint8_t *book, size_t book_len, const uint32_t *index, size_t index_len, uint8_t width,
@@ -154,12 +173,23 @@ uint8_t gateway_requires_read_modify_write(const uint8_t *buffer, size_t buffer_
                                            uint8_t width, uint64_t root, uint32_t *scratch, size_t scratch_len, uint64_t *values,
                                            size_t values_len);
 
+/* gateway_requires_read_modify_write by a name: 0, 1 to 4, 6 to 9, 23. Scratch: as before after 1 to 6 and 23, else all zero. */
+uint8_t gateway_requires_read_modify_write_named(const uint8_t *buffer, size_t buffer_len, size_t len, const uint32_t *index,
+                                                 size_t index_len, uint8_t width, const uint8_t *name, size_t name_len,
+                                                 uint32_t *scratch, size_t scratch_len, uint64_t *values, size_t values_len);
+
 /* 0: values: how many types that the root is made of are not in the book, 1 where the walk is whole (else 0), and how many distinct
  * names were met. `list` starts with the blocks that name the missing types, in the order found, the rest as before; scratch all zero.
  * Else 1 to 6; scratch and list are then as before. */
 uint8_t gateway_missing_types(const uint8_t *buffer, size_t buffer_len, size_t len, const uint32_t *index, size_t index_len, uint8_t width,
                               uint64_t root, uint32_t *scratch, size_t scratch_len, uint32_t *list, size_t list_len, uint64_t *values,
                               size_t values_len);
+
+/* gateway_missing_types by a name: 0, 1 to 4, 6, 23. Of a name that the book lacks: 0, one number is listed, 4294967295, which stands for that
+ * name, the walk is whole, one name was met. */
+uint8_t gateway_missing_types_named(const uint8_t *buffer, size_t buffer_len, size_t len, const uint32_t *index,
+                                    size_t index_len, uint8_t width, const uint8_t *name, size_t name_len, uint32_t *scratch,
+                                    size_t scratch_len, uint32_t *list, size_t list_len, uint64_t *values, size_t values_len);
 
 /* gateway_requires_read_modify_write in a checked book: 0, 6, 7, 8, 9. Scratch: as before after 6, else all zero. */
 uint8_t gateway_requires_read_modify_write_in(const uint8_t *book, size_t book_len, const uint32_t *index, size_t index_len,
@@ -195,6 +225,11 @@ uint8_t gateway_read(const uint8_t *buffer, size_t buffer_len, size_t len, uint8
                      size_t memory_len, uint8_t *tape, size_t tape_len, uint8_t *text, size_t text_len, uint64_t *values,
                      size_t values_len);
 
+/* gateway_read by a name: 0, 1 to 4, 7, 8, 10 to 15, 23. */
+uint8_t gateway_read_named(const uint8_t *buffer, size_t buffer_len, size_t len, uint8_t width, const uint8_t *name,
+                           size_t name_len, const uint8_t *memory, size_t memory_len, uint8_t *tape, size_t tape_len,
+                           uint8_t *text, size_t text_len, uint64_t *values, size_t values_len);
+
 /* The same in a checked book: 0, 7, 8, 10 to 15. */
 uint8_t gateway_read_in(const uint8_t *book, size_t book_len, const uint32_t *index, size_t index_len, uint8_t width, uint32_t root,
                         const uint8_t *memory, size_t memory_len, uint8_t *tape, size_t tape_len, uint8_t *text, size_t text_len,
@@ -212,6 +247,12 @@ uint8_t gateway_read_in(const uint8_t *book, size_t book_len, const uint32_t *in
 uint8_t gateway_write(const uint8_t *buffer, size_t buffer_len, size_t len, uint8_t width, uint64_t root, const uint8_t *image,
                       size_t image_len, const uint8_t *tape, size_t tape_len, const uint8_t *text, size_t text_len, uint8_t *output,
                       size_t output_len, uint64_t *values, size_t values_len);
+
+/* gateway_write by a name: 0, 1 to 4 and 23, then 10 and 16, then those of the walk, 7 first for a name that the book lacks. */
+uint8_t gateway_write_named(const uint8_t *buffer, size_t buffer_len, size_t len, uint8_t width, const uint8_t *name,
+                            size_t name_len, const uint8_t *image, size_t image_len, const uint8_t *tape, size_t tape_len,
+                            const uint8_t *text, size_t text_len, uint8_t *output, size_t output_len, uint64_t *values,
+                            size_t values_len);
 
 /* The same in a checked book: 0, 7, 8, 10, 13, 16 to 19. */
 uint8_t gateway_write_in(const uint8_t *book, size_t book_len, const uint32_t *index, size_t index_len, uint8_t width, uint32_t root,

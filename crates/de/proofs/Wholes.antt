@@ -1,29 +1,30 @@
 -- The whole read, from its last step. Assumes nothing.
-use mathlib.Core.Path.{_≡_, refl, sym, _∙_}
+use mathlib.Core.Path.{_≡_, refl, sym}
 use mathlib.Core.Bool.{true}
 use mathlib.Core.List.{List}
-use Prim.Native.Nat.{ℕ, _≤_, _-_}
-use native.Mathlib.Omega.{arith}
-use lib.ListN.{length, take, drop}
+use Prim.Native.Nat.{ℕ}
+use lib.ListN.{length, take}
 use Rattle.type_book.specs.Book.{isType}
-use Rattle.type_book_check.specs.Check.{ValidBook, checkRoot}
+use Rattle.type_book_check.specs.Check.{checkRoot}
 use Rattle.type_book_check.specs.declared.RootCheck.{RootCheck}
 use Rattle.type_book_check.specs.declared.RootCheck.the-variants as root
-use Rattle.type_book_check.proofs.Valid.{root-valid}
 use Rattle.type_book_check.proofs.Roots.{at-refused, at-block}
-use Rattle.resolvers.proofs.Calls.{root-fits}
+use Rattle.type_book_check.specs.Given.{Given, number, lackingRoot, checkGiven}
+use Rattle.type_book_check.specs.declared.GivenRoot.{GivenRoot}
+use Rattle.type_book_check.specs.declared.GivenRoot.the-variants as given
+use Rattle.type_book_check.proofs.Givens.{given-at-refused, given-at-lacking, given-at-block, at-number}
 use Rattle.resolvers.specs.Resolve.{resolveAlias, ResolvedIs}
 use Rattle.resolvers.specs.declared.Resolved.{Resolved}
 use Rattle.resolvers.specs.declared.Resolved.the-variants as resolved
 use Rattle.de_output.specs.declared.Step.{Step}
 use Rattle.de_output.specs.declared.Step.the-variants.{Next, Stop}
 use Rattle.de_output.specs.declared.ReadAnswer.{ReadAnswer}
-use Rattle.de_output.specs.Trace.{From}
+use Rattle.de_output.specs.Trace.{From, refuse}
 use Rattle.type_category.specs.Category.{categoryOf}
 use Rattle.type_category.specs.declared.type_category.AdsTypeCategory.{AdsTypeCategory}
 use Rattle.tape_array_elements.specs.Element.{whole}
 use Rattle.de.specs.Walk.{Ctx, ctx, walk}
-use Rattle.de.specs.Read.{rootBy, rootTrace, readTrace}
+use Rattle.de.specs.Read.{rootBy, rootTrace, readTrace, givenTrace}
 use Rattle.resolvers.proofs.Numbers.{resolved-is, lacks-numbers, long-numbers}
 use Rattle.de_output.specs.Answer.{ReadIs, Finished}
 use Rattle.de_output.proofs.Answers.{read-by, read-refused, read-as}
@@ -57,24 +58,31 @@ module _ (buffer : List ℕ) (len width n : ℕ) (mem : List ℕ) (k : RootCheck
   unfolding readTrace
   call-refused m e f = read-as (sym (at-refused _ _ k q m e)) (read-refused m 0 f)
 
-  pub call-root : (m : ℕ) → k ≡ root.Root m → ReadIs (rootTrace (ctx (take (len - 0) (drop 0 buffer)) width) m mem) tape txt r tape₂ txt₂ → ReadIs (readTrace buffer len width n mem) tape txt r tape₂ txt₂
+  pub call-root : (m : ℕ) → k ≡ root.Root m → ReadIs (rootTrace (ctx (take len buffer) width) m mem) tape txt r tape₂ txt₂ → ReadIs (readTrace buffer len width n mem) tape txt r tape₂ txt₂
   unfolding readTrace
-  call-root m e f = let z : len - 0 ≡ len = omega arith in read-as (sym (at-block _ _ k q m e)) (rw z at f)
+  call-root m e f = read-as (sym (at-block _ _ k q m e)) f
+
+-- the same for a root however it is given
+module _ (buffer : List ℕ) (len width : ℕ) (root : Given) (mem : List ℕ) (k : GivenRoot) (q : k ≡ checkGiven buffer len root) {tape txt tape₂ txt₂ : List ℕ} {r : ReadAnswer} where
+  pub given-call-refused : (m : ℕ) → k ≡ given.Refused m → Finished (Stop m 0) tape txt r tape₂ txt₂ → ReadIs (givenTrace buffer len width root mem) tape txt r tape₂ txt₂
+  unfolding givenTrace
+  given-call-refused m e f = read-as (sym (given-at-refused _ _ _ k q m e)) (read-refused m 0 f)
+
+  pub given-call-lacking : k ≡ given.Lacking → Finished (Stop 7 lackingRoot) tape txt r tape₂ txt₂ → ReadIs (givenTrace buffer len width root mem) tape txt r tape₂ txt₂
+  unfolding givenTrace
+  given-call-lacking e f = read-as (sym (given-at-lacking _ _ _ k q e)) (read-refused 7 lackingRoot f)
+
+  pub given-call-block : (m : ℕ) → k ≡ given.Block m → ReadIs (rootTrace (ctx (take len buffer) width) m mem) tape txt r tape₂ txt₂ → ReadIs (givenTrace buffer len width root mem) tape txt r tape₂ txt₂
+  unfolding givenTrace
+  given-call-block m e f = read-as (sym (given-at-block _ _ _ k q m e)) f
+
+-- the call by a number is the instance
+pub trace-by-number : (buffer : List ℕ) (len width n : ℕ) (mem : List ℕ) → givenTrace buffer len width (number n) mem ≡ readTrace buffer len width n mem
+unfolding givenTrace readTrace
+trace-by-number buffer len width n mem =
+    at-number (λ k. refuse k 0) (refuse 7 lackingRoot) (λ t. rootTrace (ctx (take len buffer) width) t mem) buffer len n
 
 -- ---- what calls ask
 
 pub typed-root : {book : List ℕ} {a r : Resolved} {t : ℕ} → ResolvedIs book a r → r ≡ resolved.Base t → isType book t ≡ true
 typed-root {t = t} h e = h .typed t e
-
-module _ (buffer : List ℕ) (len n : ℕ) (k : RootCheck) (q : k ≡ checkRoot buffer len n) (m : ℕ) (e : k ≡ root.Root m) where
-  same-bytes : take (len - 0) (drop 0 buffer) ≡ take len buffer
-  same-bytes = let z : len - 0 ≡ len = omega arith in rw z
-
-  pub call-room : len ≤ length buffer
-  call-room = root-fits buffer len n m (sym q ∙ e)
-
-  pub call-book : ValidBook (take (len - 0) (drop 0 buffer))
-  call-book = rw same-bytes (root-valid buffer len n m (sym q ∙ e) .valid)
-
-  pub call-type : isType (take (len - 0) (drop 0 buffer)) m ≡ true
-  call-type = rw same-bytes (root-valid buffer len n m (sym q ∙ e) .kind)

@@ -3,6 +3,7 @@ use mathlib.Core.List.{List}
 use Prim.Native.Nat.{ℕ}
 use lib.ListN.{take}
 use Rattle.type_book_check.specs.Check.{checkRoot, atRoot}
+use Rattle.type_book_check.specs.Given.{Given, lackingRoot, checkGiven, atGiven}
 use Rattle.resolvers.specs.Resolve.{resolveAlias, resolvedNumbers}
 use Rattle.resolvers.specs.declared.Resolved.{Resolved}
 use Rattle.resolvers.specs.declared.Resolved.the-variants as resolved
@@ -23,3 +24,8 @@ rootTrace c n mem = rootBy c n mem (resolveAlias (c .book) (c .width) n)
 -- what a call reads, 1 to 5 before the walk: a lent buffer with the book's length, the pointer width, the root's number, the memory
 unfoldable pub readTrace : List ℕ → ℕ → ℕ → ℕ → List ℕ → Trace
 readTrace buffer len width n mem = atRoot (λ k. refuse k 0) (λ t. rootTrace (ctx (take len buffer) width) t mem) (checkRoot buffer len n)
+
+-- the same for a root however it is given: a name that the book lacks is 7 with the number of a lacking root. `readTrace` is its instance for a number
+unfoldable pub givenTrace : List ℕ → ℕ → ℕ → Given → List ℕ → Trace
+givenTrace buffer len width root mem =
+    atGiven (λ k. refuse k 0) (refuse 7 lackingRoot) (λ t. rootTrace (ctx (take len buffer) width) t mem) (checkGiven buffer len root)

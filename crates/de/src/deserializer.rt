@@ -9,7 +9,8 @@ ghost use Rattle.de_output.specs.Answer.{ReadIs};
 ghost use Rattle.de_output.specs.Trace.{From};
 ghost use Rattle.tape_array_elements.specs.Element.{whole};
 ghost use Rattle.de.specs.Walk.{ctx, walk};
-ghost use Rattle.de.specs.Read.{rootTrace, readTrace};
+ghost use Rattle.type_book_check.specs.Given.{name as byName};
+ghost use Rattle.de.specs.Read.{rootTrace, readTrace, givenTrace};
 use crate::array_access::array;
 use crate::map_access::map;
 use crate::reading::Reading;
@@ -21,6 +22,8 @@ use de_output::finish;
 use resolvers::Resolved;
 use tape_shape::Shape;
 use tape_shape::shape_of;
+use type_book_check::GivenRoot;
+use type_book_check::LACKING_ROOT;
 use type_book_check::RootCheck;
 use type_category::type_category::AdsTypeCategory;
 
@@ -148,6 +151,24 @@ fn read_large(
     read_in(book, &index, width, root, memory, tape, text)
 }
 
+// `read_in` with an index on the stack.
+fn read_indexed(
+    book: &[u8],
+    width: u8,
+    root: u32,
+    memory: &[u8],
+    tape: &mut [u8],
+    text: &mut [u8],
+) -> ReadAnswer
+    requires { ⌜ ValidBook (now book) × (isType (now book) root ≡ true) ⌝ }
+    ensures { λ r. ⌜ ReadIs (rootTrace (ctx (now (book .entry)) width) root (now (memory .entry))) (now (tape .entry)) (now (text .entry)) r (now (tape .exit)) (now (text .exit)) ⌝ }
+{
+    if type_book::block::blocks(book) <= SMALL_BOOK {
+        return read_small(book, width, root, memory, tape, text);
+    }
+    read_large(book, width, root, memory, tape, text)
+}
+
 // The memory by the type at block `root` of the book in the first `len` bytes of the buffer.
 pub fn read(
     buffer: &[u8],
@@ -162,13 +183,27 @@ pub fn read(
 {
     let checked = type_book_check::check_root(buffer, len, root);
     match checked {
-        RootCheck::Root(n) => {
-            let book = &buffer[0..len];
-            if type_book::block::blocks(book) <= SMALL_BOOK {
-                return read_small(book, width, n, memory, tape, text);
-            }
-            read_large(book, width, n, memory, tape, text)
-        }
+        RootCheck::Root(n) => read_indexed(&buffer[..len], width, n, memory, tape, text),
         RootCheck::Refused(k) => finish(Step::Stop(k, 0), tape, text),
+    }
+}
+
+// The same by the type of that name.
+pub fn read_named(
+    buffer: &[u8],
+    len: usize,
+    width: u8,
+    name: &[u8],
+    memory: &[u8],
+    tape: &mut [u8],
+    text: &mut [u8],
+) -> ReadAnswer
+    ensures { λ r. ⌜ ReadIs (givenTrace (now (buffer .entry)) len width (byName (now (name .entry))) (now (memory .entry))) (now (tape .entry)) (now (text .entry)) r (now (tape .exit)) (now (text .exit)) ⌝ }
+{
+    let checked = type_book_check::check_root_named(buffer, len, name);
+    match checked {
+        GivenRoot::Block(n) => read_indexed(&buffer[..len], width, n, memory, tape, text),
+        GivenRoot::Lacking => finish(Step::Stop(7, LACKING_ROOT), tape, text),
+        GivenRoot::Refused(k) => finish(Step::Stop(k, 0), tape, text),
     }
 }

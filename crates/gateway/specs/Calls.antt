@@ -18,6 +18,9 @@ use Rattle.resolve_read_modify_write.specs.declared.Rmw.{Rmw}
 use Rattle.resolve_missing_types.specs.declared.Missing.{Missing}
 use Rattle.resolve_read_modify_write.specs.Calls.{rmwNumbers, RmwIn, RmwIs}
 use Rattle.resolve_missing_types.specs.Calls.{missingNumbers, MissingIn, MissingIs}
+use Rattle.type_book_check.specs.Given as given
+use Rattle.resolve_read_modify_write.specs.Given.{GivenRmwIs}
+use Rattle.resolve_missing_types.specs.Given.{GivenMissingIs}
 use Rattle.de_output.specs.declared.ReadAnswer.{ReadAnswer}
 use Rattle.de_output.specs.Trace.{Trace}
 use Rattle.de_output.specs.Answer.{readNumbers, ReadIs}
@@ -57,6 +60,12 @@ pub record RmwGiven (buffer : List ℕ) (len : ℕ) (index : List ℕ) (width ro
   pub by : RmwIs buffer len index width root scratch answer scratch′
   pub gives : Gives (rmwNumbers answer) before r after
 
+-- the same for a root that is given by its name
+pub record RmwNamedGiven (buffer : List ℕ) (len : ℕ) (index : List ℕ) (width : ℕ) (name : List ℕ) (scratch before : List ℕ) (r : ℕ) (scratch′ after : List ℕ) : Type 0 where
+  pub answer : Rmw
+  pub by : GivenRmwIs buffer len index width (given.name name) scratch answer scratch′
+  pub gives : Gives (rmwNumbers answer) before r after
+
 -- the same for type block `root` of a checked book, where the scratch fits or not
 pub record RmwInGiven (fits : Bool) (book : List ℕ) (width root : ℕ) (scratch before : List ℕ) (r : ℕ) (scratch′ after : List ℕ) : Type 0 where
   pub answer : Rmw
@@ -67,6 +76,12 @@ pub record RmwInGiven (fits : Bool) (book : List ℕ) (width root : ℕ) (scratc
 pub record MissingGiven (buffer : List ℕ) (len : ℕ) (index : List ℕ) (width root : ℕ) (scratch list before : List ℕ) (r : ℕ) (scratch′ list′ after : List ℕ) : Type 0 where
   pub answer : Missing
   pub by : MissingIs buffer len index width root scratch list answer scratch′ list′
+  pub gives : Gives (missingNumbers answer) before r after
+
+-- the same for a root that is given by its name
+pub record MissingNamedGiven (buffer : List ℕ) (len : ℕ) (index : List ℕ) (width : ℕ) (name : List ℕ) (scratch list before : List ℕ) (r : ℕ) (scratch′ list′ after : List ℕ) : Type 0 where
+  pub answer : Missing
+  pub by : GivenMissingIs buffer len index width (given.name name) scratch list answer scratch′ list′
   pub gives : Gives (missingNumbers answer) before r after
 
 -- the same for type block `root` of a checked book, where scratch and list fit or not

@@ -4,7 +4,8 @@ ghost use mathlib.Core.Bool.{true};
 ghost use Rattle.type_book.specs.Book.{isType};
 ghost use Rattle.type_book_check.specs.Check.{ValidBook};
 ghost use Rattle.de.specs.Walk.{ctx};
-ghost use Rattle.de.specs.Read.{rootTrace, readTrace};
+ghost use Rattle.type_book_check.specs.Given.{name as byName};
+ghost use Rattle.de.specs.Read.{rootTrace, readTrace, givenTrace};
 ghost use Rattle.gateway.specs.Calls.{ReadGiven};
 use gateway_read_answers::give_read;
 
@@ -24,6 +25,26 @@ pub extern "C" fn gateway_read(
 {
     give_read(
         de::deserializer::read(buffer, len, width, root, memory, tape, text),
+        values,
+    )
+}
+
+// The same by the type of that name.
+#[no_mangle]
+pub extern "C" fn gateway_read_named(
+    buffer: &[u8],
+    len: usize,
+    width: u8,
+    name: &[u8],
+    memory: &[u8],
+    tape: &mut [u8],
+    text: &mut [u8],
+    values: &mut [u64],
+) -> u8
+    ensures { λ r. ⌜ ReadGiven (givenTrace (now (buffer .entry)) len width (byName (now (name .entry))) (now (memory .entry))) (now (tape .entry)) (now (text .entry)) (now (values .entry)) r (now (tape .exit)) (now (text .exit)) (now (values .exit)) ⌝ }
+{
+    give_read(
+        de::deserializer::read_named(buffer, len, width, name, memory, tape, text),
         values,
     )
 }

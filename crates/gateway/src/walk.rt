@@ -5,7 +5,7 @@ ghost use mathlib.Core.Bool.{true, _&&_};
 ghost use Rattle.type_book.specs.Book.{isType};
 ghost use Rattle.type_book_check.specs.Check.{ValidBook};
 ghost use Rattle.resolve_walk.specs.Scratch.{scratchFits, listFits};
-ghost use Rattle.gateway.specs.Calls.{RmwGiven, RmwInGiven, MissingGiven, MissingInGiven};
+ghost use Rattle.gateway.specs.Calls.{RmwGiven, RmwNamedGiven, RmwInGiven, MissingGiven, MissingNamedGiven, MissingInGiven};
 use gateway_walk_answers::give_missing;
 use gateway_walk_answers::give_rmw;
 
@@ -29,6 +29,32 @@ pub extern "C" fn gateway_requires_read_modify_write(
             index,
             width,
             root,
+            scratch,
+        ),
+        values,
+    )
+}
+
+// The same for a root that is given by its name.
+#[no_mangle]
+pub extern "C" fn gateway_requires_read_modify_write_named(
+    buffer: &[u8],
+    len: usize,
+    index: &[u32],
+    width: u8,
+    name: &[u8],
+    scratch: &mut [u32],
+    values: &mut [u64],
+) -> u8
+    ensures { λ r. ⌜ RmwNamedGiven (now (buffer .entry)) len (now (index .entry)) width (now (name .entry)) (now (scratch .entry)) (now (values .entry)) r (now (scratch .exit)) (now (values .exit)) ⌝ }
+{
+    give_rmw(
+        resolve_read_modify_write::requires_read_modify_write_named(
+            buffer,
+            len,
+            index,
+            width,
+            name,
             scratch,
         ),
         values,
@@ -69,6 +95,26 @@ pub extern "C" fn gateway_missing_types(
 {
     give_missing(
         resolve_missing_types::missing_types(buffer, len, index, width, root, scratch, list),
+        values,
+    )
+}
+
+// The same for a root that is given by its name.
+#[no_mangle]
+pub extern "C" fn gateway_missing_types_named(
+    buffer: &[u8],
+    len: usize,
+    index: &[u32],
+    width: u8,
+    name: &[u8],
+    scratch: &mut [u32],
+    list: &mut [u32],
+    values: &mut [u64],
+) -> u8
+    ensures { λ r. ⌜ MissingNamedGiven (now (buffer .entry)) len (now (index .entry)) width (now (name .entry)) (now (scratch .entry)) (now (list .entry)) (now (values .entry)) r (now (scratch .exit)) (now (list .exit)) (now (values .exit)) ⌝ }
+{
+    give_missing(
+        resolve_missing_types::missing_types_named(buffer, len, index, width, name, scratch, list),
         values,
     )
 }

@@ -5,7 +5,8 @@ ghost use lib.ListN.{length};
 ghost use Rattle.type_book.specs.Book.{isType};
 ghost use Rattle.type_book_check.specs.Check.{ValidBook};
 ghost use Rattle.ser.specs.Write.{ctx};
-ghost use Rattle.ser.specs.Call.{bookWrite, writeCall};
+ghost use Rattle.type_book_check.specs.Given.{name as byName};
+ghost use Rattle.ser.specs.Call.{bookWrite, writeCall, givenWrite};
 ghost use Rattle.gateway.specs.Calls.{WriteGiven};
 use gateway_write_answers::give_write;
 
@@ -26,6 +27,27 @@ pub extern "C" fn gateway_write<'a>(
 {
     give_write(
         ser::serializer::write(buffer, len, width, root, image, tape, text, output),
+        values,
+    )
+}
+
+// The same by the type of that name.
+#[no_mangle]
+pub extern "C" fn gateway_write_named<'a>(
+    buffer: &'a [u8],
+    len: usize,
+    width: u8,
+    name: &[u8],
+    image: &[u8],
+    tape: &[u8],
+    text: &'a [u8],
+    output: &mut [u8],
+    values: &mut [u64],
+) -> u8
+    ensures { λ r. ⌜ WriteGiven (givenWrite (now (buffer .entry)) len width (byName (now (name .entry))) (now (image .entry)) (length (now (output .entry))) (now (tape .entry)) (now (text .entry))) (now (image .entry)) (now (output .entry)) (now (values .entry)) r (now (output .exit)) (now (values .exit)) ⌝ }
+{
+    give_write(
+        ser::serializer::write_named(buffer, len, width, name, image, tape, text, output),
         values,
     )
 }

@@ -13,6 +13,10 @@ use Rattle.type_book_check.specs.declared.RootCheck.{RootCheck}
 use Rattle.type_book_check.specs.declared.RootCheck.the-variants as checked
 use Rattle.type_book_check.specs.Check.{checkRoot}
 use Rattle.type_book_check.proofs.Roots.{at-refused, at-block}
+use Rattle.type_book_check.specs.Given.{Given, number, lackingRoot, checkGiven}
+use Rattle.type_book_check.specs.declared.GivenRoot.{GivenRoot}
+use Rattle.type_book_check.specs.declared.GivenRoot.the-variants as given
+use Rattle.type_book_check.proofs.Givens.{given-at-refused, given-at-lacking, given-at-block, at-number}
 use Rattle.resolve_field_types.specs.declared.ResolvedField.{ResolvedField}
 use Rattle.resolve_field_types.specs.declared.FieldAnswer.{FieldAnswer}
 use Rattle.resolve_field_types.specs.declared.FieldAnswer.the-variants as answer
@@ -21,7 +25,7 @@ use Rattle.resolve_field_types.specs.declared.FieldsCheck.the-variants a
 use Rattle.resolve_field_types.specs.declared.FieldsAnswer.{FieldsAnswer}
 use Rattle.resolve_field_types.specs.declared.FieldsAnswer.the-variants as fields
 use Rattle.resolve_field_types.specs.Fields.{checkNumbers, resolveField, fieldsFrom, fieldsCheck, FieldResolved}
-use Rattle.resolve_field_types.specs.Calls.{recordsThatFit, fieldsEnd, fieldsAnswer, fieldRecord, recordsFrom, fieldRecords, storedIn, Filled, rootFields, rootRecords}
+use Rattle.resolve_field_types.specs.Calls.{recordsThatFit, fieldsEnd, fieldsAnswer, fieldRecord, recordsFrom, fieldRecords, storedIn, Filled, rootFields, rootRecords, givenFields, givenRecords}
 use Rattle.resolve_field_types.proofs.Numbers.{field-is, fields-says}
 use Rattle.resolve_field_types.proofs.Fields.{fields-more, fields-lacks, fields-endless}
 
@@ -218,3 +222,39 @@ module _ (buffer : List ℕ) (len root : ℕ) (k : RootCheck) (e : k ≡ checkRo
   pub check-at : (t : ℕ) → k ≡ checked.Root t → (r : FieldsAnswer) → r ≡ fieldsAnswer (take len buffer) width t room → r ≡ rootFields buffer len width root room
   unfolding rootFields
   check-at t h r q = q ∙ at-block fields.Refused _ k e t h
+
+-- ---- the root however it is given
+
+module _ (buffer : List ℕ) (len : ℕ) (root : Given) (k : GivenRoot) (e : k ≡ checkGiven buffer len root) (width : ℕ) (before : List ℕ) where
+  pub given-fields-refused : (n : ℕ) → k ≡ given.Refused n
+      → Filled (givenFields buffer len width root (length before / 4)) (givenRecords buffer len width root) before (fields.Refused n) before
+  unfolding givenFields storedIn
+  given-fields-refused n h =
+      let z : fields.Refused n ≡ givenFields buffer len width root (length before / 4) = given-at-refused fields.Refused _ _ k e n h in
+      record { is = fields-says _ _ z; records = rw (← z) }
+
+  pub given-fields-lacking : k ≡ given.Lacking
+      → Filled (givenFields buffer len width root (length before / 4)) (givenRecords buffer len width root) before (fields.NotFound lackingRoot) before
+  unfolding givenFields storedIn
+  given-fields-lacking h =
+      let z : fields.NotFound lackingRoot ≡ givenFields buffer len width root (length before / 4) = given-at-lacking fields.Refused _ _ k e h in
+      record { is = fields-says _ _ z; records = rw (← z) }
+
+  pub given-fields-block : (t : ℕ) → k ≡ given.Block t → (r : FieldsAnswer) (after : List ℕ)
+      → Filled (fieldsAnswer (take len buffer) width t (length before / 4)) (fieldRecords (take len buffer) width t) before r after
+      → Filled (givenFields buffer len width root (length before / 4)) (givenRecords buffer len width root) before r after
+  unfolding givenFields givenRecords
+  given-fields-block t h r after q =
+      let z : fieldsAnswer (take len buffer) width t (length before / 4) ≡ givenFields buffer len width root (length before / 4) = given-at-block fields.Refused (fields.NotFound lackingRoot) _ k e t h in
+      let y : fieldRecords (take len buffer) width t ≡ givenRecords buffer len width root = given-at-block (λ n. []) [] _ k e t h in
+      record { is = rw (← z) (q .is); records = rw (← z, ← y) (q .records) }
+
+-- the call by a number is the instance
+pub fields-by-number : (buffer : List ℕ) (len width n room : ℕ) → givenFields buffer len width (number n) room ≡ rootFields buffer len width n room
+unfolding givenFields rootFields
+fields-by-number buffer len width n room =
+    at-number fields.Refused (fields.NotFound lackingRoot) (λ t. fieldsAnswer (take len buffer) width t room) buffer len n
+
+pub records-by-number : (buffer : List ℕ) (len width n : ℕ) → givenRecords buffer len width (number n) ≡ rootRecords buffer len width n
+unfolding givenRecords rootRecords
+records-by-number buffer len width n = at-number (λ n. []) [] (fieldRecords (take len buffer) width) buffer len n

@@ -1,4 +1,4 @@
--- The call, over a book that fills the first `len` bytes of a buffer: refusals 1 to 5 first, then 7, 8 and 15. Assumes nothing.
+-- The call, over a book that fills the first `len` bytes of a buffer: refusals 1 to 5, or 23, first, then 7, 8 and 15. Assumes nothing.
 use mathlib.Core.Path.{_≡_}
 use mathlib.Core.Bool.{cond}
 use mathlib.Core.List.{List, [], _∷_, _++_}
@@ -8,6 +8,7 @@ use lib.Dec.{leb}
 use Rattle.enc_number.specs.Answer.{refusalOf}
 use Rattle.type_book.specs.Book.{fieldsOf}
 use Rattle.type_book_check.specs.Check.{checkRoot, atRoot}
+use Rattle.type_book_check.specs.Given.{Given, lackingRoot, checkGiven, atGiven}
 use Rattle.resolve_field_types.specs.declared.FieldAnswer.{FieldAnswer}
 use Rattle.resolve_field_types.specs.declared.FieldAnswer.the-variants as answer
 use Rattle.resolve_field_types.specs.declared.FieldsCheck.{FieldsCheck}
@@ -76,3 +77,13 @@ rootFields buffer len width root room =
 -- the records of the root block's fields, or none where 1 to 5 refuse
 unfoldable pub rootRecords : List ℕ → ℕ → ℕ → ℕ → List ℕ
 rootRecords buffer len width root = atRoot (λ n. []) (fieldRecords (take len buffer) width) (checkRoot buffer len root)
+
+-- the same for a root however it is given: a name that the book lacks is 7 with the number of a lacking root, before any 15, since there is no field.
+-- `rootFields` is its instance for a number
+unfoldable pub givenFields : List ℕ → ℕ → ℕ → Given → ℕ → FieldsAnswer
+givenFields buffer len width root room =
+    atGiven fields.Refused (fields.NotFound lackingRoot) (λ t. fieldsAnswer (take len buffer) width t room) (checkGiven buffer len root)
+
+-- the records of its fields, or none where it is lacking or refused
+unfoldable pub givenRecords : List ℕ → ℕ → ℕ → Given → List ℕ
+givenRecords buffer len width root = atGiven (λ n. []) [] (fieldRecords (take len buffer) width) (checkGiven buffer len root)

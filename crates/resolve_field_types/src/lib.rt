@@ -8,9 +8,12 @@ ghost use lib.Seq.{sets};
 ghost use Rattle.type_book.specs.Book.{isType, fieldsOf};
 ghost use Rattle.type_book_check.specs.Check.{ValidBook};
 ghost use Rattle.resolve_field_types.specs.Fields.{checkNumbers, fieldsFrom, fieldsCheck, FieldResolved};
-ghost use Rattle.resolve_field_types.specs.Calls.{recordsThatFit, fieldsNumbers, recordRoom, fieldRecord, fieldRecords, fieldsAnswer, Filled, rootFields, rootRecords};
+ghost use Rattle.type_book_check.specs.Given.{name as byName};
+ghost use Rattle.resolve_field_types.specs.Calls.{recordsThatFit, fieldsNumbers, recordRoom, fieldRecord, fieldRecords, fieldsAnswer, Filled, rootFields, rootRecords, givenFields, givenRecords};
 use resolvers::Resolved;
 use type_book::block;
+use type_book_check::GivenRoot;
+use type_book_check::LACKING_ROOT;
 use type_book_check::RootCheck;
 use type_provider::Found;
 
@@ -223,5 +226,23 @@ pub fn resolve_fields(
     match check {
         RootCheck::Root(t) => fill_fields(&buffer[..len], width, t, records),
         RootCheck::Refused(n) => FieldsAnswer::Refused(n),
+    }
+}
+
+// `resolve_fields` of a root that is given by its name.
+pub fn resolve_fields_named(
+    buffer: &[u8],
+    len: usize,
+    width: u8,
+    name: &[u8],
+    records: &mut [u32],
+) -> FieldsAnswer
+    ensures { λ r. ⌜ Filled (givenFields (now (buffer .entry)) len width (byName (now (name .entry))) (recordRoom (length (now (records .entry))))) (givenRecords (now (buffer .entry)) len width (byName (now (name .entry)))) (now (records .entry)) r (now (records .exit)) ⌝ }
+{
+    let check = type_book_check::check_root_named(buffer, len, name);
+    match check {
+        GivenRoot::Block(t) => fill_fields(&buffer[..len], width, t, records),
+        GivenRoot::Lacking => FieldsAnswer::NotFound(LACKING_ROOT),
+        GivenRoot::Refused(n) => FieldsAnswer::Refused(n),
     }
 }

@@ -3,3 +3,4 @@ mod Lists
 pub mod Numbers
 pub mod Ends
 pub mod Missings
+pub mod Givens

@@ -9,6 +9,8 @@ ghost use Rattle.type_book_check.specs.Check.{ValidBook};
 ghost use Rattle.type_index.specs.Trust.{Trusted};
 ghost use Rattle.resolve_walk.specs.State.{IsDue};
 ghost use Rattle.resolve_missing_types.specs.Calls.{missingFits, Walked, MissingIn, MissingIs};
+ghost use Rattle.type_book_check.specs.Given.{name as byName};
+ghost use Rattle.resolve_missing_types.specs.Given.{LackingIn, GivenMissingIs};
 ghost use Rattle.resolve_missing_types.specs.State.{OneMore, Applied, Learned};
 use enc_zeros::clear_numbers;
 use resolve_walk::MAX_TYPES_VISITED;
@@ -17,6 +19,8 @@ use resolve_walk::scratch_fits;
 use resolve_walk::start;
 use resolve_walk::step;
 use resolve_walk_events::Event;
+use type_book_check::GivenRoot;
+use type_book_check::LACKING_ROOT;
 use type_book_check::RootCheck;
 use type_index::Trust;
 use type_index::hold_against;
@@ -174,5 +178,44 @@ pub fn missing_types(
     match check {
         RootCheck::Root(t) => missing_at(&buffer[..len], index, width, t, scratch, list),
         RootCheck::Refused(n) => Missing::Refused(n),
+    }
+}
+
+// `missing_types` for a name that a valid book lacks, of which nothing else is known: that name alone is missing. 6 where index, scratch or
+// list is too short.
+fn missing_lacking(index: &[u32], scratch: &mut [u32], list: &mut [u32]) -> Missing
+    ensures { λ r. ⌜ LackingIn (missingFits (now (index .entry)) (now (scratch .entry)) (now (list .entry))) (now (scratch .entry)) (now (list .entry)) r (now (scratch .exit)) (now (list .exit)) ⌝ }
+{
+    if !index_fits(index) {
+        return Missing::Refused(6);
+    }
+    if !scratch_fits(scratch) {
+        return Missing::Refused(6);
+    }
+    if !list_fits(list) {
+        return Missing::Refused(6);
+    }
+    clear_numbers(scratch);
+    let n = list_block(list, 0, LACKING_ROOT);
+    Missing::Listed(n, true, 1)
+}
+
+// `missing_types` of a root that is given by its name.
+pub fn missing_types_named(
+    buffer: &[u8],
+    len: usize,
+    index: &[u32],
+    width: u8,
+    name: &[u8],
+    scratch: &mut [u32],
+    list: &mut [u32],
+) -> Missing
+    ensures { λ r. ⌜ GivenMissingIs (now (buffer .entry)) len (now (index .entry)) width (byName (now (name .entry))) (now (scratch .entry)) (now (list .entry)) r (now (scratch .exit)) (now (list .exit)) ⌝ }
+{
+    let check = type_book_check::check_root_named(buffer, len, name);
+    match check {
+        GivenRoot::Block(t) => missing_at(&buffer[..len], index, width, t, scratch, list),
+        GivenRoot::Lacking => missing_lacking(index, scratch, list),
+        GivenRoot::Refused(n) => Missing::Refused(n),
     }
 }

@@ -2,3 +2,4 @@
 mod Rmws
 pub mod Ends
 pub mod Numbers
+pub mod Givens

@@ -10,6 +10,8 @@ ghost use Rattle.type_book_check.specs.Check.{ValidBook};
 ghost use Rattle.resolve_walk.specs.State.{IsDue};
 ghost use Rattle.resolve_read_modify_write.specs.Reads.{keepsState};
 ghost use Rattle.resolve_read_modify_write.specs.Calls.{rmwFits, rmwAnswer, RmwIn, RmwIs};
+ghost use Rattle.type_book_check.specs.Given.{name as byName};
+ghost use Rattle.resolve_read_modify_write.specs.Given.{LackingIn, GivenRmwIs};
 ghost use Rattle.resolve_read_modify_write.specs.State.{Decided};
 use enc_zeros::clear_numbers;
 use resolve_walk::MAX_TYPES_VISITED;
@@ -17,6 +19,8 @@ use resolve_walk::scratch_fits;
 use resolve_walk::start;
 use resolve_walk::step;
 use resolve_walk_events::Event;
+use type_book_check::GivenRoot;
+use type_book_check::LACKING_ROOT;
 use type_book_check::RootCheck;
 use type_category::type_category::AdsTypeCategory;
 use type_index::Trust;
@@ -165,5 +169,38 @@ pub fn requires_read_modify_write(
     match check {
         RootCheck::Root(t) => rmw_at(&buffer[..len], index, width, t, scratch),
         RootCheck::Refused(n) => Rmw::Refused(n),
+    }
+}
+
+// `requires_read_modify_write` for a name that a valid book lacks: 6 where index or scratch is too short, else 7.
+fn rmw_lacking(index: &[u32], scratch: &mut [u32]) -> Rmw
+    ensures { λ r. ⌜ LackingIn (rmwFits (now (index .entry)) (now (scratch .entry))) (now (scratch .entry)) r (now (scratch .exit)) ⌝ }
+{
+    if !index_fits(index) {
+        return Rmw::Refused(6);
+    }
+    if !scratch_fits(scratch) {
+        return Rmw::Refused(6);
+    }
+    clear_numbers(scratch);
+    Rmw::NotFound(LACKING_ROOT)
+}
+
+// `requires_read_modify_write` of a root that is given by its name.
+pub fn requires_read_modify_write_named(
+    buffer: &[u8],
+    len: usize,
+    index: &[u32],
+    width: u8,
+    name: &[u8],
+    scratch: &mut [u32],
+) -> Rmw
+    ensures { λ r. ⌜ GivenRmwIs (now (buffer .entry)) len (now (index .entry)) width (byName (now (name .entry))) (now (scratch .entry)) r (now (scratch .exit)) ⌝ }
+{
+    let check = type_book_check::check_root_named(buffer, len, name);
+    match check {
+        GivenRoot::Block(t) => rmw_at(&buffer[..len], index, width, t, scratch),
+        GivenRoot::Lacking => rmw_lacking(index, scratch),
+        GivenRoot::Refused(n) => Rmw::Refused(n),
     }
 }

@@ -12,12 +12,16 @@ use Rattle.type_book_check.specs.declared.RootCheck.the-variants as checked
 use Rattle.type_book_check.specs.Check.{ValidBook, checkRoot}
 use Rattle.type_book_check.proofs.Valid.{root-valid}
 use Rattle.type_book_check.proofs.Roots.{at-refused, at-block}
+use Rattle.type_book_check.specs.Given.{Given, number, lackingRoot, checkGiven}
+use Rattle.type_book_check.specs.declared.GivenRoot.{GivenRoot}
+use Rattle.type_book_check.specs.declared.GivenRoot.the-variants as given
+use Rattle.type_book_check.proofs.Givens.{given-at-refused, given-at-lacking, given-at-block, at-number}
 use Rattle.resolvers.specs.declared.Resolved.{Resolved}
 use Rattle.resolvers.specs.declared.Resolved.the-variants as resolved
 use Rattle.resolvers.specs.declared.Resolution.{Resolution}
 use Rattle.resolvers.specs.declared.Resolution.the-variants.{Block, NotFound, Refused}
 use Rattle.resolvers.specs.Resolve.{resolvedNumbers, resolveType, ResolvedIs}
-use Rattle.resolvers.specs.Calls.{resolution, rootResolution}
+use Rattle.resolvers.specs.Calls.{resolution, rootResolution, givenResolution}
 use Rattle.resolvers.proofs.Numbers.{resolved-is}
 
 -- ---- what a chain comes to, as a call answers it
@@ -64,3 +68,29 @@ module _ (buffer : List ℕ) (len root : ℕ) (k : RootCheck) (e : k ≡ checkRo
         → r ≡ rootResolution references buffer len width root
     unfolding rootResolution
     call-root t h r q = q ∙ at-block Refused (λ t. resolution (resolveType references (take len buffer) width t)) k e t h
+
+-- ---- the root however it is given
+
+module _ (buffer : List ℕ) (len : ℕ) (root : Given) (k : GivenRoot) (e : k ≡ checkGiven buffer len root) (references : Bool) (width : ℕ) where
+  pub given-call-refused : (n : ℕ) → k ≡ given.Refused n → Refused n ≡ givenResolution references buffer len width root
+  unfolding givenResolution
+  given-call-refused n h =
+      given-at-refused Refused (NotFound lackingRoot) (λ t. resolution (resolveType references (take len buffer) width t)) k e n h
+
+  pub given-call-lacking : k ≡ given.Lacking → NotFound lackingRoot ≡ givenResolution references buffer len width root
+  unfolding givenResolution
+  given-call-lacking h =
+      given-at-lacking Refused (NotFound lackingRoot) (λ t. resolution (resolveType references (take len buffer) width t)) k e h
+
+  pub given-call-block : (t : ℕ) → k ≡ given.Block t → (r : Resolution) → r ≡ resolution (resolveType references (take len buffer) width t)
+      → r ≡ givenResolution references buffer len width root
+  unfolding givenResolution
+  given-call-block t h r q =
+      q ∙ given-at-block Refused (NotFound lackingRoot) (λ t. resolution (resolveType references (take len buffer) width t)) k e t h
+
+-- the call by a number is the instance
+pub resolution-by-number : (references : Bool) (buffer : List ℕ) (len width n : ℕ)
+    → givenResolution references buffer len width (number n) ≡ rootResolution references buffer len width n
+unfolding givenResolution rootResolution
+resolution-by-number references buffer len width n =
+    at-number Refused (NotFound lackingRoot) (λ t. resolution (resolveType references (take len buffer) width t)) buffer len n

@@ -1,10 +1,11 @@
--- The two calls, over a book that fills the first `len` bytes of a buffer: refusals 1 to 5 first, then 7 and 8. Assumes nothing.
+-- The two calls, over a book that fills the first `len` bytes of a buffer: refusals 1 to 5, or 23, first, then 7 and 8. Assumes nothing.
 use mathlib.Core.Bool.{Bool, true, false}
 use mathlib.Core.List.{List, [], _∷_}
 use Prim.Native.Nat.{ℕ}
 use lib.ListN.{take}
 use Rattle.enc_number.specs.Answer.{refusalOf}
 use Rattle.type_book_check.specs.Check.{checkRoot, atRoot}
+use Rattle.type_book_check.specs.Given.{Given, lackingRoot, checkGiven, atGiven}
 use Rattle.resolvers.specs.declared.Resolved.{Resolved}
 use Rattle.resolvers.specs.declared.Resolved.the-variants as resolved
 use Rattle.resolvers.specs.declared.Resolution.{Resolution}
@@ -29,6 +30,12 @@ resolution resolved.TooLong = Refused (refusalOf (resolvedNumbers resolved.TooLo
 unfoldable pub rootResolution : Bool → List ℕ → ℕ → ℕ → ℕ → Resolution
 rootResolution references buffer len width root =
     atRoot Refused (λ t. resolution (resolveType references (take len buffer) width t)) (checkRoot buffer len root)
+
+-- the same for a root however it is given: a name that the book lacks is 7 with the number of a lacking root. `rootResolution` is its instance for a
+-- number
+unfoldable pub givenResolution : Bool → List ℕ → ℕ → ℕ → Given → Resolution
+givenResolution references buffer len width root =
+    atGiven Refused (NotFound lackingRoot) (λ t. resolution (resolveType references (take len buffer) width t)) (checkGiven buffer len root)
 
 -- the root, with aliases resolved
 abbrev pub rootAlias : List ℕ → ℕ → ℕ → ℕ → Resolution

@@ -1,13 +1,16 @@
 // Aliases and references, resolved by look-ups in the type book (the Rust's resolvers.rs). The functions whose names end in `_in` take
 // a book that was checked once; the others check it.
 ghost use mathlib.Core.Path.{_≡_};
-ghost use mathlib.Core.Bool.{true};
+ghost use mathlib.Core.Bool.{true, false};
 ghost use Rattle.type_book.specs.Book.{isType, typeNameOf};
 ghost use Rattle.type_provider.specs.Find.{find, foundNumbers};
 ghost use Rattle.type_index.specs.Trust.{Trusted};
 ghost use Rattle.type_book_check.specs.Check.{ValidBook};
 ghost use Rattle.resolvers.specs.Resolve.{goesOn, isFollowed, resolveType, resolveAlias, resolveIndirection, ResolvedIs, LookedUp};
-ghost use Rattle.resolvers.specs.Calls.{resolutionNumbers, resolution, rootAlias, rootIndirection};
+ghost use Rattle.type_book_check.specs.Given.{name as byName};
+ghost use Rattle.resolvers.specs.Calls.{resolutionNumbers, resolution, rootAlias, rootIndirection, givenResolution};
+use type_book_check::GivenRoot;
+use type_book_check::LACKING_ROOT;
 use type_book_check::RootCheck;
 use type_category::type_category::AdsTypeCategory;
 use type_index::Trust;
@@ -177,4 +180,30 @@ pub fn resolve_indirection(buffer: &[u8], len: usize, width: u8, root: u64) -> R
         RootCheck::Root(t) => resolve_root(&buffer[..len], width, t, true),
         RootCheck::Refused(n) => Resolution::Refused(n),
     }
+}
+
+// The chain from a root that is given by its name.
+fn resolve_named(buffer: &[u8], len: usize, width: u8, name: &[u8], references: bool) -> Resolution
+    ensures { λ r. ⌜ resolutionNumbers r ≡ resolutionNumbers (givenResolution references (now (buffer .entry)) len width (byName (now (name .entry)))) ⌝ }
+{
+    let check = type_book_check::check_root_named(buffer, len, name);
+    match check {
+        GivenRoot::Block(t) => resolve_root(&buffer[..len], width, t, references),
+        GivenRoot::Lacking => Resolution::NotFound(LACKING_ROOT),
+        GivenRoot::Refused(n) => Resolution::Refused(n),
+    }
+}
+
+// `resolve_alias` of a root that is given by its name.
+pub fn resolve_alias_named(buffer: &[u8], len: usize, width: u8, name: &[u8]) -> Resolution
+    ensures { λ r. ⌜ resolutionNumbers r ≡ resolutionNumbers (givenResolution false (now (buffer .entry)) len width (byName (now (name .entry)))) ⌝ }
+{
+    resolve_named(buffer, len, width, name, false)
+}
+
+// `resolve_indirection` of a root that is given by its name.
+pub fn resolve_indirection_named(buffer: &[u8], len: usize, width: u8, name: &[u8]) -> Resolution
+    ensures { λ r. ⌜ resolutionNumbers r ≡ resolutionNumbers (givenResolution true (now (buffer .entry)) len width (byName (now (name .entry)))) ⌝ }
+{
+    resolve_named(buffer, len, width, name, true)
 }

@@ -61,7 +61,8 @@ fn is_printable(byte: u8) -> bool
     byte <= 126
 }
 
-fn all_printable(part: &[u8]) -> bool
+// Whether every byte may stand in a name.
+pub fn all_printable(part: &[u8]) -> bool
     ensures { λ r. ⌜ r ≡ every isPrintable (now (part .entry)) ⌝ }
 {
     let mut i = 0;

@@ -21,7 +21,7 @@ use Rattle.type_block_form.proofs.Bytes.{and-left, and-right}
 use Rattle.type_doubles.proofs.All.{all-of, each-of}
 use Rattle.type_doubles.proofs.Doubles.{other-holds}
 use Rattle.type_book_check.proofs.Checks.{passes-again, size-in}
-use Rattle.type_book_check.proofs.Valid.{chosen, went, valid-passes, valid-size, valid-some, valid-names, valid-first}
+use Rattle.type_book_check.proofs.Valid.{chosen, went, valid-passes, valid-size, valid-names, valid-first}
 
 -- of blocks that are the same in two books: the first, the others, and what follows them
 first : (a b : List ℕ) (i j k : ℕ) → ((d : ℕ) → d < suc k → blockOf b (j + d) ≡ blockOf a (i + d)) → blockOf b j ≡ blockOf a i
@@ -169,7 +169,6 @@ module _ (book more : List ℕ) (v : ValidBook book) (w : ValidBook more) where
         (size-in (length n) (length n) (omega arith)
         (record {
           fits = omega arith;
-          some = omega (arith, append-length, valid-some book v);
           whole = omega (arith, append-length);
           few = omega (arith, append-blocks);
         }))

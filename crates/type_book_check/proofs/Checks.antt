@@ -26,37 +26,26 @@ module _ (room len : ℕ) where
   size-past h = rw (lt-leb len room h)
 
   module _ (l : len ≤ room) where
-    pub size-empty : len ≡ 0 → false ≡ sizeRight room len
+    pub size-part : (len % 512 ≡ 0 → ⊥) → false ≡ sizeRight room len
     unfolding sizeRight
-    size-empty h = let z : len ≤ 0 = omega arith in rw (le-leb len room l, le-ltb 0 len z)
+    size-part h = rw (le-leb len room l, ne-eqb (len % 512) 0 h)
 
-    module _ (n : len ≡ 0 → ⊥) where
-      some : 0 < len
-      some = omega (arith, n)
-
-      pub size-part : (len % 512 ≡ 0 → ⊥) → false ≡ sizeRight room len
-      unfolding sizeRight
-      size-part h = rw (le-leb len room l, lt-ltb 0 len some, ne-eqb (len % 512) 0 h)
-
-      pub size-blocks : len % 512 ≡ 0 → leb (len / 512) 65536 ≡ sizeRight room len
-      unfolding sizeRight
-      size-blocks h = rw (le-leb len room l, lt-ltb 0 len some, eq-eqb (len % 512) 0 h)
+    pub size-blocks : len % 512 ≡ 0 → leb (len / 512) 65536 ≡ sizeRight room len
+    unfolding sizeRight
+    size-blocks h = rw (le-leb len room l, eq-eqb (len % 512) 0 h)
 
 -- what 1 leaves
 pub record Sized (room len : ℕ) : Type 0 where
   pub fits : len ≤ room
-  pub some : 0 < len
   pub whole : len % 512 ≡ 0
   pub few : len / 512 ≤ 65536
 
 pub sized : (room len : ℕ) → sizeRight room len ≡ true → Sized room len
 unfolding sizeRight
 sized room len h =
-    let a : ltb 0 len && (eqb (len % 512) 0 && leb (len / 512) 65536) ≡ true = and-right (leb len room) _ h in
-    let b : eqb (len % 512) 0 && leb (len / 512) 65536 ≡ true = and-right (ltb 0 len) _ a in
+    let b : eqb (len % 512) 0 && leb (len / 512) 65536 ≡ true = and-right (leb len room) _ h in
     record {
       fits = leb-true _ _ (and-left (leb len room) _ h);
-      some = ltb-true _ _ (and-left (ltb 0 len) _ a);
       whole = eqb-true _ _ (and-left (eqb (len % 512) 0) _ b);
       few = leb-true _ _ (and-right (eqb (len % 512) 0) _ b);
     }
@@ -140,12 +129,12 @@ passed-size buffer len e = passed _ _ _ (λ q. let z : _≡_ {A = ℕ} 0 1 = cc 
 
 pub size-in : (room len : ℕ) → len ≤ room → Sized len len → sizeRight room len ≡ true
 size-in room len l z =
-    sym (size-blocks room len l (λ e. omega (arith, z .some)) (z .whole)) ∙ le-leb (len / 512) 65536 (z .few)
+    sym (size-blocks room len l (z .whole)) ∙ le-leb (len / 512) 65536 (z .few)
 
 pub size-again : (room len : ℕ) → sizeRight room len ≡ true → sizeRight len len ≡ true
 size-again room len h =
     let z : Sized room len = sized room len h in
-    size-in len len (omega arith) (record { fits = omega arith; some = z .some; whole = z .whole; few = z .few })
+    size-in len len (omega arith) (record { fits = omega arith; whole = z .whole; few = z .few })
 
 pub passes-again : (buffer : List ℕ) (len : ℕ) → sizeRight (length buffer) len ≡ true → sums (take len buffer) ≡ true → allInPlace (take len buffer) ≡ true → distinct (take len buffer) ≡ true → checkBook buffer len ≡ Valid
 unfolding checkBook checkBlocks

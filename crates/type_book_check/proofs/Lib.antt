@@ -5,3 +5,4 @@ mod Checks
 pub mod Valid
 pub mod Append
 pub mod Roots
+pub mod Givens

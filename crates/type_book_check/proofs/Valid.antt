@@ -5,19 +5,19 @@ use mathlib.Core.Bool.{Bool, true, false, cond, _&&_}
 use mathlib.Core.List.{List, [], _∷_}
 use Prim.Native.Nat.{ℕ, zero, suc, _+_, _*_, _-_, _≤_, _<_}
 use native.Mathlib.Omega.{arith}
-use borrow.Author.Tests.{eqb-true, leb-true, ltb-true, ltb-false, not-true}
+use borrow.Author.Tests.{eqb-true, le-leb, leb-true, ltb-true, ltb-false, not-true}
 use lib.ListN.{length, getD, take, drop, length-take, List·getD-eq-default}
 use lib.Seq.{length-take-le, take-length, take-take, getD-take, getD-drop}
 use lib.Dec.{eqb, leb, ltb}
 use Rattle.enc_number.specs.Answer.{refusalOf}
 use Rattle.type_book.specs.Book.{blocks, blockOf, byteAt, kindOf, isType, dimensionsOf, fieldsOf, entriesOf, nameOf, isNamed}
-use Rattle.type_provider.specs.Find.{find, TypeBlock, UniqueNames}
-use Rattle.type_provider.specs.declared.Found.the-variants.{At}
+use Rattle.type_provider.specs.Find.{findFrom, find, TypeBlock, UniqueNames}
+use Rattle.type_provider.specs.declared.Found.the-variants.{At, Nothing}
 use Rattle.type_book.proofs.Blocks.{byte-of-block, part-of-block}
 use Rattle.type_provider.proofs.Finds.{named-own, find-is, searched-all}
 use Rattle.type_block_form.specs.Form.{every, isZero, isPrintable, part, unusedZero, nameForm, namesForm, flagsForm, typeForm, fieldForm, entryForm}
 use Rattle.type_doubles.specs.Doubles.{allFrom, isOther, isFirst}
-use Rattle.type_book_check.specs.Check.{sizeRight, placeOf, placesOnward, placedFrom, checkBook, ValidBook, rootOf, checkRoot, bookNumbers}
+use Rattle.type_book_check.specs.Check.{sizeRight, placeOf, placesOnward, placedFrom, checkBlocks, checkBook, ValidBook, rootOf, checkRoot, bookNumbers}
 use Rattle.type_book_check.specs.declared.Place.the-variants.{Next, Wrong}
 use Rattle.type_book_check.specs.declared.BookCheck.the-variants.{Valid}
 use Rattle.type_book_check.specs.declared.RootCheck.the-variants.{Root, Refused}
@@ -256,10 +256,6 @@ module _ (book : List ℕ) (v : ValidBook book) where
       let z : Sized (length book) (length book) = valid-passes .size in
       record { few = z .few; whole = omega (arith, z .whole) }
 
-  -- a valid book has a block: what presumes a book that is not empty cites this law
-  pub valid-some : 0 < blocks book
-  valid-some = let z : Sized (length book) (length book) = valid-passes .size in omega (arith, z .some, z .whole)
-
   pub valid-below : (n k : ℕ) → kindOf book n ≡ suc k → n < blocks book
   valid-below n k h = past book n k (valid-size .whole) h
 
@@ -333,6 +329,16 @@ module _ (book : List ℕ) (v : ValidBook book) where
 
   pub valid-own : (n : ℕ) → isType book n ≡ true → find book (nameOf book n) ≡ At n
   valid-own n h = valid-unique n (valid-block n h)
+
+-- ---- the book with nothing in it
+-- it is valid in any buffer, one of no bytes too, and it has no type
+pub empty-valid : (buffer : List ℕ) → checkBook buffer 0 ≡ Valid
+unfolding checkBook sizeRight checkBlocks allFrom placedFrom
+empty-valid buffer = let l : 0 ≤ length buffer = omega arith in rw (le-leb 0 (length buffer) l)
+
+pub empty-lacks : (name : List ℕ) → find [] name ≡ Nothing
+unfolding find findFrom
+empty-lacks name = refl
 
 -- ---- what the two calls say
 -- the book that a call found valid, as a list of its own

@@ -16,13 +16,9 @@ use Rattle.type_book_check.specs.declared.BookCheck.the-variants.{Valid,
 use Rattle.type_book_check.specs.declared.RootCheck.{RootCheck}
 use Rattle.type_book_check.specs.declared.RootCheck.the-variants.{Root, Refused}
 
--- 1: a book is not empty; a book of no bytes is turned away by this alone
-abbrev pub notEmpty : ℕ → Bool
-notEmpty len = ltb 0 len
-
--- 1: a book lies in its buffer, is not empty, and is at most 65,536 whole blocks
+-- 1: a book lies in its buffer and is at most 65,536 whole blocks; a book of no bytes is one that defines no name
 unfoldable pub sizeRight : ℕ → ℕ → Bool
-sizeRight room len = leb len room && (notEmpty len && (eqb (len % 512) 0 && leb (len / 512) 65536))
+sizeRight room len = leb len room && (eqb (len % 512) 0 && leb (len / 512) 65536)
 
 -- block n holds its sum
 unfoldable pub sumAt : List ℕ → ℕ → Bool

@@ -1,4 +1,4 @@
-// The check of a type book: refusals 1 to 5 of document 01, for all bytes. All of a refusal's tests come before all of the
+// The check of a type book: refusals 1 to 5 of document 01 and 23, for all bytes. All of a refusal's tests come before all of the
 // next one's, over the whole book.
 ghost use mathlib.Core.Path.{_≡_};
 ghost use Prim.Native.Nat.{_≤_, _<_};
@@ -6,12 +6,16 @@ ghost use lib.ListN.{length};
 ghost use Rattle.enc_number.specs.Answer.{refusalOf};
 ghost use Rattle.type_book.specs.Book.{blocks as blocksOf, blockOf};
 ghost use Rattle.type_book_check.specs.Check.{sizeRight, sums, placeOf, allInPlace as placedIn, checkBook, bookNumbers, rootNumbers, rootOf, checkRoot};
+ghost use Rattle.type_book_check.specs.Given.{name as byName, isRootName, givenRoot, givenNumbers, checkGiven};
+use type_block_form::all_printable;
 use type_block_form::entry_form;
 use type_block_form::field_form;
 use type_block_form::sum_right;
 use type_block_form::type_form;
 use type_book::block::BLOCK;
 use type_doubles::names_distinct;
+use type_provider::Found;
+use type_provider::find;
 
 // A valid book, or what it is refused for: 1 to 4 of document 01, in this order.
 pub enum BookCheck {
@@ -27,6 +31,16 @@ pub enum RootCheck {
     Root(u32),
     Refused(u8),
 }
+
+// What a root that is given by its name stands for: its block, a name that the book lacks, or the number of the refusal.
+pub enum GivenRoot {
+    Block(u32),
+    Lacking,
+    Refused(u8),
+}
+
+// The number that stands for a root's name which the book lacks. No book has so many blocks.
+pub const LACKING_ROOT: u32 = 4294967295;
 
 // What is due after a block: fields, then entries.
 enum Place {
@@ -124,9 +138,6 @@ fn size_right(room: usize, len: usize) -> bool
     if len > room {
         return false;
     }
-    if len == 0 {
-        return false;
-    }
     if len % BLOCK != 0 {
         return false;
     }
@@ -189,4 +200,38 @@ pub fn check_root(buffer: &[u8], len: usize, root: u64) -> RootCheck
         return RootCheck::Refused(refusal);
     }
     root_of(&buffer[..len], root)
+}
+
+// A root's name has 0 to 200 bytes, each of which may stand in a name.
+fn is_root_name(name: &[u8]) -> bool
+    ensures { λ r. ⌜ r ≡ isRootName (now (name .entry)) ⌝ }
+{
+    if name.len() > 200 {
+        return false;
+    }
+    all_printable(name)
+}
+
+fn named_root(book: &[u8], name: &[u8]) -> GivenRoot
+    ensures { λ r. ⌜ r ≡ givenRoot (now (book .entry)) (byName (now (name .entry))) ⌝ }
+{
+    if !is_root_name(name) {
+        return GivenRoot::Refused(23);
+    }
+    let found = find(book, name);
+    match found {
+        Found::At(n) => GivenRoot::Block(n),
+        Found::Nothing => GivenRoot::Lacking,
+    }
+}
+
+// Refusals 1 to 4 of a book and 23 of a root's name, which may be any bytes; else its block, or that the book lacks it.
+pub fn check_root_named(buffer: &[u8], len: usize, name: &[u8]) -> GivenRoot
+    ensures { λ r. ⌜ givenNumbers r ≡ givenNumbers (checkGiven (now (buffer .entry)) len (byName (now (name .entry)))) ⌝ }
+{
+    let refusal = refusal_of(check_book(buffer, len));
+    if refusal != 0 {
+        return GivenRoot::Refused(refusal);
+    }
+    named_root(&buffer[..len], name)
 }

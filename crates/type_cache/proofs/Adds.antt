@@ -100,7 +100,7 @@ module _ (c : List ℕ) (v : ValidBook c) (n : ℕ) (t : isType c n ≡ true) wh
 
   pub definition-valid : ValidBook (definitionOf c n)
   definition-valid =
-      valid-of d (omega (arith, definition-size)) (omega (arith, definition-size)) (omega (arith, count, whole .room, valid-size c v .few)) sum place name
+      valid-of d (omega (arith, definition-size)) (omega (arith, count, whole .room, valid-size c v .few)) sum place name
 
   pub definition-one : isOneType (definitionOf c n) ≡ true
   definition-one = eq-eqb (blocksOf d 0) (blocks d) (blocks-same d c 0 n (definition-first c n) ∙ sym count)

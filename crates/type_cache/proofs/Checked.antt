@@ -4,7 +4,7 @@ use mathlib.Core.Bool.{Bool, true, false, cond, _&&_}
 use mathlib.Core.List.{List}
 use Prim.Native.Nat.{ℕ, _/_, _%_, _≤_, _<_}
 use native.Mathlib.Omega.{arith}
-use borrow.Author.Tests.{eq-eqb, le-leb, lt-ltb, leb-true}
+use borrow.Author.Tests.{eq-eqb, le-leb, leb-true}
 use lib.ListN.{length}
 use lib.Seq.{take-length}
 use lib.Dec.{leb}
@@ -32,15 +32,14 @@ module _ (buffer : List ℕ) (len : ℕ) where
   book-fits h = inside (leb len (length buffer)) _ _ refl h
 
 -- a book that passes each test is valid
-pub valid-of : (book : List ℕ) → 0 < length book → length book % 512 ≡ 0 → length book / 512 ≤ 65536 → sums book ≡ true → allInPlace book ≡ true → distinct book ≡ true
+pub valid-of : (book : List ℕ) → length book % 512 ≡ 0 → length book / 512 ≤ 65536 → sums book ≡ true → allInPlace book ≡ true → distinct book ≡ true
     → ValidBook book
 unfolding checkBook checkBlocks sizeRight
-valid-of book some whole few s p d =
+valid-of book whole few s p d =
     let fits : length book ≤ length book = omega arith in
     rw (
       take-length book,
       le-leb (length book) (length book) fits,
-      lt-ltb 0 (length book) some,
       eq-eqb (length book % 512) 0 whole,
       le-leb (length book / 512) 65536 few,
       s,

@@ -14,7 +14,7 @@ use Rattle.type_provider.specs.declared.Found.the-variants.{At, Nothing}
 use Rattle.type_book.proofs.Blocks.{same-byte, block-append}
 use Rattle.type_provider.proofs.Finds.{same-named, named-own, named-name, named-kind, find-nothing, find-is, find-lacks, find-append}
 use Rattle.type_book_check.specs.Check.{ValidBook}
-use Rattle.type_book_check.proofs.Valid.{Definition, valid-size, valid-some, valid-type, valid-names, valid-below, valid-passes, type-is}
+use Rattle.type_book_check.proofs.Valid.{Definition, valid-size, valid-type, valid-names, valid-below, valid-passes, type-is}
 use Rattle.type_book_check.proofs.Append.{append-blocks, valid-append}
 use Rattle.type_cache.specs.Append.{isOneType}
 use Rattle.type_cache.specs.Same.{blocksOf, definitionOf, Same}
@@ -76,22 +76,29 @@ pub record OneType (more : List ℕ) : Type 0 where
   pub is : isType more 0 ≡ true
   pub all : (n : ℕ) → isType more n ≡ true → n ≡ 0
 
+-- an addition of one type has a block, which a book need not have
+some-block : (more : List ℕ) → isOneType more ≡ true → 0 < blocks more
+some-block more o = let e : fieldsOf more 0 + entriesOf more 0 + 1 ≡ blocks more = eqb-true _ _ o in omega arith
+
 module _ (more : List ℕ) (v : ValidBook more) where
-  pub type-first : isType more 0 ≡ true
-  type-first =
-      let q : blocks more ≡ suc (blocks more - 1) = omega (arith, valid-some more v) in
+  pub type-first : 0 < blocks more → isType more 0 ≡ true
+  type-first l =
+      let q : blocks more ≡ suc (blocks more - 1) = omega arith in
       eq-eqb _ _ (type-is more 0 (placed-first more 0 (blocks more - 1) (rw q at (valid-passes more v .place))) .kind)
 
   pub one-type : isOneType more ≡ true → OneType more
-  one-type o = record { is = type-first; all = all }
+  one-type o = record { is = first; all = all }
     where
+      first : isType more 0 ≡ true
+      first = type-first (some-block more o)
+
       all : (n : ℕ) → isType more n ≡ true → n ≡ 0
       all zero t = refl
       all (suc n) t =
           let e : fieldsOf more 0 + entriesOf more 0 + 1 ≡ blocks more = eqb-true _ _ o in
           let l : suc n < blocks more = valid-below more v (suc n) 0 (eqb-true _ _ t) in
           let q : 0 + 1 + n ≡ suc n = omega arith in
-          let f : isType more (suc n) ≡ false = rw q at (rest-other more 0 n (valid-type more v 0 type-first) (omega arith)) in
+          let f : isType more (suc n) ≡ false = rw q at (rest-other more 0 n (valid-type more v 0 first) (omega arith)) in
           let z : _≡_ {A = ℕ} 0 1 = cc in
           absurd (omega arith)
 
@@ -107,9 +114,13 @@ module _ (book more : List ℕ) (v : ValidBook book) (w : ValidBook more) (o : O
   lacks : (name : List ℕ) → find book name ≡ Nothing → (m : ℕ) → m < blocks book → isNamed (book ++ more) name m ≡ false
   lacks name e m l = named-old book more v name m l ∙ find-nothing book name e m (omega (arith, valid-size book v .few))
 
+  -- the type after it is in a block
+  some : 0 < blocks more
+  some = valid-below more w 0 0 (eqb-true _ _ (o .is))
+
   pub join-name : nameOf (book ++ more) (blocks book) ≡ nameOf more 0
   join-name =
-      sym (names-same more (book ++ more) 0 (blocks book) (sym (join-at book more v)) (valid-names more w 0 (valid-some more w)))
+      sym (names-same more (book ++ more) 0 (blocks book) (sym (join-at book more v)) (valid-names more w 0 some))
 
   pub join-type : isType (book ++ more) (blocks book) ≡ true
   join-type = rw (same-byte (book ++ more) more (blocks book) 0 (join-at book more v) 0 (omega arith)) (o .is)
@@ -119,7 +130,7 @@ module _ (book more : List ℕ) (v : ValidBook book) (w : ValidBook more) (o : O
   find-new =
       find-is (book ++ more) (nameOf more 0) (blocks book)
       (record {
-        below = omega (arith, size, valid-some more w);
+        below = omega (arith, size, some);
         named = rw join-name at (named-own (book ++ more) (blocks book) join-type);
       })
       (lacks (nameOf more 0) new)

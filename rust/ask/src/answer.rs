@@ -29,7 +29,7 @@ pub fn answer(request: &str, width: u8, bytes: &[u8], root: u32, more: &More) ->
         Ok(book) => book,
         Err(refusal) => return Some(format!("err {}", refusal.number())),
     };
-    let t = match book.root(root.into()) {
+    let t = match book.root(u64::from(root)) {
         Ok(t) => t,
         Err(refusal) => return Some(format!("err {}", refusal.number())),
     };
@@ -227,7 +227,7 @@ fn planned(book: &TypeBook, t: TypeRef, width: u8, controller: &[u8]) -> String 
         Ok(controller) => controller,
         Err(refusal) => return format!("err {}", refusal.number()),
     };
-    let result = book.plan(&controller, width, t.block().into());
+    let result = book.plan(&controller, width, u64::from(t.block()));
     if !plans_alike(book, t, width, &controller, &result) {
         return "differ".into();
     }
@@ -262,7 +262,10 @@ fn plans_alike(
     );
     match result {
         Ok(plan) => {
-            let lacks_none = plan.book.root(t.block().into()).and_then(|t| t.missing_types(width));
+            let lacks_none = plan
+                .book
+                .root(u64::from(t.block()))
+                .and_then(|t| t.missing_types(width));
             let bytes = plan.book.bytes();
             number == 0
                 && values == [u64::from(plan.read_modify_write), bytes.len() as u64]

@@ -1,8 +1,10 @@
 //! The calls in the library's shape: any bytes, lent buffers, an answer by number and values.
 
+use crate::check::{LACKING, Root};
 use crate::index::{INDEX, built};
 use crate::read::{Reader, Sink};
 use crate::resolve::{fields_within, resolve};
+use crate::walk::Missing;
 use crate::write::{Writer, well_formed};
 use crate::{Book, Stop, block, category, check, plan, text, walk};
 
@@ -79,10 +81,10 @@ pub fn append(buffer: &mut [u8], len: usize, piece: &[u8], values: &mut [u64]) -
 }
 
 /// As the library's `resolve_alias` and, with `references`, its `resolve_indirection`.
-pub fn resolved(buffer: &[u8], len: usize, width: u8, root: u64, references: bool, values: &mut [u64]) -> u8 {
+pub fn resolved(buffer: &[u8], len: usize, width: u8, root: impl Root, references: bool, values: &mut [u64]) -> u8 {
     let root = match check::check_root(buffer, len, root) {
         Ok(root) => root,
-        Err(number) => return number,
+        Err(stop) => return stopped(stop, values),
     };
     match resolve(&Book::new(&buffer[..len]), width, root, references) {
         Ok(block) => lay(values, &[u64::from(block)]),
@@ -91,10 +93,17 @@ pub fn resolved(buffer: &[u8], len: usize, width: u8, root: u64, references: boo
 }
 
 /// As the library's `resolve_fields`.
-pub fn resolve_fields(buffer: &[u8], len: usize, width: u8, root: u64, records: &mut [u32], values: &mut [u64]) -> u8 {
+pub fn resolve_fields(
+    buffer: &[u8],
+    len: usize,
+    width: u8,
+    root: impl Root,
+    records: &mut [u32],
+    values: &mut [u64],
+) -> u8 {
     let root = match check::check_root(buffer, len, root) {
         Ok(root) => root,
-        Err(number) => return number,
+        Err(stop) => return stopped(stop, values),
     };
     match fields_within(&Book::new(&buffer[..len]), width, root, records.len() / 4) {
         Ok(fields) => {
@@ -125,19 +134,19 @@ pub fn requires_read_modify_write(
     len: usize,
     index: &[u32],
     width: u8,
-    root: u64,
+    root: impl Root,
     scratch: &mut [u32],
     values: &mut [u64],
 ) -> u8 {
-    let root = match check::check_root(buffer, len, root) {
-        Ok(root) => root,
-        Err(number) => return number,
-    };
+    let root = check::check_root(buffer, len, root);
+    if let Err(Stop::Number(number)) = root {
+        return number;
+    }
     if index.len() < INDEX || scratch.len() < SCRATCH {
         return 6;
     }
     scratch.fill(0);
-    match walk::requires_read_modify_write(&Book::new(&buffer[..len]), width, root) {
+    match root.and_then(|root| walk::requires_read_modify_write(&Book::new(&buffer[..len]), width, root)) {
         Ok(yes) => lay(values, &[u64::from(yes)]),
         Err(stop) => stopped(stop, values),
     }
@@ -150,20 +159,28 @@ pub fn missing_types(
     len: usize,
     index: &[u32],
     width: u8,
-    root: u64,
+    root: impl Root,
     scratch: &mut [u32],
     list: &mut [u32],
     values: &mut [u64],
 ) -> u8 {
-    let root = match check::check_root(buffer, len, root) {
-        Ok(root) => root,
-        Err(number) => return number,
-    };
+    let root = check::check_root(buffer, len, root);
+    if let Err(Stop::Number(number)) = root {
+        return number;
+    }
     if index.len() < INDEX || scratch.len() < SCRATCH || list.len() < LIST {
         return 6;
     }
     scratch.fill(0);
-    let missing = walk::missing_types(&Book::new(&buffer[..len]), width, root);
+    let missing = match root {
+        Ok(root) => walk::missing_types(&Book::new(&buffer[..len]), width, root),
+        // The root's own name is the one that is missing.
+        Err(_) => Missing {
+            blocks: vec![LACKING],
+            whole: true,
+            count: 1,
+        },
+    };
     list[..missing.blocks.len()].copy_from_slice(&missing.blocks);
     lay(
         values,
@@ -183,23 +200,21 @@ pub fn plan_save(
     controller: &[u8],
     theirs: usize,
     width: u8,
-    root: u64,
+    root: impl Root,
     scratch: &mut [u32],
     index: &mut [u32],
     values: &mut [u64],
 ) -> u8 {
-    let checked = check::check_root(buffer, len, root).and_then(|root| match check::check_book(controller, theirs) {
-        0 if scratch.len() < SCRATCH => Err(6),
-        0 => Ok(root),
-        number => Err(number),
-    });
-    let root = match checked {
-        Ok(root) => root,
-        Err(number) => {
-            lay(values, &[len as u64]);
-            return number;
-        }
+    let found = check::check_root(buffer, len, root);
+    let refused = match (found, check::check_book(controller, theirs)) {
+        (Err(Stop::Number(number)), _) => number,
+        (_, 0) if scratch.len() < SCRATCH => 6,
+        (_, number) => number,
     };
+    if refused != 0 {
+        lay(values, &[len as u64]);
+        return refused;
+    }
     let (answer, len) = plan::plan(buffer, len, &controller[..theirs], width, root);
     scratch.fill(0);
     index.fill(0);
@@ -222,7 +237,7 @@ pub fn read(
     buffer: &[u8],
     len: usize,
     width: u8,
-    root: u64,
+    root: impl Root,
     memory: &[u8],
     tape: &mut [u8],
     text: &mut [u8],
@@ -230,7 +245,7 @@ pub fn read(
 ) -> u8 {
     let answer = match check::check_root(buffer, len, root) {
         Ok(root) => read_in(&Book::new(&buffer[..len]), width, root, memory, tape, text),
-        Err(number) => Err(Stop::Number(number)),
+        Err(stop) => Err(stop),
     };
     match answer {
         Ok((records, texts)) => lay(values, &[records as u64, texts as u64]),
@@ -266,7 +281,7 @@ pub fn write(
     buffer: &[u8],
     len: usize,
     width: u8,
-    root: u64,
+    root: impl Root,
     image: &[u8],
     tape: &[u8],
     text: &[u8],
@@ -275,9 +290,13 @@ pub fn write(
 ) -> u8 {
     let answer = match check::check_root(buffer, len, root) {
         Ok(root) => write_in(&Book::new(&buffer[..len]), width, root, image, tape, text, output),
-        Err(number) => {
+        Err(Stop::Missing(by)) => {
             restore(image, output);
-            Err(Stop::Number(number))
+            ready(&buffer[..len], image, tape, text, output).and(Err(Stop::Missing(by)))
+        }
+        Err(stop) => {
+            restore(image, output);
+            Err(stop)
         }
     };
     answer.map_or_else(|stop| stopped(stop, values), |()| 0)
@@ -287,6 +306,17 @@ pub fn write(
 fn restore(image: &[u8], output: &mut [u8]) {
     if output.len() == image.len() {
         output.copy_from_slice(image);
+    }
+}
+
+/// What is asked before the walk of a write: 10 for unequal lengths, then 16.
+fn ready(book: &[u8], image: &[u8], tape: &[u8], text: &[u8], output: &[u8]) -> Result<(), Stop> {
+    if output.len() != image.len() {
+        return Err(Stop::Number(10));
+    }
+    match well_formed(book, tape, text) {
+        true => Ok(()),
+        false => Err(Stop::Number(16)),
     }
 }
 
@@ -301,12 +331,7 @@ pub fn write_in(
     output: &mut [u8],
 ) -> Result<(), Stop> {
     restore(image, output);
-    if output.len() != image.len() {
-        return Err(Stop::Number(10));
-    }
-    if !well_formed(book.bytes, tape, text) {
-        return Err(Stop::Number(16));
-    }
+    ready(book.bytes, image, tape, text, output)?;
     let written = Writer::new(book, width, tape, text).root(root, output);
     if written.is_err() {
         restore(image, output);

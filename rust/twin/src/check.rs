@@ -1,5 +1,6 @@
-//! Refusals 1 to 5, and appending.
+//! Refusals 1 to 5 and 23, and appending.
 
+use crate::Stop;
 use crate::block::{self, BLOCK};
 use std::collections::HashSet;
 
@@ -21,7 +22,7 @@ pub fn check_book(buffer: &[u8], len: usize) -> u8 {
 }
 
 fn right_size(buffer: usize, len: usize) -> bool {
-    len != 0 && len.is_multiple_of(BLOCK) && len / BLOCK <= MOST_BLOCKS && len <= buffer
+    len.is_multiple_of(BLOCK) && len / BLOCK <= MOST_BLOCKS && len <= buffer
 }
 
 /// Whether every block's last four bytes are the sum of the others.
@@ -87,12 +88,41 @@ fn doubled(book: &[u8], types: &[u32]) -> bool {
     types.iter().any(|&n| !seen.insert(block::name(book, n)))
 }
 
+/// A root as a call is given it: a block's number, or a name.
+pub trait Root: Copy {
+    /// Its block in a valid book; 5 or 23, or 7 with the number that stands for a name which the book lacks.
+    fn in_book(self, book: &[u8]) -> Result<u32, Stop>;
+}
+
+/// The number that stands for a root's name which the book lacks.
+pub const LACKING: u32 = 4_294_967_295;
+
+impl Root for u64 {
+    fn in_book(self, book: &[u8]) -> Result<u32, Stop> {
+        match self < (book.len() / BLOCK) as u64 && book[self as usize * BLOCK] == 1 {
+            true => Ok(self as u32),
+            false => Err(Stop::Number(5)),
+        }
+    }
+}
+
+impl Root for &[u8] {
+    fn in_book(self, book: &[u8]) -> Result<u32, Stop> {
+        if self.len() > 200 || self.iter().any(|b| !(0x20..=0x7E).contains(b)) {
+            return Err(Stop::Number(23));
+        }
+        let mut types = (0..block::count(book)).filter(|&n| block::kind(book, n) == 1);
+        types
+            .find(|&n| block::name(book, n) == self)
+            .ok_or(Stop::Missing(LACKING))
+    }
+}
+
 /// The root block of a valid book, or the refusal.
-pub fn check_root(buffer: &[u8], len: usize, root: u64) -> Result<u32, u8> {
+pub fn check_root(buffer: &[u8], len: usize, root: impl Root) -> Result<u32, Stop> {
     match check_book(buffer, len) {
-        0 if root < (len / BLOCK) as u64 && buffer[root as usize * BLOCK] == 1 => Ok(root as u32),
-        0 => Err(5),
-        number => Err(number),
+        0 => root.in_book(&buffer[..len]),
+        number => Err(Stop::Number(number)),
     }
 }
 

@@ -2,6 +2,7 @@
 
 use crate::block::{self, BLOCK};
 use crate::category::{Category, determine};
+use crate::check::Root;
 use crate::walk::{missing_types, requires_read_modify_write};
 use crate::{Book, Names, Stop};
 
@@ -19,8 +20,15 @@ struct Plan<'k, 'b> {
     width: u8,
 }
 
-/// The plan for a type block of our valid book, by the controller's valid book: the answer, and the length of our book then.
-pub fn plan(buffer: &mut [u8], len: usize, controller: &[u8], width: u8, root: u32) -> (Result<bool, Stop>, usize) {
+/// The plan for a root of our valid book, by the controller's valid book: the answer, and the length of our book then. A root's name that our
+/// book lacks is added before the first round.
+pub fn plan(
+    buffer: &mut [u8],
+    len: usize,
+    controller: &[u8],
+    width: u8,
+    root: impl Root,
+) -> (Result<bool, Stop>, usize) {
     // The map borrows its names from what doesn't change: the old book and the controller's.
     let old = buffer[..len].to_vec();
     let mut plan = Plan {
@@ -29,6 +37,13 @@ pub fn plan(buffer: &mut [u8], len: usize, controller: &[u8], width: u8, root: u
         buffer,
         len,
         width,
+    };
+    let root = match root.in_book(&old) {
+        Ok(root) => root,
+        Err(lacking) => match root.in_book(controller).map_err(|_| lacking).and_then(|t| plan.add(t)) {
+            Ok(()) => (len / BLOCK) as u32,
+            Err(stop) => return (Err(stop), plan.len),
+        },
     };
     let mut rounds = 0;
     loop {
@@ -65,9 +80,13 @@ impl Plan<'_, '_> {
 
     /// Adds the type that block `b` names, unless it is known.
     fn fetch(&mut self, b: u32) -> Result<(), Stop> {
-        let theirs = self.controller.bytes;
         let found = self.controller.find(block::type_name(self.buffer, b));
-        let t = found.ok_or(Stop::Missing(b))?;
+        self.add(found.ok_or(Stop::Missing(b))?)
+    }
+
+    /// Adds a type of the controller's, unless its name is known.
+    fn add(&mut self, t: u32) -> Result<(), Stop> {
+        let theirs = self.controller.bytes;
         let name = block::name(theirs, t);
         if self.names.contains_key(name) {
             return Ok(());

@@ -1,5 +1,5 @@
 //! How a recipe may be saved, where our type book doesn't know all types yet: the asks and adds one by one, the one call that makes
-//! them all, and what a walk that takes an unknown type for empty would have said. Nothing is sent and no file is written.
+//! them all, also from a book with nothing in it, and what a walk that takes an unknown type for empty would have said. Nothing is sent and no file is written.
 //!
 //!     cargo run --example plan_save [FOLDER NAME..]
 //!
@@ -41,23 +41,28 @@ pub fn told(folder: &Path, unknown: &[String]) -> Result<String, Box<dyn Error>>
     let controller = TypeBook::new(file("book.bin")?)?;
     let memory = file("mem.bin")?;
     let ours = without(&controller, unknown)?;
-    let mut out = format!("{}: our book has {} types,", ours.root(0)?.name(), ours.types().count());
+    let root = controller.root(0)?.name();
+    let mut out = format!("{root}: our book has {} types,", ours.types().count());
     writeln!(out, " the controller's {}.\n", controller.types().count())?;
 
-    let one_by_one = asks_and_adds(&mut out, &ours, &controller)?;
-    let plan = ours.plan(&controller, WIDTH, 0)?;
+    let one_by_one = asks_and_adds(&mut out, &ours, &controller, root)?;
+    let plan = ours.plan(&controller, WIDTH, root)?;
     writeln!(out, "answer: {}", answer(plan.read_modify_write))?;
     assert_eq!(one_by_one, plan.read_modify_write);
+    writeln!(out, "in one call: plan adds {}; the same answer", plan.added.join(", "))?;
+    let from_nothing = asks_and_adds(&mut String::new(), &TypeBook::empty(), &controller, root)?;
+    let all = TypeBook::empty().plan(&controller, WIDTH, root)?;
+    assert_eq!((from_nothing, all.read_modify_write), (one_by_one, one_by_one));
     writeln!(
         out,
-        "in one call: plan adds {}; the same answer\n",
-        plan.added.join(", ")
+        "from nothing: plan adds {root} and {} other types; the same answer\n",
+        all.added.len() - 1
     )?;
 
-    let guess = taken_for_empty(&ours)?;
+    let guess = taken_for_empty(&ours, root)?;
     writeln!(out, "A walk that takes an unknown type for empty: {}", answer(guess))?;
     if plan.read_modify_write && !guess {
-        let lost = held(&plan.book, &plan.book.root(0)?.read(WIDTH, &memory)?);
+        let lost = held(&plan.book, &plan.book.root(root)?.read(WIDTH, &memory)?);
         writeln!(
             out,
             "That would have cleared what the function block holds: {}",
@@ -74,27 +79,19 @@ fn answer(yes: bool) -> &'static str {
     }
 }
 
-/// A type's block with those of its fields and entries.
-fn definition<'b>(book: &'b TypeBook, t: TypeRef) -> &'b [u8] {
-    let bytes = book.bytes();
-    let number = |at: usize| u32::from_le_bytes([bytes[at], bytes[at + 1], bytes[at + 2], bytes[at + 3]]);
-    let at = 512 * t.block() as usize;
-    &bytes[at..at + 512 * (1 + number(at + 12) + number(at + 16)) as usize]
-}
-
 /// The book without the types of some names.
 fn without(book: &TypeBook, names: &[String]) -> Result<TypeBook<'static>, Box<dyn Error>> {
     let held = book.types().filter(|t| !names.iter().any(|n| n == t.name()));
     Ok(TypeBook::new(
-        held.flat_map(|t| definition(book, t)).copied().collect::<Vec<u8>>(),
+        held.flat_map(TypeRef::definition).copied().collect::<Vec<u8>>(),
     )?)
 }
 
 /// The loop written out: asks what is unknown, adds it, asks again; then the answer.
-fn asks_and_adds(out: &mut String, ours: &TypeBook, controller: &TypeBook) -> Result<bool, Box<dyn Error>> {
+fn asks_and_adds(out: &mut String, ours: &TypeBook, controller: &TypeBook, root: &str) -> Result<bool, Box<dyn Error>> {
     let mut book = ours.clone();
     for ask in 1.. {
-        let names = unknown(&book)?;
+        let names = unknown(&book, root)?;
         if names.is_empty() {
             writeln!(out, "ask {ask}: nothing is unknown")?;
             break;
@@ -105,26 +102,26 @@ fn asks_and_adds(out: &mut String, ours: &TypeBook, controller: &TypeBook) -> Re
             let t = controller
                 .find(name)
                 .ok_or(format!("the controller has no type {name}"))?;
-            book = book.append(definition(controller, t))?;
+            book = book.append(t.definition())?;
             writeln!(out, "  add {name}")?;
         }
     }
-    Ok(book.root(0)?.requires_read_modify_write(WIDTH)?)
+    Ok(book.root(root)?.requires_read_modify_write(WIDTH)?)
 }
 
-/// The names that an ask lists; one that isn't whole is no answer.
-fn unknown(book: &TypeBook) -> Result<BTreeSet<String>, Box<dyn Error>> {
-    let missing = book.root(0)?.missing_types(WIDTH)?;
+/// The names that an ask lists, the root's own where the book lacks it; one that isn't whole is no answer.
+fn unknown(book: &TypeBook, root: &str) -> Result<BTreeSet<String>, Box<dyn Error>> {
+    let missing = book.missing_types(root, WIDTH)?;
     match missing.whole {
-        true => Ok(missing.blocks.iter().map(|&b| book.type_name(b).into()).collect()),
+        true => Ok(missing.names(book, root).into_iter().map(String::from).collect()),
         false => Err("not all types could be walked: don't save".into()),
     }
 }
 
 /// What the walk of the ticket did: each unknown type counts as one without parts.
-fn taken_for_empty(ours: &TypeBook) -> Result<bool, Box<dyn Error>> {
+fn taken_for_empty(ours: &TypeBook, root: &str) -> Result<bool, Box<dyn Error>> {
     let mut book = ours.clone();
-    for name in unknown(ours)? {
+    for name in unknown(ours, root)? {
         let mut block = [0; 512];
         block[0] = 1;
         block[4] = 65;
@@ -134,7 +131,7 @@ fn taken_for_empty(ours: &TypeBook) -> Result<bool, Box<dyn Error>> {
         block[508..].copy_from_slice(&sum.to_le_bytes());
         book = book.append(&block)?;
     }
-    Ok(book.root(0)?.requires_read_modify_write(WIDTH)?)
+    Ok(book.root(root)?.requires_read_modify_write(WIDTH)?)
 }
 
 /// The values that lie in a function block, with their names.

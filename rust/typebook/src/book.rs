@@ -2,7 +2,8 @@
 
 use crate::category::Category;
 use crate::ffi::{Checked, TypeBlock, total};
-use crate::refusal::Refusal;
+use crate::refusal::{LACKING_ROOT, Refusal};
+use crate::root::{Given, Root};
 use crate::tape::Tape;
 use std::borrow::Cow;
 use std::collections::HashMap;
@@ -66,6 +67,19 @@ impl<'a> TypeBook<'a> {
         }
     }
 
+    /// The book with nothing in it, to begin with where no type is known yet.
+    ///
+    /// ```
+    /// use typebook::{Refusal, TypeBook};
+    /// # let piece = twin::make::Type::new("BYTE").id(17).size(1).bytes();
+    /// let book = TypeBook::empty().append(&piece)?;
+    /// assert_eq!(book.root("BYTE")?.block(), 0);
+    /// # Ok::<(), Refusal>(())
+    /// ```
+    pub fn empty() -> TypeBook<'static> {
+        TypeBook::new(&[][..]).expect("a book of no bytes is valid")
+    }
+
     /// The book's bytes.
     pub fn bytes(&self) -> &[u8] {
         self.checked.bytes()
@@ -111,16 +125,69 @@ impl<'a> TypeBook<'a> {
         TypeBook::new(buffer)
     }
 
-    /// The type at a block number; 5 if there is none.
-    pub fn root(&self, block: u64) -> Result<TypeRef<'_>, Refusal> {
-        let found = u32::try_from(block).ok().and_then(|n| self.checked.type_block(n));
-        found.map(|block| TypeRef { block }).ok_or(Refusal::Root)
+    /// The type at a block number, 5 if there is none; or the type of a name, 7 with [`LACKING_ROOT`](crate::LACKING_ROOT) if the book lacks
+    /// it, 23 if no type can have it.
+    pub fn root(&self, root: impl Root) -> Result<TypeRef<'_>, Refusal> {
+        match root.given() {
+            Given::Number(block) => {
+                let found = u32::try_from(block).ok().and_then(|n| self.checked.type_block(n));
+                found.map(|block| TypeRef { block }).ok_or(Refusal::Root)
+            }
+            Given::Name(name) => self.find(name).ok_or_else(|| self.not_found(name)),
+        }
+    }
+
+    /// Why there is no type of a name: 7 or 23.
+    fn not_found(&self, name: &str) -> Refusal {
+        let (bytes, mut values) = (self.bytes(), [0; 1]);
+        let number = total::resolve_alias_named(bytes, bytes.len(), 8, name.as_bytes(), &mut values);
+        Refusal::from_number(number, values[0])
     }
 
     /// The type of a name.
     pub fn find(&self, name: &str) -> Option<TypeRef<'_>> {
         let n = total::find_by(self.bytes(), self.checked.index(), name.as_bytes())?;
         self.checked.type_block(n).map(|block| TypeRef { block })
+    }
+
+    /// The types that a root is made of and that the book lacks. A root that is given by its name may be lacking itself: then
+    /// [`LACKING_ROOT`](crate::LACKING_ROOT) is listed alone. [`Missing::names`] has the names.
+    ///
+    /// ```
+    /// use typebook::{LACKING_ROOT, Refusal, TypeBook};
+    /// # let piece = twin::make::Type::new("S").size(2).field("x", "INT", 0, 2).bytes();
+    /// let nothing = TypeBook::empty();
+    /// let missing = nothing.missing_types("S", 8)?;
+    /// assert_eq!((missing.blocks, missing.whole, missing.count), (vec![LACKING_ROOT], true, 1));
+    /// let book = nothing.append(&piece)?;
+    /// let missing = book.missing_types("S", 8)?;
+    /// assert_eq!(missing.names(&book, "S"), ["INT"]);
+    /// # Ok::<(), Refusal>(())
+    /// ```
+    pub fn missing_types(&self, root: impl Root, width: u8) -> Result<Missing, Refusal> {
+        match (self.root(root), root.given()) {
+            (Ok(t), _) => t.missing_types(width),
+            (Err(Refusal::NotFound { .. }), Given::Name(name)) => self.missing_root(name, width),
+            (Err(refusal), _) => Err(refusal),
+        }
+    }
+
+    /// What is missing for a name that the book lacks.
+    fn missing_root(&self, name: &str, width: u8) -> Result<Missing, Refusal> {
+        let (bytes, index) = (self.bytes(), vec![0; total::INDEX]);
+        let (mut scratch, mut values) = (Scratch::new(), [0; 3]);
+        let number = total::missing_types_named(
+            bytes,
+            bytes.len(),
+            &index,
+            width,
+            name.as_bytes(),
+            &mut scratch.numbers,
+            &mut scratch.list,
+            &mut values,
+        );
+        done(number, &values)?;
+        Ok(Missing::told(&scratch.list, values))
     }
 
     /// All types, in the order of the book.
@@ -209,12 +276,34 @@ impl Default for Room {
 /// What the book lacks for a type.
 #[derive(Debug, Clone, PartialEq, Eq)]
 pub struct Missing {
-    /// The blocks whose type names aren't in the book, in the order found; a name may be listed more than once.
+    /// The blocks whose type names aren't in the book, in the order found; a name may be listed more than once. [`LACKING_ROOT`] is no block: it
+    /// stands alone, for a root's own name.
     pub blocks: Vec<u32>,
     /// Whether the walk is whole: no alias chain was too long, and there were no more than 4,096 names.
     pub whole: bool,
     /// The number of distinct type names met.
     pub count: usize,
+}
+
+impl Missing {
+    /// What a walk says by its list and its three values.
+    fn told(list: &[u32], [listed, whole, count]: [u64; 3]) -> Self {
+        Self {
+            blocks: list[..listed as usize].to_vec(),
+            whole: whole == 1,
+            count: count as usize,
+        }
+    }
+
+    /// The names that are missing, in the order found: each block's type name in the book that was asked, or, where that is what is missing, the
+    /// name of the root.
+    pub fn names<'n>(&self, book: &'n TypeBook, root: &'n str) -> Vec<&'n str> {
+        let name = |&block: &u32| match block {
+            LACKING_ROOT => root,
+            block => book.type_name(block),
+        };
+        self.blocks.iter().map(name).collect()
+    }
 }
 
 /// A field of a type, its own type resolved.
@@ -258,6 +347,15 @@ impl<'b> TypeRef<'b> {
 
     fn part(self, place: fn(&[u8], u32, &mut [u64]) -> u8) -> &'b str {
         name_in(self.block.book().bytes(), self.block(), place)
+    }
+
+    /// Its definition: its block, followed by those of its fields and entries. What can be appended to another book.
+    pub fn definition(self) -> &'b [u8] {
+        let at = self.block() as usize * BLOCK;
+        let block = &self.block.book().bytes()[at..];
+        // Bytes 12 to 15 and 16 to 19 of a type block hold the numbers of its fields and of its entries, which follow it in a checked book.
+        let number = |k: usize| u32::from_le_bytes([block[k], block[k + 1], block[k + 2], block[k + 3]]) as usize;
+        &block[..BLOCK * (1 + number(12) + number(16))]
     }
 
     /// What kind of type it is; its aliases are not resolved.
@@ -369,12 +467,7 @@ impl<'b> TypeRef<'b> {
         let mut values = [0; 3];
         let Scratch { numbers, list } = scratch;
         done(self.block.missing_types(width, numbers, list, &mut values), &values)?;
-        let [listed, whole, count] = values;
-        Ok(Missing {
-            blocks: list[..listed as usize].to_vec(),
-            whole: whole == 1,
-            count: count as usize,
-        })
+        Ok(Missing::told(list, values))
     }
 
     /// Reads a memory of this type, with the default [`Room`].

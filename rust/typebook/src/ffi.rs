@@ -82,6 +82,16 @@ mod raw {
             values: *mut u64,
             values_len: usize,
         ) -> u8;
+        pub fn gateway_resolve_alias_named(
+            buffer: *const u8,
+            buffer_len: usize,
+            len: usize,
+            width: u8,
+            name: *const u8,
+            name_len: usize,
+            values: *mut u64,
+            values_len: usize,
+        ) -> u8;
         pub fn gateway_resolve_indirection(
             buffer: *const u8,
             buffer_len: usize,
@@ -91,12 +101,34 @@ mod raw {
             values: *mut u64,
             values_len: usize,
         ) -> u8;
+        pub fn gateway_resolve_indirection_named(
+            buffer: *const u8,
+            buffer_len: usize,
+            len: usize,
+            width: u8,
+            name: *const u8,
+            name_len: usize,
+            values: *mut u64,
+            values_len: usize,
+        ) -> u8;
         pub fn gateway_resolve_fields(
             buffer: *const u8,
             buffer_len: usize,
             len: usize,
             width: u8,
             root: u64,
+            records: *mut u32,
+            records_len: usize,
+            values: *mut u64,
+            values_len: usize,
+        ) -> u8;
+        pub fn gateway_resolve_fields_named(
+            buffer: *const u8,
+            buffer_len: usize,
+            len: usize,
+            width: u8,
+            name: *const u8,
+            name_len: usize,
             records: *mut u32,
             records_len: usize,
             values: *mut u64,
@@ -115,6 +147,20 @@ mod raw {
             values: *mut u64,
             values_len: usize,
         ) -> u8;
+        pub fn gateway_requires_read_modify_write_named(
+            buffer: *const u8,
+            buffer_len: usize,
+            len: usize,
+            index: *const u32,
+            index_len: usize,
+            width: u8,
+            name: *const u8,
+            name_len: usize,
+            scratch: *mut u32,
+            scratch_len: usize,
+            values: *mut u64,
+            values_len: usize,
+        ) -> u8;
         pub fn gateway_missing_types(
             buffer: *const u8,
             buffer_len: usize,
@@ -123,6 +169,22 @@ mod raw {
             index_len: usize,
             width: u8,
             root: u64,
+            scratch: *mut u32,
+            scratch_len: usize,
+            list: *mut u32,
+            list_len: usize,
+            values: *mut u64,
+            values_len: usize,
+        ) -> u8;
+        pub fn gateway_missing_types_named(
+            buffer: *const u8,
+            buffer_len: usize,
+            len: usize,
+            index: *const u32,
+            index_len: usize,
+            width: u8,
+            name: *const u8,
+            name_len: usize,
             scratch: *mut u32,
             scratch_len: usize,
             list: *mut u32,
@@ -161,12 +223,46 @@ mod raw {
             values: *mut u64,
             values_len: usize,
         ) -> u8;
+        pub fn gateway_read_named(
+            buffer: *const u8,
+            buffer_len: usize,
+            len: usize,
+            width: u8,
+            name: *const u8,
+            name_len: usize,
+            memory: *const u8,
+            memory_len: usize,
+            tape: *mut u8,
+            tape_len: usize,
+            text: *mut u8,
+            text_len: usize,
+            values: *mut u64,
+            values_len: usize,
+        ) -> u8;
         pub fn gateway_write(
             buffer: *const u8,
             buffer_len: usize,
             len: usize,
             width: u8,
             root: u64,
+            image: *const u8,
+            image_len: usize,
+            tape: *const u8,
+            tape_len: usize,
+            text: *const u8,
+            text_len: usize,
+            output: *mut u8,
+            output_len: usize,
+            values: *mut u64,
+            values_len: usize,
+        ) -> u8;
+        pub fn gateway_write_named(
+            buffer: *const u8,
+            buffer_len: usize,
+            len: usize,
+            width: u8,
+            name: *const u8,
+            name_len: usize,
             image: *const u8,
             image_len: usize,
             tape: *const u8,
@@ -398,11 +494,45 @@ pub mod total {
         unsafe { raw::gateway_resolve_alias(buffer.as_ptr(), buffer.len(), len, width, root, v.as_mut_ptr(), v.len()) }
     }
 
+    /// [`resolve_alias`] of a root that is given by its name; 7 with 4,294,967,295 where the book lacks it, 23 where it is no name.
+    pub fn resolve_alias_named(buffer: &[u8], len: usize, width: u8, name: &[u8], values: &mut [u64]) -> u8 {
+        let v = values;
+        unsafe {
+            raw::gateway_resolve_alias_named(
+                buffer.as_ptr(),
+                buffer.len(),
+                len,
+                width,
+                name.as_ptr(),
+                name.len(),
+                v.as_mut_ptr(),
+                v.len(),
+            )
+        }
+    }
+
     /// Value: the block that the root's aliases and references come to.
     pub fn resolve_indirection(buffer: &[u8], len: usize, width: u8, root: u64, values: &mut [u64]) -> u8 {
         let v = values;
         unsafe {
             raw::gateway_resolve_indirection(buffer.as_ptr(), buffer.len(), len, width, root, v.as_mut_ptr(), v.len())
+        }
+    }
+
+    /// [`resolve_indirection`] of a root that is given by its name.
+    pub fn resolve_indirection_named(buffer: &[u8], len: usize, width: u8, name: &[u8], values: &mut [u64]) -> u8 {
+        let v = values;
+        unsafe {
+            raw::gateway_resolve_indirection_named(
+                buffer.as_ptr(),
+                buffer.len(),
+                len,
+                width,
+                name.as_ptr(),
+                name.len(),
+                v.as_mut_ptr(),
+                v.len(),
+            )
         }
     }
 
@@ -422,6 +552,31 @@ pub mod total {
                 len,
                 width,
                 root,
+                records.as_mut_ptr(),
+                records.len(),
+                values.as_mut_ptr(),
+                values.len(),
+            )
+        }
+    }
+
+    /// [`resolve_fields`] of a root that is given by its name.
+    pub fn resolve_fields_named(
+        buffer: &[u8],
+        len: usize,
+        width: u8,
+        name: &[u8],
+        records: &mut [u32],
+        values: &mut [u64],
+    ) -> u8 {
+        unsafe {
+            raw::gateway_resolve_fields_named(
+                buffer.as_ptr(),
+                buffer.len(),
+                len,
+                width,
+                name.as_ptr(),
+                name.len(),
                 records.as_mut_ptr(),
                 records.len(),
                 values.as_mut_ptr(),
@@ -467,6 +622,34 @@ pub mod total {
         }
     }
 
+    /// [`requires_read_modify_write`] of a root that is given by its name.
+    pub fn requires_read_modify_write_named(
+        buffer: &[u8],
+        len: usize,
+        index: &[u32],
+        width: u8,
+        name: &[u8],
+        scratch: &mut [u32],
+        values: &mut [u64],
+    ) -> u8 {
+        unsafe {
+            raw::gateway_requires_read_modify_write_named(
+                buffer.as_ptr(),
+                buffer.len(),
+                len,
+                index.as_ptr(),
+                index.len(),
+                width,
+                name.as_ptr(),
+                name.len(),
+                scratch.as_mut_ptr(),
+                scratch.len(),
+                values.as_mut_ptr(),
+                values.len(),
+            )
+        }
+    }
+
     /// Values: blocks listed, 1 if the walk is whole, distinct names met. The index as in [`requires_read_modify_write`].
     #[allow(clippy::too_many_arguments)]
     pub fn missing_types(
@@ -488,6 +671,38 @@ pub mod total {
                 index.len(),
                 width,
                 root,
+                scratch.as_mut_ptr(),
+                scratch.len(),
+                list.as_mut_ptr(),
+                list.len(),
+                values.as_mut_ptr(),
+                values.len(),
+            )
+        }
+    }
+
+    /// [`missing_types`] of a root that is given by its name: where the book lacks it, its number 4,294,967,295 alone is listed.
+    #[allow(clippy::too_many_arguments)]
+    pub fn missing_types_named(
+        buffer: &[u8],
+        len: usize,
+        index: &[u32],
+        width: u8,
+        name: &[u8],
+        scratch: &mut [u32],
+        list: &mut [u32],
+        values: &mut [u64],
+    ) -> u8 {
+        unsafe {
+            raw::gateway_missing_types_named(
+                buffer.as_ptr(),
+                buffer.len(),
+                len,
+                index.as_ptr(),
+                index.len(),
+                width,
+                name.as_ptr(),
+                name.len(),
                 scratch.as_mut_ptr(),
                 scratch.len(),
                 list.as_mut_ptr(),
@@ -565,6 +780,38 @@ pub mod total {
         }
     }
 
+    /// [`read`] by a root that is given by its name.
+    #[allow(clippy::too_many_arguments)]
+    pub fn read_named(
+        buffer: &[u8],
+        len: usize,
+        width: u8,
+        name: &[u8],
+        memory: &[u8],
+        tape: &mut [u8],
+        text: &mut [u8],
+        values: &mut [u64],
+    ) -> u8 {
+        unsafe {
+            raw::gateway_read_named(
+                buffer.as_ptr(),
+                buffer.len(),
+                len,
+                width,
+                name.as_ptr(),
+                name.len(),
+                memory.as_ptr(),
+                memory.len(),
+                tape.as_mut_ptr(),
+                tape.len(),
+                text.as_mut_ptr(),
+                text.len(),
+                values.as_mut_ptr(),
+                values.len(),
+            )
+        }
+    }
+
     /// Writes a tape with its text over an image. After 0 the output, as long as the image, holds the new bytes; after a refusal
     /// the image, where it is as long, and what it held before where not. No values but the block of 7.
     #[allow(clippy::too_many_arguments)]
@@ -600,6 +847,41 @@ pub mod total {
         }
     }
 
+    /// [`write`] by a root that is given by its name.
+    #[allow(clippy::too_many_arguments)]
+    pub fn write_named(
+        buffer: &[u8],
+        len: usize,
+        width: u8,
+        name: &[u8],
+        image: &[u8],
+        tape: &[u8],
+        text: &[u8],
+        output: &mut [u8],
+        values: &mut [u64],
+    ) -> u8 {
+        unsafe {
+            raw::gateway_write_named(
+                buffer.as_ptr(),
+                buffer.len(),
+                len,
+                width,
+                name.as_ptr(),
+                name.len(),
+                image.as_ptr(),
+                image.len(),
+                tape.as_ptr(),
+                tape.len(),
+                text.as_ptr(),
+                text.len(),
+                output.as_mut_ptr(),
+                output.len(),
+                values.as_mut_ptr(),
+                values.len(),
+            )
+        }
+    }
+
     /// The same calls where a caller lends nothing at all: a null pointer and the length 0.
     #[cfg(test)]
     mod tests {
@@ -610,11 +892,11 @@ pub mod total {
         fn null_and_no_length() {
             // SAFETY: a slice of no bytes is read and written nowhere.
             unsafe {
-                assert_eq!(raw::gateway_check_book(null(), 0, 0), 1);
+                assert_eq!(raw::gateway_check_book(null(), 0, 0), 0);
                 assert_eq!(raw::gateway_check_book(null(), 0, usize::MAX), 1);
                 assert_eq!(raw::gateway_find(null(), 0, null(), 0), u32::MAX);
                 assert_eq!(raw::gateway_find_by(null(), 0, null(), 0, null(), 0), u32::MAX);
-                assert_eq!(raw::gateway_build_index(null(), 0, 0, null_mut(), 0), 1);
+                assert_eq!(raw::gateway_build_index(null(), 0, 0, null_mut(), 0), 6);
                 raw::gateway_fill_names(null(), 0, null_mut(), 0);
                 raw::gateway_fill_index(null(), 0, null_mut(), 0);
                 assert_eq!(raw::gateway_is_type(null(), 0, 0), 0);
@@ -628,12 +910,12 @@ pub mod total {
         fn null_and_no_length_in_calls_on_books() {
             // SAFETY: as above.
             unsafe {
-                assert_eq!(raw::gateway_append(null_mut(), 0, 0, null(), 0, null_mut(), 0), 1);
-                assert_eq!(raw::gateway_resolve_alias(null(), 0, 0, 8, 0, null_mut(), 0), 1);
-                assert_eq!(raw::gateway_resolve_indirection(null(), 0, 0, 8, 0, null_mut(), 0), 1);
+                assert_eq!(raw::gateway_append(null_mut(), 0, 0, null(), 0, null_mut(), 0), 3);
+                assert_eq!(raw::gateway_resolve_alias(null(), 0, 0, 8, 0, null_mut(), 0), 5);
+                assert_eq!(raw::gateway_resolve_indirection(null(), 0, 0, 8, 0, null_mut(), 0), 5);
                 assert_eq!(
                     raw::gateway_resolve_fields(null(), 0, 0, 8, 0, null_mut(), 0, null_mut(), 0),
-                    1
+                    5
                 );
                 assert_eq!(
                     raw::gateway_requires_read_modify_write(
@@ -649,7 +931,7 @@ pub mod total {
                         null_mut(),
                         0
                     ),
-                    1
+                    5
                 );
                 assert_eq!(
                     raw::gateway_missing_types(
@@ -667,7 +949,7 @@ pub mod total {
                         null_mut(),
                         0
                     ),
-                    1
+                    5
                 );
                 assert_eq!(
                     raw::gateway_read(
@@ -685,16 +967,46 @@ pub mod total {
                         null_mut(),
                         0
                     ),
-                    1
+                    5
                 );
                 let (n, m) = (null(), null_mut());
                 assert_eq!(
                     raw::gateway_plan_save(m, 0, 0, n, 0, 0, 8, 0, null_mut(), 0, null_mut(), 0, null_mut(), 0),
-                    1
+                    5
                 );
                 assert_eq!(
                     raw::gateway_write(n, 0, 0, 8, 0, n, 0, n, 0, n, 0, m, 0, null_mut(), 0),
-                    1
+                    5
+                );
+                // The name of no bytes is of the form, and the book of no bytes lacks it.
+                let mut lacking = [0];
+                let v = lacking.as_mut_ptr();
+                assert_eq!(raw::gateway_resolve_alias_named(n, 0, 0, 8, n, 0, v, 1), 7);
+                assert_eq!(
+                    raw::gateway_resolve_indirection_named(n, 0, 0, 8, n, 0, null_mut(), 0),
+                    7
+                );
+                assert_eq!(
+                    raw::gateway_resolve_fields_named(n, 0, 0, 8, n, 0, null_mut(), 0, null_mut(), 0),
+                    7
+                );
+                assert_eq!(
+                    raw::gateway_read_named(n, 0, 0, 8, n, 0, n, 0, m, 0, m, 0, null_mut(), 0),
+                    7
+                );
+                assert_eq!(
+                    raw::gateway_write_named(n, 0, 0, 8, n, 0, n, 0, n, 0, n, 0, m, 0, null_mut(), 0),
+                    16
+                );
+                assert_eq!(lacking, [u64::from(u32::MAX)]);
+                let (i, k, v) = (null(), null_mut(), null_mut());
+                assert_eq!(
+                    raw::gateway_requires_read_modify_write_named(n, 0, 0, i, 0, 8, n, 0, k, 0, v, 0),
+                    6
+                );
+                assert_eq!(
+                    raw::gateway_missing_types_named(n, 0, 0, i, 0, 8, n, 0, k, 0, k, 0, v, 0),
+                    6
                 );
             }
         }

@@ -54,7 +54,7 @@
 //! # Ok::<(), Box<dyn std::error::Error>>(())
 //! ```
 //!
-//! A refusal says which of document 01's nineteen it is, and what to do about it:
+//! A refusal says which of the table's it is, and what to do about it:
 //!
 //! ```
 //! use typebook::{Refusal, TypeBook};
@@ -73,6 +73,7 @@ mod edit;
 mod ffi;
 mod plan;
 mod refusal;
+mod root;
 mod tape;
 pub mod text;
 
@@ -82,5 +83,6 @@ pub use category::Category;
 pub use edit::{EditError, New, Step};
 pub use ffi::total as calls;
 pub use plan::{Plan, PlanError};
-pub use refusal::Refusal;
+pub use refusal::{LACKING_ROOT, Refusal};
+pub use root::{Given, Root};
 pub use tape::{Record, Records, Tape, Value};

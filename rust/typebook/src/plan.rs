@@ -3,6 +3,7 @@
 use crate::book::{BLOCK, SCRATCH, TypeBook};
 use crate::ffi::total;
 use crate::refusal::Refusal;
+use crate::root::{Given, Root};
 use std::error::Error;
 use std::fmt;
 
@@ -63,7 +64,7 @@ impl From<Refusal> for PlanError {
 }
 
 impl TypeBook<'_> {
-    /// Plans the save of a value of type block `root`: adds to a copy of this book, from the controller's, every type that the root
+    /// Plans the save of a value of the root, a block of this book or a name: adds to a copy of this book, from the controller's, every type that the root
     /// is made of and this book lacks, until an ask lists none, and then decides. `width` is the controller's pointer width. This
     /// book stays as it is.
     ///
@@ -89,11 +90,34 @@ impl TypeBook<'_> {
     /// assert_eq!(refused, PlanError::Missing { name: "Tank".into() });
     /// # Ok::<(), Box<dyn std::error::Error>>(())
     /// ```
-    pub fn plan(&self, controller: &TypeBook<'_>, width: u8, root: u64) -> Result<Plan, PlanError> {
-        let (len, theirs) = (self.bytes().len(), controller.bytes());
+    ///
+    /// A root's name that this book lacks is added first, so that a plan may begin from nothing:
+    ///
+    /// ```
+    /// use typebook::TypeBook;
+    /// # use twin::make::{Type, book, int};
+    /// # let recipe = Type::new("Recipe").size(14).field("Pieces", "FB_Counter", 2, 12);
+    /// # let list = book(&[int(), Type::new("FB_Counter").size(12), recipe]);
+    /// let controller = TypeBook::new(list)?;
+    /// let plan = TypeBook::empty().plan(&controller, 8, "Recipe")?;
+    /// assert!(plan.read_modify_write);
+    /// assert_eq!(plan.added, ["Recipe", "FB_Counter"]);
+    /// assert_eq!(plan.book.root("Recipe")?.block(), 0);
+    /// # Ok::<(), Box<dyn std::error::Error>>(())
+    /// ```
+    pub fn plan(&self, controller: &TypeBook<'_>, width: u8, root: impl Root) -> Result<Plan, PlanError> {
+        let (old, theirs) = (self.bytes().len(), controller.bytes());
         // Each type of the controller's is added once at most.
-        let mut buffer = vec![0; len + theirs.len()];
-        buffer[..len].copy_from_slice(self.bytes());
+        let mut buffer = vec![0; old + theirs.len()];
+        buffer[..old].copy_from_slice(self.bytes());
+        let (root, len) = match (root.given(), self.root(root)) {
+            (_, Ok(t)) => (u64::from(t.block()), old),
+            (Given::Name(name), Err(Refusal::NotFound { .. })) => {
+                let len = add_root(&mut buffer, old, controller, name)?;
+                ((old / BLOCK) as u64, len)
+            }
+            (_, Err(refusal)) => return Err(PlanError::Refused(refusal)),
+        };
         let mut index = vec![0; self.slots() + controller.slots()];
         let (mut scratch, mut values) = (vec![0; SCRATCH], [0; 2]);
         let number = total::plan_save(
@@ -108,12 +132,24 @@ impl TypeBook<'_> {
             &mut values,
         );
         match number {
-            0 => planned(buffer, len, values),
+            0 => planned(buffer, old, values),
             7 => Err(PlanError::Missing {
                 name: crate::book::name_in(&buffer, values[0] as u32, total::type_name).into(),
             }),
             n => Err(PlanError::Refused(Refusal::from_number(n, 0))),
         }
+    }
+}
+
+/// Adds the controller's definition of a root's name that our book lacks: our book's new length.
+fn add_root(buffer: &mut [u8], len: usize, controller: &TypeBook<'_>, name: &str) -> Result<usize, PlanError> {
+    let root = controller
+        .find(name)
+        .ok_or_else(|| PlanError::Missing { name: name.into() })?;
+    let mut values = [0; 1];
+    match total::append(buffer, len, root.definition(), &mut values) {
+        0 => Ok(values[0] as usize),
+        number => Err(PlanError::Refused(Refusal::from_number(number, 0))),
     }
 }
 

@@ -3,11 +3,14 @@
 use std::error::Error;
 use std::fmt;
 
+/// The number that stands for a root's name which the book lacks, in refusal 7 and in a missing list; no block has it.
+pub const LACKING_ROOT: u32 = 4_294_967_295;
+
 /// Why a call was refused: document 01's table, number by number.
 #[non_exhaustive]
 #[derive(Debug, Clone, Copy, PartialEq, Eq, Hash)]
 pub enum Refusal {
-    /// 1: the book is empty, isn't whole blocks, has over 65,536 of them, or passes its buffer.
+    /// 1: the book isn't whole blocks, has over 65,536 of them, or passes its buffer.
     BookSize,
     /// 2: a block's sum differs.
     Sum,
@@ -21,7 +24,7 @@ pub enum Refusal {
     Scratch,
     /// 7: a type name isn't in the book; the block is the one that names it.
     NotFound {
-        /// The block whose type name wasn't found.
+        /// The block whose type name wasn't found, or [`LACKING_ROOT`] for the root's own name.
         block: u32,
     },
     /// 8: an alias chain of 32 hops or more.
@@ -48,6 +51,8 @@ pub enum Refusal {
     UnknownName,
     /// 19: the integer doesn't fit.
     OutOfRange,
+    /// 23: a root's name isn't 0 to 200 bytes from 20h to 7Eh.
+    RootName,
 }
 
 impl Refusal {
@@ -77,11 +82,12 @@ impl Refusal {
             17 => Refusal::Mismatch,
             18 => Refusal::UnknownName,
             19 => Refusal::OutOfRange,
+            23 => Refusal::RootName,
             n => panic!("document 01 has no refusal {n}"),
         }
     }
 
-    /// Document 01's number, 1 to 19.
+    /// The number of the table: document 01's 1 to 19, and 23.
     pub fn number(self) -> u8 {
         match self {
             Refusal::BookSize => 1,
@@ -103,6 +109,7 @@ impl Refusal {
             Refusal::Mismatch => 17,
             Refusal::UnknownName => 18,
             Refusal::OutOfRange => 19,
+            Refusal::RootName => 23,
         }
     }
 
@@ -110,7 +117,7 @@ impl Refusal {
     fn words(self) -> &'static str {
         match self {
             Refusal::BookSize => {
-                "the type book is empty or cut off (it must be whole blocks of 512 bytes, 1 to 65,536 of them): load it again"
+                "the type book is cut off or too long (it must be whole blocks of 512 bytes, at most 65,536 of them): load it again"
             }
             Refusal::Sum => "the type book is damaged (a block's check sum is wrong): load it again",
             Refusal::Form => {
@@ -142,6 +149,7 @@ impl Refusal {
             Refusal::Mismatch => "a value doesn't go with the type that it is to be written to",
             Refusal::UnknownName => "the type has no field or enumeration entry of that name",
             Refusal::OutOfRange => "a number is too large or too small for the type that it is to be written to",
+            Refusal::RootName => "the root's name can't be a type's: it has over 200 bytes, or others than 20h to 7Eh",
         }
     }
 }
@@ -150,6 +158,7 @@ impl fmt::Display for Refusal {
     fn fmt(&self, f: &mut fmt::Formatter<'_>) -> fmt::Result {
         write!(f, "refusal {}: {}", self.number(), self.words())?;
         match self {
+            Refusal::NotFound { block: LACKING_ROOT } => write!(f, " (it is the root itself)"),
             Refusal::NotFound { block } => write!(f, " (block {block} names it)"),
             _ => Ok(()),
         }
@@ -160,17 +169,19 @@ impl Error for Refusal {}
 
 #[cfg(test)]
 mod tests {
-    use super::Refusal;
+    use super::{LACKING_ROOT, Refusal};
 
     #[test]
     fn numbers_there_and_back() {
-        for n in 1..=19 {
+        for n in (1..=19).chain([23]) {
             let refusal = Refusal::from_number(n, 5);
             assert_eq!(refusal.number(), n);
             assert!(refusal.to_string().starts_with(&format!("refusal {n}: ")));
         }
         assert_eq!(Refusal::from_number(7, 5), Refusal::NotFound { block: 5 });
         assert!(Refusal::from_number(7, 5).to_string().ends_with("(block 5 names it)"));
+        let lacking = Refusal::from_number(7, LACKING_ROOT.into());
+        assert!(lacking.to_string().ends_with("(it is the root itself)"));
     }
 
     #[test]

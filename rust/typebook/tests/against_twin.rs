@@ -340,7 +340,10 @@ fn checked_books() {
             Ok(book) => match book.root(c.root) {
                 Ok(t) => checked_type(rng, c, &book, t),
                 Err(refusal) => {
-                    assert_eq!(Err(refusal.number()), twin::check::check_root(&c.book, len, c.root));
+                    assert_eq!(
+                        twin::check::check_root(&c.book, len, c.root),
+                        Err(twin::Stop::Number(refusal.number()))
+                    );
                     vec![refusal.number()]
                 }
             },

@@ -93,7 +93,7 @@ fn complete<'a>(
 ) -> (TypeBook<'a>, usize) {
     let mut asks = 0;
     loop {
-        let missing = book.root(root.into()).unwrap().missing_types(width).unwrap();
+        let missing = book.root(u64::from(root)).unwrap().missing_types(width).unwrap();
         assert!(missing.whole);
         let names: Vec<String> = missing.blocks.iter().map(|&b| book.type_name(b).to_string()).collect();
         let complete = needed.iter().all(|n| book.find(text(n)).is_some());
@@ -118,7 +118,7 @@ fn complete<'a>(
 /// The completed book's answers are those of the controller's; whether a function block lies in the root.
 fn answers_alike(rng: &mut Rng, book: &TypeBook, our_root: u32, made: &Made, reached: &Names) -> bool {
     let (controller, width) = (twin::Book::new(&made.book), made.width);
-    let ours = book.root(our_root.into()).unwrap();
+    let ours = book.root(u64::from(our_root)).unwrap();
     assert_eq!(ours.missing_types(width).unwrap().count, reached.len());
     let come_to = |n: &&[u8]| resolve(&controller, width, controller.find(n).unwrap(), false).unwrap();
     let yes = reached
@@ -128,7 +128,7 @@ fn answers_alike(rng: &mut Rng, book: &TypeBook, our_root: u32, made: &Made, rea
 
     let memory = memory(rng, made);
     let whole = TypeBook::new(&made.book[..]).unwrap();
-    let theirs = whole.root(made.root.into()).unwrap().read(width, &memory);
+    let theirs = whole.root(u64::from(made.root)).unwrap().read(width, &memory);
     match (ours.read(width, &memory), theirs) {
         (Ok(told), Ok(wanted)) => assert!(told.iter().map(|r| r.value).eq(wanted.iter().map(|r| r.value))),
         (told, wanted) => {
@@ -138,7 +138,7 @@ fn answers_alike(rng: &mut Rng, book: &TypeBook, our_root: u32, made: &Made, rea
         }
     }
     let told = written(book, ours, width, &memory);
-    let wanted = written(&whole, whole.root(made.root.into()).unwrap(), width, &memory);
+    let wanted = written(&whole, whole.root(u64::from(made.root)).unwrap(), width, &memory);
     assert_eq!(told, wanted);
     assert!(!matches!(told, Err(Refusal::NotFound { .. })));
     yes
@@ -167,7 +167,7 @@ fn a_book_is_completed_and_then_answers_as_the_controllers() {
         let lacking = needed.iter().filter(|n| book.find(text(n)).is_none()).count();
         // One call makes such a list too, and adds exactly the needed names that were lacking.
         let whole = TypeBook::new(&made.book[..]).unwrap();
-        let plan = book.plan(&whole, made.width, our_root.into()).unwrap();
+        let plan = book.plan(&whole, made.width, u64::from(our_root)).unwrap();
         assert!(plan.book.bytes().starts_with(book.bytes()) && plan.added.len() == lacking);
         assert!(needed.iter().all(|n| plan.book.find(text(n)).is_some()));
         let (book, asks) = complete(rng, book, our_root, made.width, &controller, &needed);

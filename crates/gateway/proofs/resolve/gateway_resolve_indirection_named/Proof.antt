@@ -1,0 +1,21 @@
+-- `gateway_resolve_indirection_named` meets its contract. Assumes nothing.
+use Rattle.gateway.proofs.Equal.{resolution-given}
+use borrow.Author.Needs.{needs}
+use Rattle.gateway.proofs.resolve.gateway_resolve_indirection_named.Statement.{statement}
+use Rattle.gateway.proofs.resolve.gateway_resolve_indirection_named.Tie as tie
+
+resolve-indirection-named-requires : tie.Need-resolve-indirection-named-requires
+resolve-indirection-named-requires c κs = search needs
+
+give-resolution-requires : tie.Need-give-resolution-requires
+give-resolution-requires c κs = search needs
+
+same-length : tie.Need-same-length
+same-length c = search needs
+
+returns : tie.Need-returns
+returns c = search resolution-given
+
+pub gateway-resolve-indirection-named-spec : {M : Type 1} → statement M
+gateway-resolve-indirection-named-spec =
+    tie.close (tie.spec resolve-indirection-named-requires give-resolution-requires same-length returns)
