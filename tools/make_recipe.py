@@ -23,19 +23,25 @@ A description has one thing on a line; `#` starts a comment, blank lines don't c
         Nozzles[1].Heat = 165.5
 
 Types that need no line: BOOL, SINT, INT, DINT, LINT, USINT, UINT, UDINT, ULINT, BYTE, WORD, DWORD, LWORD, REAL, LREAL,
-STRING(n) of n + 1 bytes, WSTRING(n) of 2n + 2, and ARRAY [a..b, ..] OF a type. A value is a number, TRUE or FALSE, an entry's name, or a
-text in double quotes. Several types may be used before the line that says what they are.
+STRING(n) of n + 1 bytes, WSTRING(n) of 2n + 2, the times TIME, LTIME, TOD, TIME_OF_DAY, LTOD, DATE, DT, DATE_AND_TIME, LDATE, LDT, and ARRAY
+[a..b, ..] OF a type. A value is a number, TRUE or FALSE, an entry's name, a text in double quotes, or for a date or a time of day also
+2026-11-17T06:00:00 or 06:00:00.250. Several types may be used before the line that says what they are.
 """
 
 import os
 import re
 import struct
 import sys
+from datetime import datetime, timedelta
 
 # Document 01's type ids with the bytes that they take, by name.
 PLAIN = {"BOOL": (33, 1), "SINT": (16, 1), "INT": (2, 2), "DINT": (3, 4), "LINT": (20, 8), "USINT": (17, 1), "UINT": (18, 2),
          "UDINT": (19, 4), "ULINT": (21, 8), "BYTE": (17, 1), "WORD": (18, 2), "DWORD": (19, 4), "LWORD": (21, 8),
          "REAL": (4, 4), "LREAL": (5, 8)}
+# Counts of time: how many make a second.
+TIMES = {"TIME": 10**3, "TOD": 10**3, "TIME_OF_DAY": 10**3, "DATE": 1, "DT": 1, "DATE_AND_TIME": 1,
+         "LTIME": 10**9, "LTOD": 10**9, "LDATE": 10**9, "LDT": 10**9}
+PLAIN |= {name: (21, 8) if name[0] == "L" else (19, 4) for name in TIMES}
 SIGNED, REALS, BIT, STRING, WSTRING, BIG = (16, 2, 3, 20), {4: "<f", 5: "<d"}, 33, 30, 31, 65
 BLOCK, BOOK, MEMORY, ENUM = 512, 65536, 4096, 4
 OPEN = -1  # the size of a type whose parts are being laid out
@@ -49,6 +55,19 @@ class Type:
     def __init__(self, kind, name, base="", counts=(), bounds=()):
         self.kind, self.name, self.base, self.counts, self.bounds = kind, name, base, counts, bounds
         self.id, self.size, self.parts = BIG, None, []  # parts: fields (name, type, offset or None), entries (name, number)
+
+
+def moment(name, text):
+    """The count of a date and time or of a time of day in ISO 8601, to a microsecond."""
+    dated = name.endswith(("DATE", "DT", "AND_TIME"))
+    try:
+        since = datetime.fromisoformat(text if dated else "1970-01-01T" + text) - datetime(1970, 1, 1)
+    except ValueError:
+        raise Wrong(f"a date as 2026-11-17T06:00:00 or a time of day as 06:00:00 is due: {text}") from None
+    count, rest = divmod(since // timedelta(microseconds=1) * TIMES[name], 10**6)
+    if rest or count < 0:
+        raise Wrong(f"{name} doesn't hold {text}")
+    return count
 
 
 def block(kind, flags, numbers, name, type_name, rest=b""):
@@ -205,6 +224,8 @@ class Recipe:
             raise Wrong(f"{t.name} is set field by field")
         if t.id in REALS:
             return struct.pack(REALS[t.id], float(text))
+        if t.name in TIMES and ":" in text:
+            return moment(t.name, text).to_bytes(t.size, "little")
         number = {"TRUE": 1, "FALSE": 0}.get(text) if t.id == BIT else None
         return (int(text, 0) if number is None else number).to_bytes(t.size, "little", signed=t.id in SIGNED)
 

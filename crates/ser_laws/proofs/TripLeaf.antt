@@ -34,6 +34,7 @@ use Rattle.type_book.proofs.Names.{same-eq}
 use Rattle.type_provider.specs.declared.Found.{Found}
 use Rattle.type_provider.specs.declared.Found.the-variants.{At, Nothing}
 use Rattle.type_category.specs.Category.{categoryOf}
+use Rattle.time_types.specs.Counts.{countWidth}
 use Rattle.type_category.specs.declared.type_category.AdsTypeCategory.{AdsTypeCategory}
 use Rattle.type_category.specs.declared.type_category.AdsTypeCategory.the-variants as category
 use Rattle.type_book_check.specs.Check.{ValidBook}
@@ -53,7 +54,7 @@ use Rattle.enc_text_decoder.specs.declared.Decoder.the-variants as decoder
 use Rattle.de_output.specs.Trace.{Event, rec, text, textBytes, tapeBytes, one}
 use Rattle.ser_leaf.specs.declared.Target.{Target}
 use Rattle.ser_leaf.specs.declared.Target.the-variants as target
-use Rattle.ser_leaf.specs.Leaf.{holds, exactly, boolLeaf, realId, realBytes, realLeaf, integerBy, pointerLeaf, targetOf, integerLeaf, entryBy, entryLeaf, enumLeaf, padded, textBy, textLeaf, leafBy}
+use Rattle.ser_leaf.specs.Leaf.{Leaf, holds, exactly, boolLeaf, realId, realBytes, realLeaf, integerBy, pointerLeaf, targetOf, integerLeaf, entryBy, entryLeaf, enumLeaf, padded, textBy, textLeaf, leafBy, countLeaf, leafFor}
 use Rattle.ser_laws.specs.Trip.{zerosAfter, isWhole, textKept, entryKept, leafKept}
 use Rattle.ser_laws.proofs.Plain.{different, and-left, and-right}
 use Rattle.ser_laws.proofs.ReadLeaf.{FineValue, read-fine, enum-fine, bits-small}
@@ -95,18 +96,57 @@ five-real : idOf 5 ≡ Real64
 unfolding idOf
 five-real = refl
 
-module _ (book buffer : List ℕ) (width t : ℕ) (mem : List ℕ) (b : Bytes mem) (k : Target) where
-  -- the record of a leaf, which written over its bytes gives them back
+-- the record of a leaf, which written over its bytes, as `over` has it, gives them back
+module _ (book buffer : List ℕ) (mem : List ℕ) (b : Bytes mem) (over : Record → Leaf) where
   pub record LeafBack (from : ℕ) (es : List Event) : Type 0 where
     pub r : Record
     pub held : Held r
     pub bytes : tapeBytes from es ≡ recordBytes r
     pub no-array : r .kind ≡ 1 → ⊥
     pub no-map : r .kind ≡ 3 → ⊥
-    pub writes : leafBy book width t k r buffer mem ≡ holds mem
+    pub writes : over r ≡ holds mem
+
+  -- one record
+  one-back : (kind w a n : ℕ) → Held (rec-of kind w a n) → (kind ≡ 1 → ⊥) → (kind ≡ 3 → ⊥) → over (rec-of kind w a n) ≡ holds mem
+      → Emits book buffer LeafBack (one (rec (rec-of kind w a n)))
+  unfolding tapeBytes
+  one-back kind w a n h p q e =
+      record { emits = λ from s. record { r = rec-of kind w a n; held = h; bytes = append-nil (recordBytes (rec-of kind w a n)); no-array = p; no-map = q; writes = e } }
+
+  -- an integer that is read and written by the same id
+  module _ (id : AdsTypeId) (signed : (w n : ℕ) → over (rec-of 7 w 0 n) ≡ integerBy id (integer.Signed w n) mem) (unsigned : (w n : ℕ) → over (rec-of 8 w 0 n) ≡ integerBy id (integer.Unsigned w n) mem) where
+    integer-writes : (v : Integer) → read.Value v ≡ readInteger id mem → integerBy id v mem ≡ holds mem
+    unfolding integerBy integerAfter
+    integer-writes v e =
+        let w = integer-back id mem b v e mem refl in
+        let d : writeInteger id v mem ≡ write.Done = sym (integer-write-is _ _ (w .answer)) in
+        let q : mem ≡ integerBytes id v = rw d at (w .buffer) in
+        rw d (ap holds (sym q))
+
+    integer-goes : Emits book buffer LeafBack (traceOf (leaves.integerLeaf (readInteger id mem)) mem)
+    unfolding leaves.integerLeaf integerReadNumbers
+    integer-goes = by (readInteger id mem) refl (read-fine book mem b id)
+      where
+        by : (r : IntegerRead) → r ≡ readInteger id mem → FineValue book (leaves.integerLeaf r) → Emits book buffer LeafBack (traceOf (leaves.integerLeaf r) mem)
+        by (read.Value (integer.Signed w n)) e f =
+            let x = f .fine in
+            let m = x .most in
+            one-back 7 w 0 n (held-of 7 w 0 n (omega arith) (omega arith) (omega arith) (rw (x .is) (bits-small (x .number)))) (λ z. omega arith) (λ z. omega arith) (signed w n ∙ integer-writes (integer.Signed w n) e)
+        by (read.Value (integer.Unsigned w n)) e f =
+            let x = f .fine in
+            let m = x .most in
+            let l = x .small in
+            let o : 2 ^ (8 * w) ≤ 2 ^ 64 = pow-most w m in
+            one-back 8 w 0 n (held-of 8 w 0 n (omega arith) (omega arith) (omega arith) (omega arith)) (λ z. omega arith) (λ z. omega arith) (unsigned w n ∙ integer-writes (integer.Unsigned w n) e)
+        by read.Size e f = record { emits = tt }
+        by read.Unsupported e f = record { emits = tt }
+
+module _ (book buffer : List ℕ) (width t : ℕ) (mem : List ℕ) (b : Bytes mem) (k : Target) where
+  abbrev BackBy : ℕ → List Event → Type 0
+  BackBy = LeafBack book buffer mem b (λ r. leafBy book width t k r buffer mem)
 
   pub record Goes (v : LeafValue) : Type 0 where
-    pub goes : leafKept book t mem v ≡ true → Emits book buffer LeafBack (traceOf v mem)
+    pub goes : leafKept book t mem v ≡ true → Emits book buffer BackBy (traceOf v mem)
 
   goes-refused : (n : ℕ) → Goes (value.Refused n)
   goes-refused n = record { goes = λ h. record { emits = tt } }
@@ -117,39 +157,17 @@ module _ (book buffer : List ℕ) (width t : ℕ) (mem : List ℕ) (b : Bytes me
 
   -- one record
   goes-one : (kind w a n : ℕ) → Held (rec-of kind w a n) → (kind ≡ 1 → ⊥) → (kind ≡ 3 → ⊥) → leafBy book width t k (rec-of kind w a n) buffer mem ≡ holds mem
-      → Emits book buffer LeafBack (one (rec (rec-of kind w a n)))
-  unfolding tapeBytes
-  goes-one kind w a n h p q e =
-      record { emits = λ from s. record { r = rec-of kind w a n; held = h; bytes = append-nil (recordBytes (rec-of kind w a n)); no-array = p; no-map = q; writes = e } }
+      → Emits book buffer BackBy (one (rec (rec-of kind w a n)))
+  goes-one = one-back book buffer mem b (λ r. leafBy book width t k r buffer mem)
 
   -- ---- integers
 
   module _ (id : AdsTypeId) (same : (v : Integer) → integerLeaf book width t v mem k ≡ integerBy id v mem) where
-    integer-writes : (v : Integer) → read.Value v ≡ readInteger id mem → integerLeaf book width t v mem k ≡ holds mem
-    unfolding integerBy integerAfter
-    integer-writes v e =
-        let w = integer-back id mem b v e mem refl in
-        let d : writeInteger id v mem ≡ write.Done = sym (integer-write-is _ _ (w .answer)) in
-        let q : mem ≡ integerBytes id v = rw d at (w .buffer) in
-        same v ∙ rw d (ap holds (sym q))
-
     goes-integer : Goes (leaves.integerLeaf (readInteger id mem))
-    unfolding leafBy leaves.integerLeaf integerReadNumbers
-    goes-integer = by (readInteger id mem) refl (read-fine book mem b id)
-      where
-        by : (r : IntegerRead) → r ≡ readInteger id mem → FineValue book (leaves.integerLeaf r) → Goes (leaves.integerLeaf r)
-        by (read.Value (integer.Signed w n)) e f =
-            let x = f .fine in
-            let m = x .most in
-            record { goes = λ h. goes-one 7 w 0 n (held-of 7 w 0 n (omega arith) (omega arith) (omega arith) (rw (x .is) (bits-small (x .number)))) (λ z. omega arith) (λ z. omega arith) (integer-writes (integer.Signed w n) e) }
-        by (read.Value (integer.Unsigned w n)) e f =
-            let x = f .fine in
-            let m = x .most in
-            let l = x .small in
-            let o : 2 ^ (8 * w) ≤ 2 ^ 64 = pow-most w m in
-            record { goes = λ h. goes-one 8 w 0 n (held-of 8 w 0 n (omega arith) (omega arith) (omega arith) (omega arith)) (λ z. omega arith) (λ z. omega arith) (integer-writes (integer.Unsigned w n) e) }
-        by read.Size e f = goes-refused 10
-        by read.Unsupported e f = goes-refused 11
+    unfolding leafBy
+    goes-integer = record {
+      goes = λ h. integer-goes book buffer mem b (λ r. leafBy book width t k r buffer mem) id (λ w n. same (integer.Signed w n)) (λ w n. same (integer.Unsigned w n));
+    }
 
   -- ---- reals
 
@@ -160,7 +178,7 @@ module _ (book buffer : List ℕ) (width t : ℕ) (mem : List ℕ) (b : Bytes me
       rw (eq-eqb (typeIdOf book t) (realId d) e) (exactly-back (leBytes (realBytes d) n) mem z)
 
   module _ (d : typeIdOf book t ≡ 4) (l : length mem ≡ 4) where
-    single-goes : (n : ℕ) → n ≡ leValue mem → n < 2 ^ 32 → Emits book buffer LeafBack (one (rec (rec-of 9 0 0 n)))
+    single-goes : (n : ℕ) → n ≡ leValue mem → n < 2 ^ 32 → Emits book buffer BackBy (one (rec (rec-of 9 0 0 n)))
     unfolding leafBy
     single-goes n q s = goes-one 9 0 0 n (held-of 9 0 0 n (omega arith) (omega arith) (omega arith) (omega arith)) (λ z. omega arith) (λ z. omega arith) (real-writes false n d q l)
 
@@ -180,7 +198,7 @@ module _ (book buffer : List ℕ) (width t : ℕ) (mem : List ℕ) (b : Bytes me
         by false e = record { goes = λ h. single-goes _ (e ∙ small) (rw (e, small) s) }
 
   module _ (d : typeIdOf book t ≡ 5) (l : length mem ≡ 8) where
-    double-goes : (n : ℕ) → n ≡ leValue mem → n < 2 ^ 64 → Emits book buffer LeafBack (one (rec (rec-of 10 0 0 n)))
+    double-goes : (n : ℕ) → n ≡ leValue mem → n < 2 ^ 64 → Emits book buffer BackBy (one (rec (rec-of 10 0 0 n)))
     unfolding leafBy
     double-goes n q s = goes-one 10 0 0 n (held-of 10 0 0 n (omega arith) (omega arith) (omega arith) (omega arith)) (λ z. omega arith) (λ z. omega arith) (real-writes true n d q l)
 
@@ -260,7 +278,7 @@ module _ (book buffer : List ℕ) (width t : ℕ) (mem : List ℕ) (b : Bytes me
     record-text from xs s =
         rw (le-leb (from + length xs) (length buffer) (s .inside)) (ap (take (length xs)) (s .is) ∙ take-append-seam xs (s .rest))
 
-    goes-one-text : (xs : List ℕ) → textBy (typeIdOf book t) xs mem ≡ holds mem → Emits book buffer LeafBack (one (text 0 0 xs))
+    goes-one-text : (xs : List ℕ) → textBy (typeIdOf book t) xs mem ≡ holds mem → Emits book buffer BackBy (one (text 0 0 xs))
     unfolding tapeBytes textBytes leafBy textLeaf
     goes-one-text xs e =
         record {
@@ -395,7 +413,30 @@ module _ (book buffer : List ℕ) (small : length buffer < 2 ^ 64) (valid : Vali
   by-category category.Reference e = goes-pointer book buffer width t mem b _ refl
   by-category category.Interface e = goes-pointer book buffer width t mem b _ refl
 
+  -- a count of time: by its own width
+  count-cond : (n : ℕ) (x : Bool) (v w : LeafValue)
+      → (x ≡ true → Emits book buffer (LeafBack book buffer mem b (λ r. countLeaf n r mem)) (traceOf v mem))
+      → (x ≡ false → Emits book buffer (LeafBack book buffer mem b (λ r. countLeaf n r mem)) (traceOf w mem))
+      → Emits book buffer (LeafBack book buffer mem b (λ r. countLeaf n r mem)) (traceOf (cond x v w) mem)
+  count-cond n true v w p q = p refl
+  count-cond n false v w p q = q refl
+
+  count-goes : (n : ℕ) → Emits book buffer (LeafBack book buffer mem b (λ r. countLeaf n r mem)) (traceOf (leaves.pointerLeaf n mem) mem)
+  unfolding leaves.pointerLeaf pointerLeaf countLeaf
+  count-goes n =
+      count-cond n (eqb n 2) _ _ (λ p. integer-goes book buffer mem b (λ r. countLeaf n r mem) UInt16 (λ w m. rw p) (λ w m. rw p))
+      (λ p. count-cond n (eqb n 4) _ _ (λ q. integer-goes book buffer mem b (λ r. countLeaf n r mem) UInt32 (λ w m. rw (p, q)) (λ w m. rw (p, q)))
+      (λ q. count-cond n (eqb n 8) _ _ (λ s. integer-goes book buffer mem b (λ r. countLeaf n r mem) UInt64 (λ w m. rw (p, q, s)) (λ w m. rw (p, q, s))) (λ s. record { emits = tt })))
+
+  by-count : (c : AdsTypeCategory) → GoesAs c → (n : ℕ) (x : Bool)
+      → leafKept book t mem (cond x (leaves.kindLeaf book width t mem (kindOfLeaf c)) (leaves.pointerLeaf n mem)) ≡ true
+      → Emits book buffer (LeafBack book buffer mem b (λ r. cond x (leafBy book width t (targetOf c) r buffer mem) (countLeaf n r mem)))
+      (traceOf (cond x (leaves.kindLeaf book width t mem (kindOfLeaf c)) (leaves.pointerLeaf n mem)) mem)
+  by-count c g n true h = g .goes h
+  by-count c g n false h = count-goes n
+
   pub leaf-back : leafKept book t mem (leafAt book width t mem) ≡ true
-      → Emits book buffer (LeafBack book buffer width t mem b (targetOf (categoryOf book width t))) (traceOf (leafAt book width t mem) mem)
-  unfolding leafAt leaves.leafBy
-  leaf-back h = by-category (categoryOf book width t) refl .goes h
+      → Emits book buffer (LeafBack book buffer mem b (λ r. leafFor book width t (categoryOf book width t) r buffer mem)) (traceOf (leafAt book width t mem) mem)
+  unfolding leafAt leaves.leafBy leafFor
+  leaf-back h =
+      by-count (categoryOf book width t) (by-category (categoryOf book width t) refl) (countWidth book t (categoryOf book width t)) (eqb (countWidth book t (categoryOf book width t)) 0) h

@@ -43,7 +43,7 @@ use Rattle.de_output.proofs.Runs.{tape-then}
 use Rattle.tape_array_elements.specs.Element.{Content, whole, further, cut, shapeAt, elementItem, elementCheck}
 use Rattle.de.specs.declared.reading.Typed.{Typed}
 use Rattle.de.specs.Walk as de
-use Rattle.ser_leaf.specs.Leaf.{targetOf}
+use Rattle.ser_leaf.specs.Leaf.{leafFor}
 use Rattle.ser.specs.Write as ser
 use Rattle.ser.specs.Write.{Outcome, went}
 use Rattle.ser_laws.specs.Trip as trip
@@ -319,7 +319,7 @@ module _ (book buffer tape : List ℕ) where
 
       -- ---- a leaf
 
-      leaf-write : (t : ℕ) (mem : List ℕ) (b : Bytes mem) (from : ℕ) (es : List Event) → LeafBack book buffer width t mem b (targetOf (categoryOf book width t)) from es
+      leaf-write : (t : ℕ) (mem : List ℕ) (b : Bytes mem) (from : ℕ) (es : List Event) → LeafBack book buffer mem b (λ r. leafFor book width t (categoryOf book width t) r buffer mem) from es
           → Back (ser.itemWalk write sc (whole t)) mem from es
       unfolding ser.itemWalk ser.taken ser.takenBy ser.valueBy ser.leafOf ser.leafEnd
       leaf-write t mem b from es x =

@@ -2,7 +2,7 @@
 
 use crate::category::{Category, determine};
 use crate::resolve::{Field, fields, look_up, resolve};
-use crate::{Book, Stop, block, text};
+use crate::{Book, Stop, block, text, time};
 
 const MOST_LEVELS: u32 = 64;
 const RECORD: usize = 24;
@@ -74,7 +74,11 @@ impl Reader<'_, '_> {
             return Err(Stop::Number(14));
         }
         let book = self.book.bytes;
-        match determine(book, self.width, t) {
+        let category = determine(book, self.width, t);
+        if let Some(width) = time::count_width(block::name(book, t), category) {
+            return self.unsigned(width, bytes);
+        }
+        match category {
             Category::Primitive | Category::SubRange | Category::Bitset => self.number(block::id(book, t), bytes),
             Category::String => {
                 self.same_size(t, bytes)?;
@@ -127,10 +131,14 @@ impl Reader<'_, '_> {
         if !matches!(self.width, 2 | 4 | 8) {
             return Err(Stop::Number(13));
         }
-        if bytes.len() != usize::from(self.width) {
+        self.unsigned(self.width, bytes)
+    }
+
+    fn unsigned(&mut self, width: u8, bytes: &[u8]) -> Result<(), Stop> {
+        if bytes.len() != usize::from(width) {
             return Err(Stop::Number(10));
         }
-        self.sink.record(8, self.width, 0, low_first(bytes))
+        self.sink.record(8, width, 0, low_first(bytes))
     }
 
     fn entry(&mut self, t: u32, bytes: &[u8]) -> Result<(), Stop> {

@@ -57,8 +57,11 @@ fn print(tape: &Tape) {
                 continue;
             }
             Value::End => continue,
-            value if name.is_empty() => println!("{:indent$}{value}", ""),
-            value => println!("{:indent$}{name}: {value}", ""),
+            value => {
+                let shown = record.moment().map_or_else(|| value.to_string(), |m| m.to_string());
+                let colon = if name.is_empty() { "" } else { ": " };
+                println!("{:indent$}{name}{colon}{shown}", "");
+            }
         }
         name = "";
     }

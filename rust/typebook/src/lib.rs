@@ -54,7 +54,7 @@
 //! # Ok::<(), Box<dyn std::error::Error>>(())
 //! ```
 //!
-//! A refusal says which of document 01's nineteen it is, and what to do about it:
+//! A refusal says which of the documents' list it is, and what to do about it:
 //!
 //! ```
 //! use typebook::{Refusal, TypeBook};
@@ -71,6 +71,7 @@ mod category;
 mod edit;
 #[allow(unsafe_code)]
 mod ffi;
+mod moment;
 mod plan;
 mod refusal;
 mod tape;
@@ -81,6 +82,7 @@ pub use builder::{BuildError, TapeBuilder};
 pub use category::Category;
 pub use edit::{EditError, New, Step};
 pub use ffi::total as calls;
+pub use moment::Moment;
 pub use plan::{Plan, PlanError};
 pub use refusal::Refusal;
 pub use tape::{Record, Records, Tape, Value};

@@ -48,6 +48,8 @@ pub enum Refusal {
     UnknownName,
     /// 19: the integer doesn't fit.
     OutOfRange,
+    /// 24: the type counts no moments, or a count or parts name none of it.
+    NoMoment,
 }
 
 impl Refusal {
@@ -77,11 +79,12 @@ impl Refusal {
             17 => Refusal::Mismatch,
             18 => Refusal::UnknownName,
             19 => Refusal::OutOfRange,
+            24 => Refusal::NoMoment,
             n => panic!("document 01 has no refusal {n}"),
         }
     }
 
-    /// Document 01's number, 1 to 19.
+    /// The documents' number: 1 to 19, and 24.
     pub fn number(self) -> u8 {
         match self {
             Refusal::BookSize => 1,
@@ -103,6 +106,7 @@ impl Refusal {
             Refusal::Mismatch => 17,
             Refusal::UnknownName => 18,
             Refusal::OutOfRange => 19,
+            Refusal::NoMoment => 24,
         }
     }
 
@@ -142,6 +146,7 @@ impl Refusal {
             Refusal::Mismatch => "a value doesn't go with the type that it is to be written to",
             Refusal::UnknownName => "the type has no field or enumeration entry of that name",
             Refusal::OutOfRange => "a number is too large or too small for the type that it is to be written to",
+            Refusal::NoMoment => "this is no date or time of day that the type can hold",
         }
     }
 }
@@ -164,7 +169,7 @@ mod tests {
 
     #[test]
     fn numbers_there_and_back() {
-        for n in 1..=19 {
+        for n in (1..=19).chain([24]) {
             let refusal = Refusal::from_number(n, 5);
             assert_eq!(refusal.number(), n);
             assert!(refusal.to_string().starts_with(&format!("refusal {n}: ")));

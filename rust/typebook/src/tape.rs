@@ -1,7 +1,9 @@
 //! What a read gives and a write takes: records, each with its value and, for keys and enumeration entries, its name.
 
 use crate::book::name_in;
+use crate::category::Category;
 use crate::ffi::total;
+use crate::moment::Moment;
 use std::collections::BTreeSet;
 use std::fmt;
 
@@ -92,6 +94,58 @@ pub struct Record<'t> {
     pub block: Option<u32>,
     /// What it says.
     pub value: Value<'t>,
+    /// The book, and the block that names the type of the value or of the array that it lies in.
+    pub(crate) typed: Typed<'t>,
+}
+
+/// A book, and the block that names a type: a field's, or the root's own.
+#[derive(Debug, Clone, Copy, PartialEq)]
+pub(crate) struct Typed<'t> {
+    pub(crate) book: &'t [u8],
+    pub(crate) field: Option<u32>,
+    pub(crate) root: Option<u32>,
+}
+
+impl Record<'_> {
+    /// The moment or the time of day that the value counts; none of a value whose type counts none.
+    ///
+    /// ```
+    /// # use typebook::{Refusal, TypeBook};
+    /// # let book = TypeBook::new(twin::make::dated())?;
+    /// let tape = book.root(0)?.read(8, &[0x81, 0x51, 0x01, 0x00])?;
+    /// let moments: Vec<String> = tape.iter().filter_map(|r| r.moment()).map(|m| m.to_string()).collect();
+    /// assert_eq!(moments, ["1970-01-02T00:00:01"]);
+    /// # Ok::<(), Refusal>(())
+    /// ```
+    pub fn moment(&self) -> Option<Moment> {
+        match self.value {
+            Value::Nat { value, .. } => Moment::of(self.typed.resolved_name()?, value).ok(),
+            _ => None,
+        }
+    }
+}
+
+impl<'t> Typed<'t> {
+    /// The name of the type that is no alias and no array, whose values the records are.
+    fn resolved_name(&self) -> Option<&'t str> {
+        let named = |block: u32| total::find(self.book, name_in(self.book, block, total::type_name).as_bytes());
+        let mut block = match self.field {
+            Some(field) => named(field)?,
+            None => self.root?,
+        };
+        // A read resolves 31 aliases, and an array's elements may be named by others: a chain without end was not read.
+        for _ in 0..64 {
+            let mut values = [0; 1];
+            // Neither an alias nor an array is told by the pointer width.
+            total::determine(self.book, 8, block, &mut values);
+            match Category::from_number(values[0])? {
+                Category::Alias | Category::Array => block = named(block)?,
+                Category::Pointer | Category::Reference | Category::Enum | Category::SubRange => return None,
+                _ => return Some(name_in(self.book, block, total::name)),
+            }
+        }
+        None
+    }
 }
 
 /// The bytes of a record.
@@ -110,16 +164,19 @@ pub struct Tape<'b> {
     pub(crate) book: &'b [u8],
     pub(crate) records: Vec<u8>,
     pub(crate) text: Vec<u8>,
+    /// The root's block, of a tape that was read.
+    pub(crate) root: Option<u32>,
     /// Where the records stand that were changed since the read.
     pub(crate) edited: BTreeSet<usize>,
 }
 
 impl<'b> Tape<'b> {
-    pub(crate) fn new(book: &'b [u8], records: Vec<u8>, text: Vec<u8>) -> Self {
+    pub(crate) fn new(book: &'b [u8], root: Option<u32>, records: Vec<u8>, text: Vec<u8>) -> Self {
         Self {
             book,
             records,
             text,
+            root,
             edited: BTreeSet::new(),
         }
     }
@@ -164,6 +221,8 @@ impl<'b> Tape<'b> {
             tape: self,
             at: 0,
             level: 1,
+            field: None,
+            open: Vec::new(),
         }
     }
 
@@ -221,6 +280,10 @@ pub struct Records<'t> {
     tape: &'t Tape<'t>,
     at: usize,
     level: u32,
+    /// The field in which the next value lies, arrays around it apart.
+    field: Option<u32>,
+    /// The fields in which the open arrays and maps lie.
+    open: Vec<Option<u32>>,
 }
 
 impl<'t> Iterator for Records<'t> {
@@ -240,7 +303,23 @@ impl<'t> Iterator for Records<'t> {
             Value::Array(_) | Value::Map(_) => level + 1,
             _ => level,
         };
-        Some(Record { level, block, value })
+        match value {
+            Value::Array(_) | Value::Map(_) => self.open.push(self.field),
+            Value::End => self.field = self.open.pop().flatten(),
+            Value::Key(_) => self.field = block,
+            _ => {}
+        }
+        let typed = Typed {
+            book: self.tape.book,
+            field: self.field,
+            root: self.tape.root,
+        };
+        Some(Record {
+            level,
+            block,
+            value,
+            typed,
+        })
     }
 
     fn size_hint(&self) -> (usize, Option<usize>) {

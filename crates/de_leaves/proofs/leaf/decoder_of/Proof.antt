@@ -9,19 +9,15 @@ use Rattle.type_book.proofs.block.type_id.Reads as type-id-reads
 
 ruleset exits = (decoder-wide, decoder-narrow)
 
--- src/leaf.rt:142:8
 type-id-requires : tie.Need-type-id-requires
 type-id-requires c κs = search needs
 
--- src/leaf.rt:142:8
 to-u32-requires : tie.Need-to-u32-requires
 to-u32-requires c κs = search needs
 
--- src/leaf.rt:143:9
 returns : tie.Need-returns
 returns c = search exits
 
--- src/leaf.rt:139:1
 returns-2 : tie.Need-returns-2
 returns-2 c = search exits
 
