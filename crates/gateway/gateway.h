@@ -116,6 +116,16 @@ uint8_t gateway_type_name(const uint8_t *book, size_t book_len, uint32_t block, 
  * 8 function, 9 subrange, 10 string, 11 bitset, 12 pointer, 13 union, 14 reference, 15 interface. Any bytes are taken for a book. */
 uint8_t gateway_determine(const uint8_t *book, size_t book_len, uint8_t width, uint32_t block, uint64_t *values, size_t values_len);
 
+/* A count of time of the type of that name (TOD, TIME_OF_DAY, DATE, DT, DATE_AND_TIME, LDATE, LDT, LTOD).
+ * 0: values: year, month, day, hour, minute, second, nanosecond; a time of day has 0 for the first three.
+ * 24: another type (TIME and LTIME too), or a count that the type doesn't have. */
+uint8_t gateway_time_parts(const uint8_t *name, size_t name_len, uint64_t count, uint64_t *values, size_t values_len);
+
+/* The same back: parts has the seven numbers in that order, one that it doesn't have is 0.
+ * 0: values: the count. 24: another type, or parts that name no moment that the type can hold. */
+uint8_t gateway_time_count(const uint8_t *name, size_t name_len, const uint32_t *parts, size_t parts_len, uint64_t *values,
+                           size_t values_len);
+
 /* Appends one whole type (its block, its fields, its entries) to the book.
  * 0: values: the book's new length; the buffer holds the book, the piece after it, and then its bytes as before.
  * 1 to 3: the book's, then the piece's (3 also where it is not one whole type); 4: the book's, or its name is in the book; 15: no room in

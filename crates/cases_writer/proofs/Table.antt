@@ -1,4 +1,5 @@
 -- Worked examples of the writer's definitions. Assumes nothing.
+use mathlib.Core.Bool.{false}
 use mathlib.Core.Path.{_≡_, refl}
 use mathlib.Core.List.{List, [], _∷_, _++_, flatMap}
 use Prim.Native.Nat.{ℕ}
@@ -11,6 +12,8 @@ use Rattle.enc_windows_1252.specs.Index as enc-windows-1252-index
 use Rattle.type_book.specs.Book as type-book-book
 use Rattle.type_names.specs.Text as type-names-text
 use Rattle.type_names.specs.Names as type-names-names
+use Rattle.time_types.specs.Types as time-types-types
+use Rattle.time_types.specs.Counts as time-types-counts
 use Rattle.type_category.specs.Category as category
 use Rattle.type_id.specs.TypeId as type-id
 use Rattle.type_provider.specs.Find as find
@@ -33,71 +36,71 @@ use Rattle.ser.specs.Call as call
 use Rattle.cases_writer.specs.Example.{book, one, none, image, short, wide}
 
 -- U+0416 is `&#1046;` and a zero: it fits 8 bytes
-fits-eight : leaf.stringBytes leaf.textBy 30 zhe (replicate 8 0xee) ≡ leaf.holds (0x26 ∷ 0x23 ∷ 0x31 ∷ 0x30 ∷ 0x34 ∷ 0x36 ∷ 0x3b ∷ 0x00 ∷ [])
+fits-eight : leaf.textBy 30 false zhe (replicate 8 0xee) ≡ leaf.holds (0x26 ∷ 0x23 ∷ 0x31 ∷ 0x30 ∷ 0x34 ∷ 0x36 ∷ 0x3b ∷ 0x00 ∷ [])
 unfolding leaf.stringBytes leaf.textBy leaf.padded flatMap utf-8.leading utf-8.following utf-8.afterReply utf-8.decodeFrom enc-windows-1252-text.digits enc-windows-1252-text.bytesBy enc-windows-1252-text.encodeText enc-windows-1252-index.listedPoints enc-windows-1252-index.codePoint enc-windows-1252-index.firstFrom enc-windows-1252-index.byteOf
 fits-eight = refl
 
 -- and 7 are too few
-not-seven : leaf.stringBytes leaf.textBy 30 zhe (replicate 7 0xee) ≡ leaf.refused 10
+not-seven : leaf.textBy 30 false zhe (replicate 7 0xee) ≡ leaf.refused 10
 unfolding leaf.stringBytes leaf.textBy leaf.padded flatMap utf-8.leading utf-8.following utf-8.afterReply utf-8.decodeFrom enc-windows-1252-text.digits enc-windows-1252-text.bytesBy enc-windows-1252-text.encodeText enc-windows-1252-index.listedPoints enc-windows-1252-index.codePoint enc-windows-1252-index.firstFrom enc-windows-1252-index.byteOf
 not-seven = refl
 
 -- the field that is named gets its two bytes, the other keeps the image's
 second-set : rootWrite (ctx book 8 (one 2 2 7) []) 0 image ≡ went (record { at = 96 }) (0xfe ∷ 0xff ∷ 0x07 ∷ 0x00 ∷ [])
-unfolding call.typeWrite call.rootBy call.rootWrite write._then_ write.placed write.takenBy write.taken write.endRecordBy write.leafEnd write.leafOf element.shapeAt write.checked write.fieldValue write.foundValue write.keyBy write.keyOf write.keysFrom write.mapBy write.mapOf write.valueBy write.itemWalk write.walk leaf.exactly leaf.integerBy leaf.integerLeaf leaf.leafBy integer.twosComplement integer.twosBits integer.fitsSigned integer.fitsId integer.writeInteger integer.integerBytes named.namedFrom tape-record.recordBytes tape-record.recordOf tape-record.stepAt tape-text.nameIn tape-text.recordText fields.fieldOf fields.fieldFound fields.resolveField fields.fieldThen fields.fieldsFrom fields.fieldsCheck type-book-book.isNamed find.findFrom find.find resolve.isFollowed resolve.chainOnward resolve.follow block sumOf le.leValue le.leBytes type-book-book.sameName type-names-names.isPointerName category.isPointer category.isReference type-names-names.isSubRangeName category.isAlias category.orElse type-names-names.isPrimitiveName category.isUnion category.methodsCategory category.fieldsCategory category.isEmptyStruct category.bareCategory category.sizeCategory category.complexCategory category.simpleCategory category.categoryOf type-names-text.isOneOf type-names-text.startsWith type-names-text.contains type-id.idOf
+unfolding call.typeWrite call.rootBy call.rootWrite write._then_ write.placed write.takenBy write.taken write.endRecordBy write.leafEnd write.leafOf element.shapeAt write.checked write.fieldValue write.foundValue write.keyBy write.keyOf write.keysFrom write.mapBy write.mapOf write.valueBy write.itemWalk write.walk leaf.exactly leaf.integerBy leaf.integerLeaf leaf.leafBy leaf.leafFor integer.twosComplement integer.twosBits integer.fitsSigned integer.fitsId integer.writeInteger integer.integerBytes named.namedFrom tape-record.recordBytes tape-record.recordOf tape-record.stepAt tape-text.nameIn tape-text.recordText fields.fieldOf fields.fieldFound fields.resolveField fields.fieldThen fields.fieldsFrom fields.fieldsCheck type-book-book.isNamed find.findFrom find.find resolve.isFollowed resolve.chainOnward resolve.follow block sumOf le.leValue le.leBytes type-book-book.sameName type-names-names.isPointerName category.isPointer category.isReference type-names-names.isSubRangeName category.isAlias category.orElse type-names-names.isPrimitiveName category.isUnion category.methodsCategory category.fieldsCategory category.isEmptyStruct category.bareCategory category.sizeCategory category.complexCategory category.simpleCategory category.categoryOf type-names-text.isOneOf type-names-text.startsWith type-names-text.contains type-id.idOf time-types-counts.timeOf time-types-counts.countWidth time-types-types.timeTypeOf
 second-set = refl
 
 -- a record's own width does not matter: −2 in 8 bytes
 any-width : rootWrite (ctx book 8 (one 2 8 0xffff_ffff_ffff_fffe) []) 0 image ≡ went (record { at = 96 }) (0xfe ∷ 0xff ∷ 0xfe ∷ 0xff ∷ [])
-unfolding call.typeWrite call.rootBy call.rootWrite write._then_ write.placed write.takenBy write.taken write.endRecordBy write.leafEnd write.leafOf element.shapeAt write.checked write.fieldValue write.foundValue write.keyBy write.keyOf write.keysFrom write.mapBy write.mapOf write.valueBy write.itemWalk write.walk leaf.exactly leaf.integerBy leaf.integerLeaf leaf.leafBy integer.twosComplement integer.twosBits integer.fitsSigned integer.fitsId integer.writeInteger integer.integerBytes named.namedFrom tape-record.recordBytes tape-record.recordOf tape-record.stepAt tape-text.nameIn tape-text.recordText fields.fieldOf fields.fieldFound fields.resolveField fields.fieldThen fields.fieldsFrom fields.fieldsCheck type-book-book.isNamed find.findFrom find.find resolve.isFollowed resolve.chainOnward resolve.follow block sumOf le.leValue le.leBytes type-book-book.sameName type-names-names.isPointerName category.isPointer category.isReference type-names-names.isSubRangeName category.isAlias category.orElse type-names-names.isPrimitiveName category.isUnion category.methodsCategory category.fieldsCategory category.isEmptyStruct category.bareCategory category.sizeCategory category.complexCategory category.simpleCategory category.categoryOf type-names-text.isOneOf type-names-text.startsWith type-names-text.contains type-id.idOf
+unfolding call.typeWrite call.rootBy call.rootWrite write._then_ write.placed write.takenBy write.taken write.endRecordBy write.leafEnd write.leafOf element.shapeAt write.checked write.fieldValue write.foundValue write.keyBy write.keyOf write.keysFrom write.mapBy write.mapOf write.valueBy write.itemWalk write.walk leaf.exactly leaf.integerBy leaf.integerLeaf leaf.leafBy leaf.leafFor integer.twosComplement integer.twosBits integer.fitsSigned integer.fitsId integer.writeInteger integer.integerBytes named.namedFrom tape-record.recordBytes tape-record.recordOf tape-record.stepAt tape-text.nameIn tape-text.recordText fields.fieldOf fields.fieldFound fields.resolveField fields.fieldThen fields.fieldsFrom fields.fieldsCheck type-book-book.isNamed find.findFrom find.find resolve.isFollowed resolve.chainOnward resolve.follow block sumOf le.leValue le.leBytes type-book-book.sameName type-names-names.isPointerName category.isPointer category.isReference type-names-names.isSubRangeName category.isAlias category.orElse type-names-names.isPrimitiveName category.isUnion category.methodsCategory category.fieldsCategory category.isEmptyStruct category.bareCategory category.sizeCategory category.complexCategory category.simpleCategory category.categoryOf type-names-text.isOneOf type-names-text.startsWith type-names-text.contains type-id.idOf time-types-counts.timeOf time-types-counts.countWidth time-types-types.timeTypeOf
 any-width = refl
 
 -- 40,000 does not fit an INT
 out-of-range : rootWrite (ctx book 8 (one 1 4 40000) []) 0 image ≡ refused 19 0 image
-unfolding call.typeWrite call.rootBy call.rootWrite write._then_ write.placed write.takenBy write.taken write.endRecordBy write.leafEnd write.leafOf element.shapeAt write.checked write.fieldValue write.foundValue write.keyBy write.keyOf write.keysFrom write.mapBy write.mapOf write.valueBy write.itemWalk write.walk leaf.exactly leaf.integerBy leaf.integerLeaf leaf.leafBy integer.twosComplement integer.twosBits integer.fitsSigned integer.fitsId integer.integerWriteNumbers integer.writeInteger integer.integerBytes named.namedFrom tape-record.recordBytes tape-record.recordOf tape-record.stepAt tape-text.nameIn tape-text.recordText fields.fieldOf fields.fieldFound fields.resolveField fields.fieldThen fields.fieldsFrom fields.fieldsCheck type-book-book.isNamed find.findFrom find.find resolve.isFollowed resolve.chainOnward resolve.follow block sumOf le.leValue le.leBytes type-book-book.sameName type-names-names.isPointerName category.isPointer category.isReference type-names-names.isSubRangeName category.isAlias category.orElse type-names-names.isPrimitiveName category.isUnion category.methodsCategory category.fieldsCategory category.isEmptyStruct category.bareCategory category.sizeCategory category.complexCategory category.simpleCategory category.categoryOf type-names-text.isOneOf type-names-text.startsWith type-names-text.contains type-id.idOf
+unfolding call.typeWrite call.rootBy call.rootWrite write._then_ write.placed write.takenBy write.taken write.endRecordBy write.leafEnd write.leafOf element.shapeAt write.checked write.fieldValue write.foundValue write.keyBy write.keyOf write.keysFrom write.mapBy write.mapOf write.valueBy write.itemWalk write.walk leaf.exactly leaf.integerBy leaf.integerLeaf leaf.leafBy leaf.leafFor integer.twosComplement integer.twosBits integer.fitsSigned integer.fitsId integer.integerWriteNumbers integer.writeInteger integer.integerBytes named.namedFrom tape-record.recordBytes tape-record.recordOf tape-record.stepAt tape-text.nameIn tape-text.recordText fields.fieldOf fields.fieldFound fields.resolveField fields.fieldThen fields.fieldsFrom fields.fieldsCheck type-book-book.isNamed find.findFrom find.find resolve.isFollowed resolve.chainOnward resolve.follow block sumOf le.leValue le.leBytes type-book-book.sameName type-names-names.isPointerName category.isPointer category.isReference type-names-names.isSubRangeName category.isAlias category.orElse type-names-names.isPrimitiveName category.isUnion category.methodsCategory category.fieldsCategory category.isEmptyStruct category.bareCategory category.sizeCategory category.complexCategory category.simpleCategory category.categoryOf type-names-text.isOneOf type-names-text.startsWith type-names-text.contains type-id.idOf time-types-counts.timeOf time-types-counts.countWidth time-types-types.timeTypeOf
 out-of-range = refl
 
 -- no field has the name of block 3
 unknown-name : rootWrite (ctx book 8 (one 3 2 7) []) 0 image ≡ refused 18 0 image
-unfolding call.typeWrite call.rootBy call.rootWrite write._then_ write.placed write.takenBy write.taken write.endRecordBy write.leafEnd write.leafOf element.shapeAt write.checked write.fieldValue write.foundValue write.keyBy write.keyOf write.keysFrom write.mapBy write.mapOf write.valueBy write.itemWalk write.walk leaf.exactly leaf.integerBy leaf.integerLeaf leaf.leafBy integer.twosComplement integer.twosBits integer.fitsSigned integer.fitsId integer.writeInteger integer.integerBytes named.namedFrom tape-record.recordBytes tape-record.recordOf tape-record.stepAt tape-text.nameIn tape-text.recordText fields.fieldOf fields.fieldFound fields.resolveField fields.fieldThen fields.fieldsFrom fields.fieldsCheck type-book-book.isNamed find.findFrom find.find resolve.isFollowed resolve.chainOnward resolve.follow block sumOf le.leValue le.leBytes type-book-book.sameName type-names-names.isPointerName category.isPointer category.isReference type-names-names.isSubRangeName category.isAlias category.orElse type-names-names.isPrimitiveName category.isUnion category.methodsCategory category.fieldsCategory category.isEmptyStruct category.bareCategory category.sizeCategory category.complexCategory category.simpleCategory category.categoryOf type-names-text.isOneOf type-names-text.startsWith type-names-text.contains type-id.idOf
+unfolding call.typeWrite call.rootBy call.rootWrite write._then_ write.placed write.takenBy write.taken write.endRecordBy write.leafEnd write.leafOf element.shapeAt write.checked write.fieldValue write.foundValue write.keyBy write.keyOf write.keysFrom write.mapBy write.mapOf write.valueBy write.itemWalk write.walk leaf.exactly leaf.integerBy leaf.integerLeaf leaf.leafBy leaf.leafFor integer.twosComplement integer.twosBits integer.fitsSigned integer.fitsId integer.writeInteger integer.integerBytes named.namedFrom tape-record.recordBytes tape-record.recordOf tape-record.stepAt tape-text.nameIn tape-text.recordText fields.fieldOf fields.fieldFound fields.resolveField fields.fieldThen fields.fieldsFrom fields.fieldsCheck type-book-book.isNamed find.findFrom find.find resolve.isFollowed resolve.chainOnward resolve.follow block sumOf le.leValue le.leBytes type-book-book.sameName type-names-names.isPointerName category.isPointer category.isReference type-names-names.isSubRangeName category.isAlias category.orElse type-names-names.isPrimitiveName category.isUnion category.methodsCategory category.fieldsCategory category.isEmptyStruct category.bareCategory category.sizeCategory category.complexCategory category.simpleCategory category.categoryOf type-names-text.isOneOf type-names-text.startsWith type-names-text.contains type-id.idOf time-types-counts.timeOf time-types-counts.countWidth time-types-types.timeTypeOf
 unknown-name = refl
 
 -- fields that are not named keep the image's bytes
 none-set : rootWrite (ctx book 8 none []) 0 image ≡ went (record { at = 48 }) image
-unfolding call.typeWrite call.rootBy call.rootWrite write._then_ write.placed write.takenBy write.taken write.endRecordBy write.leafEnd write.leafOf element.shapeAt write.checked write.fieldValue write.foundValue write.keyBy write.keyOf write.keysFrom write.mapBy write.mapOf write.valueBy write.itemWalk write.walk leaf.exactly leaf.integerBy leaf.integerLeaf leaf.leafBy integer.twosComplement integer.twosBits integer.fitsSigned integer.fitsId integer.writeInteger integer.integerBytes named.namedFrom tape-record.recordBytes tape-record.recordOf tape-record.stepAt tape-text.nameIn tape-text.recordText fields.fieldOf fields.fieldFound fields.resolveField fields.fieldThen fields.fieldsFrom fields.fieldsCheck type-book-book.isNamed find.findFrom find.find resolve.isFollowed resolve.chainOnward resolve.follow block sumOf le.leValue le.leBytes type-book-book.sameName type-names-names.isPointerName category.isPointer category.isReference type-names-names.isSubRangeName category.isAlias category.orElse type-names-names.isPrimitiveName category.isUnion category.methodsCategory category.fieldsCategory category.isEmptyStruct category.bareCategory category.sizeCategory category.complexCategory category.simpleCategory category.categoryOf type-names-text.isOneOf type-names-text.startsWith type-names-text.contains type-id.idOf
+unfolding call.typeWrite call.rootBy call.rootWrite write._then_ write.placed write.takenBy write.taken write.endRecordBy write.leafEnd write.leafOf element.shapeAt write.checked write.fieldValue write.foundValue write.keyBy write.keyOf write.keysFrom write.mapBy write.mapOf write.valueBy write.itemWalk write.walk leaf.exactly leaf.integerBy leaf.integerLeaf leaf.leafBy leaf.leafFor integer.twosComplement integer.twosBits integer.fitsSigned integer.fitsId integer.writeInteger integer.integerBytes named.namedFrom tape-record.recordBytes tape-record.recordOf tape-record.stepAt tape-text.nameIn tape-text.recordText fields.fieldOf fields.fieldFound fields.resolveField fields.fieldThen fields.fieldsFrom fields.fieldsCheck type-book-book.isNamed find.findFrom find.find resolve.isFollowed resolve.chainOnward resolve.follow block sumOf le.leValue le.leBytes type-book-book.sameName type-names-names.isPointerName category.isPointer category.isReference type-names-names.isSubRangeName category.isAlias category.orElse type-names-names.isPrimitiveName category.isUnion category.methodsCategory category.fieldsCategory category.isEmptyStruct category.bareCategory category.sizeCategory category.complexCategory category.simpleCategory category.categoryOf type-names-text.isOneOf type-names-text.startsWith type-names-text.contains type-id.idOf time-types-counts.timeOf time-types-counts.countWidth time-types-types.timeTypeOf
 none-set = refl
 
 -- the struct's size is held against the bytes before any key
 other-size : rootWrite (ctx book 8 (one 3 2 7) []) 0 (0xfe ∷ []) ≡ refused 10 0 (0xfe ∷ [])
-unfolding call.typeWrite call.rootBy call.rootWrite write._then_ write.placed write.takenBy write.taken write.endRecordBy write.leafEnd write.leafOf element.shapeAt write.checked write.fieldValue write.foundValue write.keyBy write.keyOf write.keysFrom write.mapBy write.mapOf write.valueBy write.itemWalk write.walk leaf.exactly leaf.integerBy leaf.integerLeaf leaf.leafBy integer.twosComplement integer.twosBits integer.fitsSigned integer.fitsId integer.writeInteger integer.integerBytes named.namedFrom tape-record.recordBytes tape-record.recordOf tape-record.stepAt tape-text.nameIn tape-text.recordText fields.fieldOf fields.fieldFound fields.resolveField fields.fieldThen fields.fieldsFrom fields.fieldsCheck type-book-book.isNamed find.findFrom find.find resolve.isFollowed resolve.chainOnward resolve.follow block sumOf le.leValue le.leBytes type-book-book.sameName type-names-names.isPointerName category.isPointer category.isReference type-names-names.isSubRangeName category.isAlias category.orElse type-names-names.isPrimitiveName category.isUnion category.methodsCategory category.fieldsCategory category.isEmptyStruct category.bareCategory category.sizeCategory category.complexCategory category.simpleCategory category.categoryOf type-names-text.isOneOf type-names-text.startsWith type-names-text.contains type-id.idOf
+unfolding call.typeWrite call.rootBy call.rootWrite write._then_ write.placed write.takenBy write.taken write.endRecordBy write.leafEnd write.leafOf element.shapeAt write.checked write.fieldValue write.foundValue write.keyBy write.keyOf write.keysFrom write.mapBy write.mapOf write.valueBy write.itemWalk write.walk leaf.exactly leaf.integerBy leaf.integerLeaf leaf.leafBy leaf.leafFor integer.twosComplement integer.twosBits integer.fitsSigned integer.fitsId integer.writeInteger integer.integerBytes named.namedFrom tape-record.recordBytes tape-record.recordOf tape-record.stepAt tape-text.nameIn tape-text.recordText fields.fieldOf fields.fieldFound fields.resolveField fields.fieldThen fields.fieldsFrom fields.fieldsCheck type-book-book.isNamed find.findFrom find.find resolve.isFollowed resolve.chainOnward resolve.follow block sumOf le.leValue le.leBytes type-book-book.sameName type-names-names.isPointerName category.isPointer category.isReference type-names-names.isSubRangeName category.isAlias category.orElse type-names-names.isPrimitiveName category.isUnion category.methodsCategory category.fieldsCategory category.isEmptyStruct category.bareCategory category.sizeCategory category.complexCategory category.simpleCategory category.categoryOf type-names-text.isOneOf type-names-text.startsWith type-names-text.contains type-id.idOf time-types-counts.timeOf time-types-counts.countWidth time-types-types.timeTypeOf
 other-size = refl
 
 -- a map does not go into an INT
 not-into-int : rootWrite (ctx book 8 none []) 3 (0xfe ∷ []) ≡ refused 17 0 (0xfe ∷ [])
-unfolding call.typeWrite call.rootBy call.rootWrite write._then_ write.placed write.takenBy write.taken write.endRecordBy write.leafEnd write.leafOf element.shapeAt write.checked write.fieldValue write.foundValue write.keyBy write.keyOf write.keysFrom write.mapBy write.mapOf write.valueBy write.itemWalk write.walk leaf.exactly leaf.integerBy leaf.integerLeaf leaf.leafBy integer.twosComplement integer.twosBits integer.fitsSigned integer.fitsId integer.writeInteger integer.integerBytes named.namedFrom tape-record.recordBytes tape-record.recordOf tape-record.stepAt tape-text.nameIn tape-text.recordText fields.fieldOf fields.fieldFound fields.resolveField fields.fieldThen fields.fieldsFrom fields.fieldsCheck type-book-book.isNamed find.findFrom find.find resolve.isFollowed resolve.chainOnward resolve.follow block sumOf le.leValue le.leBytes type-book-book.sameName type-names-names.isPointerName category.isPointer category.isReference type-names-names.isSubRangeName category.isAlias category.orElse type-names-names.isPrimitiveName category.isUnion category.methodsCategory category.fieldsCategory category.isEmptyStruct category.bareCategory category.sizeCategory category.complexCategory category.simpleCategory category.categoryOf type-names-text.isOneOf type-names-text.startsWith type-names-text.contains type-id.idOf
+unfolding call.typeWrite call.rootBy call.rootWrite write._then_ write.placed write.takenBy write.taken write.endRecordBy write.leafEnd write.leafOf element.shapeAt write.checked write.fieldValue write.foundValue write.keyBy write.keyOf write.keysFrom write.mapBy write.mapOf write.valueBy write.itemWalk write.walk leaf.exactly leaf.integerBy leaf.integerLeaf leaf.leafBy leaf.leafFor integer.twosComplement integer.twosBits integer.fitsSigned integer.fitsId integer.writeInteger integer.integerBytes named.namedFrom tape-record.recordBytes tape-record.recordOf tape-record.stepAt tape-text.nameIn tape-text.recordText fields.fieldOf fields.fieldFound fields.resolveField fields.fieldThen fields.fieldsFrom fields.fieldsCheck type-book-book.isNamed find.findFrom find.find resolve.isFollowed resolve.chainOnward resolve.follow block sumOf le.leValue le.leBytes type-book-book.sameName type-names-names.isPointerName category.isPointer category.isReference type-names-names.isSubRangeName category.isAlias category.orElse type-names-names.isPrimitiveName category.isUnion category.methodsCategory category.fieldsCategory category.isEmptyStruct category.bareCategory category.sizeCategory category.complexCategory category.simpleCategory category.categoryOf type-names-text.isOneOf type-names-text.startsWith type-names-text.contains type-id.idOf time-types-counts.timeOf time-types-counts.countWidth time-types-types.timeTypeOf
 not-into-int = refl
 
 -- a tape with its form is walked
 formed-set : bookWrite (ctx book 8 (one 2 2 7) []) 0 4 image ≡ went (record { at = 96 }) (0xfe ∷ 0xff ∷ 0x07 ∷ 0x00 ∷ [])
-unfolding call.bookWrite form.formed form.atTapeEnd form.valueAt form.bodyBy form.recordShape form.memberAt form.several form.closingRecord form.formOnward form.withRecord ranges.leafFine ranges.leafBy ranges.textual ranges.integerFine ranges.sized ranges.onlyB ranges.namesBlock ranges.empty ranges.onlyA ranges.textIn ranges.blockIs ranges.isWidth ranges.unused ranges.undeclared ranges.declares ranges.opens ranges.closes ranges.isKey integer.fitsUnsigned call.typeWrite call.rootBy call.rootWrite write._then_ write.placed write.takenBy write.taken write.endRecordBy write.leafEnd write.leafOf element.shapeAt write.checked write.fieldValue write.foundValue write.keyBy write.keyOf write.keysFrom write.mapBy write.mapOf write.valueBy write.itemWalk write.walk leaf.exactly leaf.integerBy leaf.integerLeaf leaf.leafBy integer.twosComplement integer.twosBits integer.fitsSigned integer.fitsId integer.writeInteger integer.integerBytes named.namedFrom tape-record.recordBytes tape-record.recordOf tape-record.stepAt tape-text.nameIn tape-text.recordText fields.fieldOf fields.fieldFound fields.resolveField fields.fieldThen fields.fieldsFrom fields.fieldsCheck type-book-book.isNamed find.findFrom find.find resolve.isFollowed resolve.chainOnward resolve.follow block sumOf le.leValue le.leBytes type-book-book.sameName type-names-names.isPointerName category.isPointer category.isReference type-names-names.isSubRangeName category.isAlias category.orElse type-names-names.isPrimitiveName category.isUnion category.methodsCategory category.fieldsCategory category.isEmptyStruct category.bareCategory category.sizeCategory category.complexCategory category.simpleCategory category.categoryOf type-names-text.isOneOf type-names-text.startsWith type-names-text.contains type-id.idOf
+unfolding call.bookWrite form.formed form.atTapeEnd form.valueAt form.bodyBy form.recordShape form.memberAt form.several form.closingRecord form.formOnward form.withRecord ranges.leafFine ranges.leafBy ranges.textual ranges.integerFine ranges.sized ranges.onlyB ranges.namesBlock ranges.empty ranges.onlyA ranges.textIn ranges.blockIs ranges.isWidth ranges.unused ranges.undeclared ranges.declares ranges.opens ranges.closes ranges.isKey integer.fitsUnsigned call.typeWrite call.rootBy call.rootWrite write._then_ write.placed write.takenBy write.taken write.endRecordBy write.leafEnd write.leafOf element.shapeAt write.checked write.fieldValue write.foundValue write.keyBy write.keyOf write.keysFrom write.mapBy write.mapOf write.valueBy write.itemWalk write.walk leaf.exactly leaf.integerBy leaf.integerLeaf leaf.leafBy leaf.leafFor integer.twosComplement integer.twosBits integer.fitsSigned integer.fitsId integer.writeInteger integer.integerBytes named.namedFrom tape-record.recordBytes tape-record.recordOf tape-record.stepAt tape-text.nameIn tape-text.recordText fields.fieldOf fields.fieldFound fields.resolveField fields.fieldThen fields.fieldsFrom fields.fieldsCheck type-book-book.isNamed find.findFrom find.find resolve.isFollowed resolve.chainOnward resolve.follow block sumOf le.leValue le.leBytes type-book-book.sameName type-names-names.isPointerName category.isPointer category.isReference type-names-names.isSubRangeName category.isAlias category.orElse type-names-names.isPrimitiveName category.isUnion category.methodsCategory category.fieldsCategory category.isEmptyStruct category.bareCategory category.sizeCategory category.complexCategory category.simpleCategory category.categoryOf type-names-text.isOneOf type-names-text.startsWith type-names-text.contains type-id.idOf time-types-counts.timeOf time-types-counts.countWidth time-types-types.timeTypeOf
 formed-set = refl
 
 -- a count of two keys over one, of an unknown name: 16 before 18
 form-before-name : bookWrite (ctx book 8 (short 3) []) 0 4 image ≡ refused 16 0 image
-unfolding call.bookWrite form.formed form.atTapeEnd form.valueAt form.bodyBy form.recordShape form.memberAt form.several form.closingRecord form.formOnward form.withRecord ranges.leafFine ranges.leafBy ranges.textual ranges.integerFine ranges.sized ranges.onlyB ranges.namesBlock ranges.empty ranges.onlyA ranges.textIn ranges.blockIs ranges.isWidth ranges.unused ranges.undeclared ranges.declares ranges.opens ranges.closes ranges.isKey integer.fitsUnsigned call.typeWrite call.rootBy call.rootWrite write._then_ write.placed write.takenBy write.taken write.endRecordBy write.leafEnd write.leafOf element.shapeAt write.checked write.fieldValue write.foundValue write.keyBy write.keyOf write.keysFrom write.mapBy write.mapOf write.valueBy write.itemWalk write.walk leaf.exactly leaf.integerBy leaf.integerLeaf leaf.leafBy integer.twosComplement integer.twosBits integer.fitsSigned integer.fitsId integer.writeInteger integer.integerBytes named.namedFrom tape-record.recordBytes tape-record.recordOf tape-record.stepAt tape-text.nameIn tape-text.recordText fields.fieldOf fields.fieldFound fields.resolveField fields.fieldThen fields.fieldsFrom fields.fieldsCheck type-book-book.isNamed find.findFrom find.find resolve.isFollowed resolve.chainOnward resolve.follow block sumOf le.leValue le.leBytes type-book-book.sameName type-names-names.isPointerName category.isPointer category.isReference type-names-names.isSubRangeName category.isAlias category.orElse type-names-names.isPrimitiveName category.isUnion category.methodsCategory category.fieldsCategory category.isEmptyStruct category.bareCategory category.sizeCategory category.complexCategory category.simpleCategory category.categoryOf type-names-text.isOneOf type-names-text.startsWith type-names-text.contains type-id.idOf
+unfolding call.bookWrite form.formed form.atTapeEnd form.valueAt form.bodyBy form.recordShape form.memberAt form.several form.closingRecord form.formOnward form.withRecord ranges.leafFine ranges.leafBy ranges.textual ranges.integerFine ranges.sized ranges.onlyB ranges.namesBlock ranges.empty ranges.onlyA ranges.textIn ranges.blockIs ranges.isWidth ranges.unused ranges.undeclared ranges.declares ranges.opens ranges.closes ranges.isKey integer.fitsUnsigned call.typeWrite call.rootBy call.rootWrite write._then_ write.placed write.takenBy write.taken write.endRecordBy write.leafEnd write.leafOf element.shapeAt write.checked write.fieldValue write.foundValue write.keyBy write.keyOf write.keysFrom write.mapBy write.mapOf write.valueBy write.itemWalk write.walk leaf.exactly leaf.integerBy leaf.integerLeaf leaf.leafBy leaf.leafFor integer.twosComplement integer.twosBits integer.fitsSigned integer.fitsId integer.writeInteger integer.integerBytes named.namedFrom tape-record.recordBytes tape-record.recordOf tape-record.stepAt tape-text.nameIn tape-text.recordText fields.fieldOf fields.fieldFound fields.resolveField fields.fieldThen fields.fieldsFrom fields.fieldsCheck type-book-book.isNamed find.findFrom find.find resolve.isFollowed resolve.chainOnward resolve.follow block sumOf le.leValue le.leBytes type-book-book.sameName type-names-names.isPointerName category.isPointer category.isReference type-names-names.isSubRangeName category.isAlias category.orElse type-names-names.isPrimitiveName category.isUnion category.methodsCategory category.fieldsCategory category.isEmptyStruct category.bareCategory category.sizeCategory category.complexCategory category.simpleCategory category.categoryOf type-names-text.isOneOf type-names-text.startsWith type-names-text.contains type-id.idOf time-types-counts.timeOf time-types-counts.countWidth time-types-types.timeTypeOf
 form-before-name = refl
 
 -- 40,000 in two signed bytes has no form: 16 before 19
 form-before-range : bookWrite (ctx book 8 (one 1 2 40000) []) 0 4 image ≡ refused 16 0 image
-unfolding call.bookWrite form.formed form.atTapeEnd form.valueAt form.bodyBy form.recordShape form.memberAt form.several form.closingRecord form.formOnward form.withRecord ranges.leafFine ranges.leafBy ranges.textual ranges.integerFine ranges.sized ranges.onlyB ranges.namesBlock ranges.empty ranges.onlyA ranges.textIn ranges.blockIs ranges.isWidth ranges.unused ranges.undeclared ranges.declares ranges.opens ranges.closes ranges.isKey integer.fitsUnsigned call.typeWrite call.rootBy call.rootWrite write._then_ write.placed write.takenBy write.taken write.endRecordBy write.leafEnd write.leafOf element.shapeAt write.checked write.fieldValue write.foundValue write.keyBy write.keyOf write.keysFrom write.mapBy write.mapOf write.valueBy write.itemWalk write.walk leaf.exactly leaf.integerBy leaf.integerLeaf leaf.leafBy integer.twosComplement integer.twosBits integer.fitsSigned integer.fitsId integer.writeInteger integer.integerBytes named.namedFrom tape-record.recordBytes tape-record.recordOf tape-record.stepAt tape-text.nameIn tape-text.recordText fields.fieldOf fields.fieldFound fields.resolveField fields.fieldThen fields.fieldsFrom fields.fieldsCheck type-book-book.isNamed find.findFrom find.find resolve.isFollowed resolve.chainOnward resolve.follow block sumOf le.leValue le.leBytes type-book-book.sameName type-names-names.isPointerName category.isPointer category.isReference type-names-names.isSubRangeName category.isAlias category.orElse type-names-names.isPrimitiveName category.isUnion category.methodsCategory category.fieldsCategory category.isEmptyStruct category.bareCategory category.sizeCategory category.complexCategory category.simpleCategory category.categoryOf type-names-text.isOneOf type-names-text.startsWith type-names-text.contains type-id.idOf
+unfolding call.bookWrite form.formed form.atTapeEnd form.valueAt form.bodyBy form.recordShape form.memberAt form.several form.closingRecord form.formOnward form.withRecord ranges.leafFine ranges.leafBy ranges.textual ranges.integerFine ranges.sized ranges.onlyB ranges.namesBlock ranges.empty ranges.onlyA ranges.textIn ranges.blockIs ranges.isWidth ranges.unused ranges.undeclared ranges.declares ranges.opens ranges.closes ranges.isKey integer.fitsUnsigned call.typeWrite call.rootBy call.rootWrite write._then_ write.placed write.takenBy write.taken write.endRecordBy write.leafEnd write.leafOf element.shapeAt write.checked write.fieldValue write.foundValue write.keyBy write.keyOf write.keysFrom write.mapBy write.mapOf write.valueBy write.itemWalk write.walk leaf.exactly leaf.integerBy leaf.integerLeaf leaf.leafBy leaf.leafFor integer.twosComplement integer.twosBits integer.fitsSigned integer.fitsId integer.writeInteger integer.integerBytes named.namedFrom tape-record.recordBytes tape-record.recordOf tape-record.stepAt tape-text.nameIn tape-text.recordText fields.fieldOf fields.fieldFound fields.resolveField fields.fieldThen fields.fieldsFrom fields.fieldsCheck type-book-book.isNamed find.findFrom find.find resolve.isFollowed resolve.chainOnward resolve.follow block sumOf le.leValue le.leBytes type-book-book.sameName type-names-names.isPointerName category.isPointer category.isReference type-names-names.isSubRangeName category.isAlias category.orElse type-names-names.isPrimitiveName category.isUnion category.methodsCategory category.fieldsCategory category.isEmptyStruct category.bareCategory category.sizeCategory category.complexCategory category.simpleCategory category.categoryOf type-names-text.isOneOf type-names-text.startsWith type-names-text.contains type-id.idOf time-types-counts.timeOf time-types-counts.countWidth time-types-types.timeTypeOf
 form-before-range = refl
 
 -- bytes 4 to 7 of a value are a type block, or 16: the walk alone would not see them
 declared-field : bookWrite (ctx book 8 wide []) 0 4 image ≡ refused 16 0 image
-unfolding call.bookWrite form.formed form.atTapeEnd form.valueAt form.bodyBy form.recordShape form.memberAt form.several form.closingRecord form.formOnward form.withRecord ranges.leafFine ranges.leafBy ranges.textual ranges.integerFine ranges.sized ranges.onlyB ranges.namesBlock ranges.empty ranges.onlyA ranges.textIn ranges.blockIs ranges.isWidth ranges.unused ranges.undeclared ranges.declares ranges.opens ranges.closes ranges.isKey integer.fitsUnsigned call.typeWrite call.rootBy call.rootWrite write._then_ write.placed write.takenBy write.taken write.endRecordBy write.leafEnd write.leafOf element.shapeAt write.checked write.fieldValue write.foundValue write.keyBy write.keyOf write.keysFrom write.mapBy write.mapOf write.valueBy write.itemWalk write.walk leaf.exactly leaf.integerBy leaf.integerLeaf leaf.leafBy integer.twosComplement integer.twosBits integer.fitsSigned integer.fitsId integer.writeInteger integer.integerBytes named.namedFrom tape-record.recordBytes tape-record.recordOf tape-record.stepAt tape-text.nameIn tape-text.recordText fields.fieldOf fields.fieldFound fields.resolveField fields.fieldThen fields.fieldsFrom fields.fieldsCheck type-book-book.isNamed find.findFrom find.find resolve.isFollowed resolve.chainOnward resolve.follow block sumOf le.leValue le.leBytes type-book-book.sameName type-names-names.isPointerName category.isPointer category.isReference type-names-names.isSubRangeName category.isAlias category.orElse type-names-names.isPrimitiveName category.isUnion category.methodsCategory category.fieldsCategory category.isEmptyStruct category.bareCategory category.sizeCategory category.complexCategory category.simpleCategory category.categoryOf type-names-text.isOneOf type-names-text.startsWith type-names-text.contains type-id.idOf
+unfolding call.bookWrite form.formed form.atTapeEnd form.valueAt form.bodyBy form.recordShape form.memberAt form.several form.closingRecord form.formOnward form.withRecord ranges.leafFine ranges.leafBy ranges.textual ranges.integerFine ranges.sized ranges.onlyB ranges.namesBlock ranges.empty ranges.onlyA ranges.textIn ranges.blockIs ranges.isWidth ranges.unused ranges.undeclared ranges.declares ranges.opens ranges.closes ranges.isKey integer.fitsUnsigned call.typeWrite call.rootBy call.rootWrite write._then_ write.placed write.takenBy write.taken write.endRecordBy write.leafEnd write.leafOf element.shapeAt write.checked write.fieldValue write.foundValue write.keyBy write.keyOf write.keysFrom write.mapBy write.mapOf write.valueBy write.itemWalk write.walk leaf.exactly leaf.integerBy leaf.integerLeaf leaf.leafBy leaf.leafFor integer.twosComplement integer.twosBits integer.fitsSigned integer.fitsId integer.writeInteger integer.integerBytes named.namedFrom tape-record.recordBytes tape-record.recordOf tape-record.stepAt tape-text.nameIn tape-text.recordText fields.fieldOf fields.fieldFound fields.resolveField fields.fieldThen fields.fieldsFrom fields.fieldsCheck type-book-book.isNamed find.findFrom find.find resolve.isFollowed resolve.chainOnward resolve.follow block sumOf le.leValue le.leBytes type-book-book.sameName type-names-names.isPointerName category.isPointer category.isReference type-names-names.isSubRangeName category.isAlias category.orElse type-names-names.isPrimitiveName category.isUnion category.methodsCategory category.fieldsCategory category.isEmptyStruct category.bareCategory category.sizeCategory category.complexCategory category.simpleCategory category.categoryOf type-names-text.isOneOf type-names-text.startsWith type-names-text.contains type-id.idOf time-types-counts.timeOf time-types-counts.countWidth time-types-types.timeTypeOf
 declared-field = refl
 
 -- an output of another length: 10 before 16
 length-before-form : bookWrite (ctx book 8 (short 3) []) 0 3 image ≡ refused 10 0 image
-unfolding call.bookWrite form.formed form.atTapeEnd form.valueAt form.bodyBy form.recordShape form.memberAt form.several form.closingRecord form.formOnward form.withRecord ranges.leafFine ranges.leafBy ranges.textual ranges.integerFine ranges.sized ranges.onlyB ranges.namesBlock ranges.empty ranges.onlyA ranges.textIn ranges.blockIs ranges.isWidth ranges.unused ranges.undeclared ranges.declares ranges.opens ranges.closes ranges.isKey integer.fitsUnsigned call.typeWrite call.rootBy call.rootWrite write._then_ write.placed write.takenBy write.taken write.endRecordBy write.leafEnd write.leafOf element.shapeAt write.checked write.fieldValue write.foundValue write.keyBy write.keyOf write.keysFrom write.mapBy write.mapOf write.valueBy write.itemWalk write.walk leaf.exactly leaf.integerBy leaf.integerLeaf leaf.leafBy integer.twosComplement integer.twosBits integer.fitsSigned integer.fitsId integer.writeInteger integer.integerBytes named.namedFrom tape-record.recordBytes tape-record.recordOf tape-record.stepAt tape-text.nameIn tape-text.recordText fields.fieldOf fields.fieldFound fields.resolveField fields.fieldThen fields.fieldsFrom fields.fieldsCheck type-book-book.isNamed find.findFrom find.find resolve.isFollowed resolve.chainOnward resolve.follow block sumOf le.leValue le.leBytes type-book-book.sameName type-names-names.isPointerName category.isPointer category.isReference type-names-names.isSubRangeName category.isAlias category.orElse type-names-names.isPrimitiveName category.isUnion category.methodsCategory category.fieldsCategory category.isEmptyStruct category.bareCategory category.sizeCategory category.complexCategory category.simpleCategory category.categoryOf type-names-text.isOneOf type-names-text.startsWith type-names-text.contains type-id.idOf
+unfolding call.bookWrite form.formed form.atTapeEnd form.valueAt form.bodyBy form.recordShape form.memberAt form.several form.closingRecord form.formOnward form.withRecord ranges.leafFine ranges.leafBy ranges.textual ranges.integerFine ranges.sized ranges.onlyB ranges.namesBlock ranges.empty ranges.onlyA ranges.textIn ranges.blockIs ranges.isWidth ranges.unused ranges.undeclared ranges.declares ranges.opens ranges.closes ranges.isKey integer.fitsUnsigned call.typeWrite call.rootBy call.rootWrite write._then_ write.placed write.takenBy write.taken write.endRecordBy write.leafEnd write.leafOf element.shapeAt write.checked write.fieldValue write.foundValue write.keyBy write.keyOf write.keysFrom write.mapBy write.mapOf write.valueBy write.itemWalk write.walk leaf.exactly leaf.integerBy leaf.integerLeaf leaf.leafBy leaf.leafFor integer.twosComplement integer.twosBits integer.fitsSigned integer.fitsId integer.writeInteger integer.integerBytes named.namedFrom tape-record.recordBytes tape-record.recordOf tape-record.stepAt tape-text.nameIn tape-text.recordText fields.fieldOf fields.fieldFound fields.resolveField fields.fieldThen fields.fieldsFrom fields.fieldsCheck type-book-book.isNamed find.findFrom find.find resolve.isFollowed resolve.chainOnward resolve.follow block sumOf le.leValue le.leBytes type-book-book.sameName type-names-names.isPointerName category.isPointer category.isReference type-names-names.isSubRangeName category.isAlias category.orElse type-names-names.isPrimitiveName category.isUnion category.methodsCategory category.fieldsCategory category.isEmptyStruct category.bareCategory category.sizeCategory category.complexCategory category.simpleCategory category.categoryOf type-names-text.isOneOf type-names-text.startsWith type-names-text.contains type-id.idOf time-types-counts.timeOf time-types-counts.countWidth time-types-types.timeTypeOf
 length-before-form = refl

@@ -14,6 +14,7 @@ use Rattle.enc_float.specs.declared.Real.{Real}
 use Rattle.enc_float.proofs.Reals.{single-by, double-by, single-back, double-back, read-single, read-double}
 use Rattle.type_book.specs.Book.{typeIdOf}
 use Rattle.type_category.specs.Category.{categoryOf}
+use Rattle.time_types.specs.Counts.{countWidth}
 use Rattle.tape.specs.Record.{newRecord, declaring}
 use Rattle.de_leaves.specs.declared.leaf.LeafKind.the-variants as kind
 use Rattle.de_leaves.specs.Leaf.{kindOfLeaf, realLeaf, realOr, numberLeaf, kindLeaf, leafBy, leafAt}
@@ -27,11 +28,11 @@ module _ (m : ℕ) (mem : List ℕ) where
   double-trace : (n : ℕ) → traceOf m (realLeaf (doubleOf n)) mem ≡ one (rec (declaring m (newRecord 10 0 0 (realBits (doubleOf n)))))
   double-trace n = double-by (λ (v : Real). traceOf m (realLeaf v) mem ≡ one (rec (declaring m (newRecord 10 0 0 (realBits v))))) (λ m. refl) (λ x. refl) n
 
--- a resolved type t that is read by its id
-module _ (book : List ℕ) (width m t : ℕ) (mem : List ℕ) (by-id : kindOfLeaf (categoryOf book width t) ≡ kind.Number) (bytes : Bytes mem) where
+-- a resolved type t that is read by its id, being no count of time
+module _ (book : List ℕ) (width m t : ℕ) (mem : List ℕ) (by-id : kindOfLeaf (categoryOf book width t) ≡ kind.Number) (no-count : countWidth book t (categoryOf book width t) ≡ 0) (bytes : Bytes mem) where
   by-number : leafAt book width t mem ≡ numberLeaf book t mem
   unfolding leafAt leafBy kindLeaf
-  by-number = rw by-id
+  by-number = rw (no-count, by-id)
 
   single-leaf : typeIdOf book t ≡ 4 → length mem ≡ 4 → numberLeaf book t mem ≡ realLeaf (singleOf (leValue mem % 2 ^ 32))
   unfolding numberLeaf realOr

@@ -32,6 +32,7 @@ use Rattle.type_book.specs.Book.{flagOf, sizeOf, typeIdOf, fieldsOf, entriesOf,
 use Rattle.type_provider.specs.declared.Found.{Found}
 use Rattle.type_provider.specs.declared.Found.the-variants.{At, Nothing}
 use Rattle.type_category.specs.Category.{categoryOf}
+use Rattle.time_types.specs.Counts.{countWidth}
 use Rattle.type_category.specs.declared.type_category.AdsTypeCategory.{AdsTypeCategory}
 use Rattle.de_leaves.specs.declared.leaf.LeafValue.{LeafValue}
 use Rattle.de_leaves.specs.declared.leaf.LeafValue.the-variants as leaf
@@ -222,10 +223,16 @@ pub leaf-own : (book : List ℕ) (width t : ℕ) (mem : List ℕ) (c : AdsTypeCa
 unfolding leafAt
 leaf-own book width t mem c r ec e = rw (← ec) e
 
-module _ (book : List ℕ) (width t : ℕ) (mem : List ℕ) (c : AdsTypeCategory) (k : LeafKind) (ek : k ≡ kindOfLeaf c) (r : LeafValue) where
+-- a count of time
+pub leaf-count : (book : List ℕ) (width t : ℕ) (mem : List ℕ) (c : AdsTypeCategory) (n : ℕ) → n ≡ countWidth book t c → (r : LeafValue) → (n ≡ 0 → ⊥) → r ≡ pointerLeaf n mem
+    → r ≡ leafBy book width t c mem
+unfolding leafBy
+leaf-count book width t mem c n en r h e = rw (← en, ne-eqb n 0 h) e
+
+module _ (book : List ℕ) (width t : ℕ) (mem : List ℕ) (c : AdsTypeCategory) (n : ℕ) (en : n ≡ countWidth book t c) (none : n ≡ 0) (k : LeafKind) (ek : k ≡ kindOfLeaf c) (r : LeafValue) where
   leaf-by : r ≡ kindLeaf book width t mem k → r ≡ leafBy book width t c mem
   unfolding leafBy
-  leaf-by e = rw (← ek) e
+  leaf-by e = rw (← en, none, ← ek) e
 
   pub leaf-number : k ≡ kind.Number → r ≡ numberLeaf book t mem → r ≡ leafBy book width t c mem
   unfolding kindLeaf

@@ -26,6 +26,7 @@ use Rattle.type_book.specs.Book.{flagOf, sizeOf, typeIdOf, fieldsOf, entriesOf,
 use Rattle.type_provider.specs.declared.Found.{Found}
 use Rattle.type_provider.specs.declared.Found.the-variants.{At, Nothing}
 use Rattle.type_category.specs.Category.{categoryOf}
+use Rattle.time_types.specs.Counts.{countWidth}
 use Rattle.type_category.specs.declared.type_category.AdsTypeCategory.{AdsTypeCategory}
 use Rattle.type_category.specs.declared.type_category.AdsTypeCategory.the-variants as category
 use Rattle.de_leaves.specs.declared.leaf.LeafValue.{LeafValue}
@@ -159,9 +160,9 @@ kindLeaf book width t mem kind.Pointer = pointerLeaf width mem
 kindLeaf book width t mem kind.Unit = leaf.Unit
 kindLeaf book width t mem kind.None = leaf.Refused 11
 
--- the value of resolved type t, of a category, in some bytes
+-- the value of resolved type t, of a category, in some bytes: a count of time is an unsigned number of its width, whatever the type's id and size
 unfoldable pub leafBy : List ℕ → ℕ → ℕ → AdsTypeCategory → List ℕ → LeafValue
-leafBy book width t c mem = kindLeaf book width t mem (kindOfLeaf c)
+leafBy book width t c mem = cond (eqb (countWidth book t c) 0) (kindLeaf book width t mem (kindOfLeaf c)) (pointerLeaf (countWidth book t c) mem)
 
 -- the value of resolved type t in some bytes
 unfoldable pub leafAt : List ℕ → ℕ → ℕ → List ℕ → LeafValue

@@ -13,6 +13,7 @@ use enc_integer::try_from_le_slice;
 use enc_text_decoder::Decoder;
 use enc_text_decoder::text_end;
 use enc_utf_8::TextEnd;
+use time_types::count_width;
 use type_category::type_category::AdsTypeCategory;
 use type_id::AdsTypeId;
 use type_provider::Found;
@@ -121,7 +122,7 @@ fn number_leaf(book: &[u8], t: u32, bytes: &[u8]) -> LeafValue
     }
 }
 
-// A pointer, reference or interface: an unsigned number of the pointer width.
+// A pointer, reference or interface: an unsigned number of the pointer width. A count of time is one of a width of its own.
 fn pointer_leaf(width: u8, bytes: &[u8]) -> LeafValue
     ensures { λ r. ⌜ r ≡ pointerLeaf width (now (bytes .entry)) ⌝ }
 {
@@ -199,6 +200,10 @@ pub fn leaf_by(book: &[u8], width: u8, t: u32, category: AdsTypeCategory, bytes:
     requires { ⌜ t + fieldsOf (now book) t + entriesOf (now book) t < 65536 ⌝ }
     ensures { λ r. ⌜ leafNumbers r ≡ leafNumbers (leafBy (now (book .entry)) width t category (now (bytes .entry))) ⌝ }
 {
+    let count = count_width(book, t, category);
+    if count != 0 {
+        return pointer_leaf(count, bytes);
+    }
     let kind = kind_of(category);
     match kind {
         LeafKind::Number => number_leaf(book, t, bytes),

@@ -13,6 +13,10 @@ use Rattle.resolvers.specs.declared.Resolution.{Resolution}
 use Rattle.resolvers.proofs.Numbers.{resolved-is}
 use Rattle.enc_number.specs.Answer.{refusalOf}
 use Rattle.gateway_lent_values.specs.Values.{Gives}
+use Rattle.time_parts.specs.declared.Parts.{Parts}
+use Rattle.time_parts.specs.declared.PartsAnswer.{PartsAnswer}
+use Rattle.time_parts.specs.declared.CountAnswer.{CountAnswer}
+use Rattle.time_parts.specs.Parts.{partsNumbers, countNumbers, countNamed}
 use Rattle.gateway.specs.Calls.{ChainGiven}
 
 numbered : (k : AdsTypeCategory) (n : ℕ) → n ≡ categoryNumber k → 0 ∷ n ∷ [] ≡ categoryNumbers k
@@ -32,3 +36,10 @@ chain-given q g = record { gives = rw (← (q .is)) g; typed = λ u e. q .typed 
 pub resolution-given : (x y : Resolution) {before after : List ℕ} {r : ℕ} → resolutionNumbers x ≡ resolutionNumbers y
     → Gives (resolutionNumbers x) before r after → Gives (resolutionNumbers y) before r after
 resolution-given x y e g = rw (← e) g
+
+pub parts-given : (x y : PartsAnswer) {before after : List ℕ} {r : ℕ} → partsNumbers x ≡ partsNumbers y → Gives (partsNumbers x) before r after → Gives (partsNumbers y) before r after
+parts-given x y e g = rw (← e) g
+
+pub count-given : (name : List ℕ) (p q : Parts) (x : CountAnswer) {before after : List ℕ} {r : ℕ} → p ≡ q → countNumbers x ≡ countNumbers (countNamed name p)
+    → Gives (countNumbers x) before r after → Gives (countNumbers (countNamed name q)) before r after
+count-given name p q x h e g = rw (← h, ← e) g

@@ -20,6 +20,7 @@ pub mod book;
 pub mod plan;
 pub mod read;
 pub mod resolve;
+pub mod time;
 pub mod walk;
 pub mod write;
 

@@ -37,9 +37,9 @@ use Rattle.tape.specs.declared.record.Record.{Record}
 use Rattle.tape.specs.declared.cursor.Cursor.{Cursor}
 use Rattle.tape.specs.declared.cursor.Step.{Step}
 use Rattle.tape.specs.declared.cursor.Step.the-variants as step
-use Rattle.ser_leaf.specs.declared.Target.{Target}
-use Rattle.ser_leaf.specs.Leaf.{Leaf, holds, targetOf, leafBy}
-use Rattle.ser_leaf.proofs.Tells.{Tells, leaf-tells}
+use Rattle.type_category.specs.declared.type_category.AdsTypeCategory.{AdsTypeCategory}
+use Rattle.ser_leaf.specs.Leaf.{Leaf, holds, leafFor}
+use Rattle.ser_leaf.proofs.Tells.{Tells, leaf-for-tells}
 use Rattle.ser_leaf.specs.Leaf as leaf
 use Rattle.ser.specs.declared.array_writer.Entered.{Entered}
 use Rattle.ser.specs.declared.array_writer.Entered.the-variants as entered
@@ -154,9 +154,9 @@ fine-end tape at kind bytes =
 abbrev Mild : Leaf → Type 0
 Mild l = Tells (λ (n : ℕ). among n refusals ≡ true) l
 
-mild-leaf : (book : List ℕ) (width t : ℕ) (old : List ℕ) (k : Target) (r : Record) (text : List ℕ) → Mild (leafBy book width t k r text old)
+mild-leaf : (book : List ℕ) (width t : ℕ) (old : List ℕ) (k : AdsTypeCategory) (r : Record) (text : List ℕ) → Mild (leafFor book width t k r text old)
 mild-leaf book width t old k r text =
-    leaf-tells (λ (n : ℕ). among n refusals ≡ true) is-10 is-13 is-17 is-18 is-19 book width t old k r text (λ n6 n7 n8 n9 n10 n11 n12 n13. is-16)
+    leaf-for-tells (λ (n : ℕ). among n refusals ≡ true) is-10 is-13 is-17 is-18 is-19 book width t old k r text (λ n6 n7 n8 n9 n10 n11 n12 n13. is-16)
 
 mild-fine : (next : Cursor) (bytes : List ℕ) (l : Leaf) → Mild l → Fine (leafEnd next bytes l)
 unfolding leafEnd
@@ -254,7 +254,7 @@ module _ (book : List ℕ) (width : ℕ) (tape text : List ℕ) where
 
     leaf-fine : (t : ℕ) (r : Record) (next : Cursor) (bytes : List ℕ) → Fine (leafOf book width text t r next bytes)
     unfolding leafOf
-    leaf-fine t r next bytes = mild-fine next bytes _ (mild-leaf book width t bytes (targetOf (categoryOf book width t)) r text)
+    leaf-fine t r next bytes = mild-fine next bytes _ (mild-leaf book width t bytes (categoryOf book width t) r text)
 
     item-fine : (i : Content ℕ) (at : Cursor) (bytes : List ℕ) → Fine (itemWalk child c i at bytes)
     unfolding itemWalk valueBy

@@ -36,7 +36,7 @@ use Rattle.tape_form.specs.Ranges.{declares, onlyA, empty, namesBlock, opens, c
 use Rattle.tape_form.specs.Ranges as ranges
 use Rattle.tape_form.specs.Form.{formed, withRecord, formOnward, closingRecord, several, memberAt, valueAt, atTapeEnd}
 use Rattle.tape_form.specs.Form as form
-use Rattle.ser_leaf.specs.Leaf.{Leaf, holds, targetOf, leafBy}
+use Rattle.ser_leaf.specs.Leaf.{Leaf, holds, leafFor}
 use Rattle.ser_leaf.specs.Leaf as leaf
 use Rattle.ser.specs.declared.array_writer.Entered.{Entered}
 use Rattle.ser.specs.declared.array_writer.Entered.the-variants as entered
@@ -347,18 +347,18 @@ module _ (c : Ctx) (left : ℕ) (child : Child) (ih : Follows c left child) wher
     value-ends t bytes = one (eqb (r .kind) 1) refl
       where
         leaf-ends : (r .kind ≡ 1 → ⊥) → (r .kind ≡ 3 → ⊥)
-            → EndsAt (next .at) (leafEnd mid bytes (leafBy (c .book) (c .width) t (targetOf (categoryOf (c .book) (c .width) t)) r (c .text) bytes))
+            → EndsAt (next .at) (leafEnd mid bytes (leafFor (c .book) (c .width) t (categoryOf (c .book) (c .width) t) r (c .text) bytes))
         leaf-ends n m =
             let l = leaf-form (formCtx c) (valueAt (formCtx c) left) r mid next h n m in
-            mild-ends (next .at) mid bytes _ (l .same) (mild-leaf (c .book) (c .width) t bytes (targetOf (categoryOf (c .book) (c .width) t)) r (c .text) (l .fine))
+            mild-ends (next .at) mid bytes _ (l .same) (mild-leaf (c .book) (c .width) t bytes (categoryOf (c .book) (c .width) t) r (c .text) (l .fine))
 
         three : (b : Bool) → eqb (r .kind) 3 ≡ b → (r .kind ≡ 1 → ⊥)
-            → EndsAt (next .at) (cond b (mapBy child c t (r .a) mid bytes (shapeAt (c .book) (c .width) t)) (leafEnd mid bytes (leafBy (c .book) (c .width) t (targetOf (categoryOf (c .book) (c .width) t)) r (c .text) bytes)))
+            → EndsAt (next .at) (cond b (mapBy child c t (r .a) mid bytes (shapeAt (c .book) (c .width) t)) (leafEnd mid bytes (leafFor (c .book) (c .width) t (categoryOf (c .book) (c .width) t) r (c .text) bytes)))
         three true q n = map-ends t (r .a) mid next bytes (map-form (formCtx c) (valueAt (formCtx c) left) r mid next h (eqb-true (r .kind) 3 q)) (shapeAt (c .book) (c .width) t)
         three false q n = leaf-ends n (eqb-false (r .kind) 3 q)
 
         one : (b : Bool) → eqb (r .kind) 1 ≡ b
-            → EndsAt (next .at) (cond b (arrayOf child c t at bytes) (cond (eqb (r .kind) 3) (mapBy child c t (r .a) mid bytes (shapeAt (c .book) (c .width) t)) (leafEnd mid bytes (leafBy (c .book) (c .width) t (targetOf (categoryOf (c .book) (c .width) t)) r (c .text) bytes))))
+            → EndsAt (next .at) (cond b (arrayOf child c t at bytes) (cond (eqb (r .kind) 3) (mapBy child c t (r .a) mid bytes (shapeAt (c .book) (c .width) t)) (leafEnd mid bytes (leafFor (c .book) (c .width) t (categoryOf (c .book) (c .width) t) r (c .text) bytes))))
         one true q = array-ends t bytes
         one false q = three (eqb (r .kind) 3) refl (eqb-false (r .kind) 1 q)
 

@@ -31,14 +31,14 @@ use Rattle.tape.specs.declared.record.Record.{Record}
 use Rattle.tape.specs.declared.cursor.Cursor.{Cursor}
 use Rattle.tape.specs.declared.cursor.Step.{Step}
 use Rattle.tape.specs.declared.cursor.Step.the-variants as step
-use Rattle.ser_leaf.specs.Leaf.{Leaf, holds, targetOf}
+use Rattle.ser_leaf.specs.Leaf.{Leaf, holds}
 use Rattle.ser_leaf.specs.Leaf as leaf
 use Rattle.ser.specs.declared.array_writer.Entered.the-variants as entered
 use Rattle.tape_array_elements.specs.Element.{Content, whole, further, cut, shapeAt, elementItem, elementCheck}
 use Rattle.ser.specs.Write.{Ctx, Outcome, went, refused, _then_, Child, placed, takenBy, taken, endRecordBy, leafEnd, leafOf, checked, fieldValue, foundValue, keyBy, keyOf, keysFrom, mapBy, mapOf, elementsFrom, elementsBy, dimensionOf, elementType, enteredBy, enteredAt, arrayBy, arrayOf, valueBy, itemWalk, walk}
 use Rattle.ser_laws.specs.Touched.{Range, Touched, upto, nowhere, rangesThen, _and_, recordBy, endAt, fieldTouched, foundTouched, keyTouched, keysTouched, elementsTouched, dimensionTouched, arrayTouched, valueTouched, itemTouched, walkTouched}
 use Rattle.ser_laws.specs.Touched as touched
-use Rattle.ser_laws.proofs.Sizes.{Sized, sized-leaf}
+use Rattle.ser_laws.proofs.Sizes.{Sized, sized-for}
 use Rattle.ser_laws.proofs.Ranges.{Kept, kept-none, kept-all, kept-then, kept-part, length-cut}
 
 -- ---- a write and the ranges that it touches
@@ -263,7 +263,7 @@ module _ (c : Ctx) (child : Child) (marks : touched.Child) (ih : Children c chil
   value-agrees t at from size bytes e r next =
       agrees-cond from bytes (eqb (r .kind) 1) _ _ _ _ (array-agrees t at from bytes (shapeOf (categoryOf (c .book) (c .width) t)))
       (agrees-cond from bytes (eqb (r .kind) 3) _ _ _ _ (map-agrees t (r .a) next from bytes (shapeAt (c .book) (c .width) t))
-      (agrees-leaf-end from size bytes next e _ (sized-leaf bytes (c .book) (c .width) t (targetOf (categoryOf (c .book) (c .width) t)) r (c .text))))
+      (agrees-leaf-end from size bytes next e _ (sized-for bytes (c .book) (c .width) t (categoryOf (c .book) (c .width) t) r (c .text))))
 
   item-agrees : Children c (itemWalk child c) (itemTouched marks c)
   unfolding itemWalk itemTouched

@@ -33,6 +33,7 @@ use Rattle.enc_utf_16.specs.Decode as utf16
 use Rattle.type_book.specs.Book.{blocks, kindOf, isType, sizeOf, typeIdOf, fieldsOf, entriesOf, valueOf, sameName}
 use Rattle.type_provider.specs.declared.Found.the-variants.{At}
 use Rattle.type_category.specs.Category.{categoryOf}
+use Rattle.time_types.specs.Counts.{countWidth}
 use Rattle.type_book_check.specs.Check.{ValidBook}
 use Rattle.type_book_check.proofs.Valid.{valid-below, valid-type}
 use Rattle.de_leaves.specs.declared.leaf.LeafValue.{LeafValue}
@@ -248,7 +249,9 @@ module _ (book : List ℕ) (mem : List ℕ) (b : Bytes mem) where
     -- what a leaf of a valid book's type is read as
     pub leaf-fine : FineValue book (leafAt book width t mem)
     unfolding leafAt leafBy
-    leaf-fine = leaf-by-fine (kindOfLeaf (categoryOf book width t))
+    leaf-fine =
+        fine-cond book (eqb (countWidth book t (categoryOf book width t)) 0) _ _ (leaf-by-fine (kindOfLeaf (categoryOf book width t)))
+        (pointer-fine (countWidth book t (categoryOf book width t)))
 
 -- ---- a decoded text is UTF-8
 

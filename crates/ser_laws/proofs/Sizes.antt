@@ -1,6 +1,6 @@
 -- A leaf that is written is as long as what there was. Assumes nothing.
 use mathlib.Core.Path.{_≡_, refl, sym, _∙_}
-use mathlib.Core.Bool.{Bool, true, false, cond}
+use mathlib.Core.Bool.{Bool, true, false, cond, _&&_}
 use mathlib.Core.List.{List}
 use Prim.Native.Nat.{ℕ, _+_}
 use native.Mathlib.Omega.{arith}
@@ -19,10 +19,12 @@ use Rattle.enc_integer.specs.declared.Integer.{Integer}
 use Rattle.enc_integer.specs.declared.IntegerWrite.the-variants as write
 use Rattle.ser_named_blocks.specs.Named.{entryNamed}
 use Rattle.tape.specs.Text.{recordText}
+use Rattle.type_category.specs.declared.type_category.AdsTypeCategory.{AdsTypeCategory}
+use Rattle.time_types.specs.Counts.{countWidth}
 use Rattle.tape.specs.declared.record.Record.{Record}
 use Rattle.ser_leaf.specs.declared.Target.{Target}
 use Rattle.ser_leaf.specs.declared.Target.the-variants as target
-use Rattle.ser_leaf.specs.Leaf.{Leaf, holds, refused, exactly, boolLeaf, realId, realLeaf, integerEnd, integerBy, pointerLeaf, integerLeaf, entryBy, entryLeaf, enumLeaf, padded, textBy, textLeaf, leafBy}
+use Rattle.ser_leaf.specs.Leaf.{Leaf, holds, refused, exactly, boolLeaf, realId, realLeaf, integerEnd, integerBy, pointerLeaf, integerLeaf, entryBy, entryLeaf, enumLeaf, padded, textBy, textLeaf, leafBy, targetOf, countLeaf, leafFor}
 
 abbrev SizedBy : List ℕ → Leaf → Type 0
 SizedBy old (holds bs) = length bs ≡ length old
@@ -117,7 +119,7 @@ module _ (old : List ℕ) where
     sized-text text target.Pointer = sized-text-by _ _ text
     sized-text text target.Other = sized-text-by _ _ text
 
-    pub sized-leaf : (k : Target) (r : Record) (text : List ℕ) → Sized old (leafBy book width t k r text old)
+    sized-leaf : (k : Target) (r : Record) (text : List ℕ) → Sized old (leafBy book width t k r text old)
     unfolding leafBy
     sized-leaf k r text =
         sized-cond old (eqb (r .kind) 6) _ _ (sized-bool (r .b))
@@ -128,3 +130,15 @@ module _ (old : List ℕ) where
         (sized-cond old (eqb (r .kind) 11) _ _ (sized-text (recordText book text r) k)
         (sized-cond old (eqb (r .kind) 12) _ _ (sized-enum (recordText book text r) k)
         (sized-cond old (eqb (r .kind) 13) _ _ (sized-refused old 17) (sized-refused old 16))))))))
+
+    -- a count of time
+    sized-count : (w : ℕ) (r : Record) → Sized old (countLeaf w r old)
+    unfolding countLeaf
+    sized-count w r =
+        sized-cond old (eqb (r .kind) 7) _ _ (sized-pointer w _)
+        (sized-cond old (eqb (r .kind) 8) _ _ (sized-pointer w _)
+        (sized-cond old (leb 6 (r .kind) && leb (r .kind) 13) _ _ (sized-refused old 17) (sized-refused old 16)))
+
+    pub sized-for : (c : AdsTypeCategory) (r : Record) (text : List ℕ) → Sized old (leafFor book width t c r text old)
+    unfolding leafFor
+    sized-for c r text = sized-cond old (eqb (countWidth book t c) 0) _ _ (sized-leaf (targetOf c) r text) (sized-count (countWidth book t c) r)

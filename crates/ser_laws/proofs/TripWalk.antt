@@ -33,7 +33,7 @@ use Rattle.tape_shape.specs.Array.{strideOf, isLast, arrayBytes}
 use Rattle.ser_named_blocks.specs.Named.{fieldNamed}
 use Rattle.tape.specs.declared.record.Record.{Record}
 use Rattle.tape.specs.declared.cursor.Cursor.{Cursor}
-use Rattle.tape.specs.declared.cursor.Step.the-variants as step
+use Rattle.tape.specs.declared.cursor.NextRecord.the-variants as step
 use Rattle.tape.specs.Record.{recordBytes, stepAt, Held}
 use Rattle.tape.specs.Text.{nameIn, recordText}
 use Rattle.tape.proofs.Records.{record-back, length-record}
@@ -43,7 +43,7 @@ use Rattle.de_output.proofs.Runs.{tape-then}
 use Rattle.tape_array_elements.specs.Element.{Content, whole, further, cut, shapeAt, elementItem, elementCheck}
 use Rattle.de.specs.declared.reading.Typed.{Typed}
 use Rattle.de.specs.Walk as de
-use Rattle.ser_leaf.specs.Leaf.{targetOf}
+use Rattle.ser_leaf.specs.Leaf.{leafFor}
 use Rattle.ser.specs.Write as ser
 use Rattle.ser.specs.Write.{Outcome, went}
 use Rattle.ser_laws.specs.Trip as trip
@@ -325,7 +325,7 @@ module _ (book buffer tape : List ℕ) where
 
       -- ---- a leaf
 
-      leaf-write : (m : ℕ) (l : m < 2 ^ 32) (t : ℕ) (mem : List ℕ) (b : Bytes mem) (from : ℕ) (es : List Event) → LeafBack book buffer m l width t mem b (targetOf (categoryOf book width t)) from es
+      leaf-write : (m : ℕ) (l : m < 2 ^ 32) (t : ℕ) (mem : List ℕ) (b : Bytes mem) (from : ℕ) (es : List Event) → LeafBack book buffer m l mem b (λ r. leafFor book width t (categoryOf book width t) r buffer mem) from es
           → Back (ser.itemWalk write sc (whole t)) mem from es
       unfolding ser.itemWalk ser.taken ser.takenBy ser.valueBy ser.leafOf ser.leafEnd
       leaf-write m l t mem b from es x =

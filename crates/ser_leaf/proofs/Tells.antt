@@ -1,13 +1,14 @@
 -- Which numbers the write of a leaf can answer: what holds of 10, 13, 17, 18 and 19, and of 16 where the record is no value, holds of every
 -- refusal. Assumes nothing.
 use mathlib.Core.Path.{_≡_, refl}
-use mathlib.Core.Bool.{Bool, true, false, cond}
+use mathlib.Core.Logic.{_⊎_, inl, inr, ⊎-elim}
+use mathlib.Core.Bool.{Bool, true, false, cond, _&&_}
 use mathlib.Core.List.{List}
-use Prim.Native.Nat.{ℕ, _+_}
+use Prim.Native.Nat.{ℕ, _+_, _<_}
 use native.Mathlib.Omega.{arith}
 use lib.ListN.{length}
 use lib.Dec.{eqb, leb}
-use borrow.Author.Tests.{eqb-false}
+use borrow.Author.Tests.{eqb-false, leb-false}
 use Rattle.type_id.specs.declared.AdsTypeId.{AdsTypeId}
 use Rattle.type_id.specs.declared.AdsTypeId.the-variants.{UInt16, UInt32, UInt64}
 use Rattle.enc_integer.specs.Integer.{writeInteger, integerBytes}
@@ -19,11 +20,13 @@ use Rattle.type_book.specs.Book.{sizeOf, typeIdOf}
 use Rattle.type_provider.specs.declared.Found.{Found}
 use Rattle.type_provider.specs.declared.Found.the-variants.{At, Nothing}
 use Rattle.ser_named_blocks.specs.Named.{entryNamed}
+use Rattle.type_category.specs.declared.type_category.AdsTypeCategory.{AdsTypeCategory}
+use Rattle.time_types.specs.Counts.{countWidth}
 use Rattle.tape.specs.declared.record.Record.{Record}
 use Rattle.tape.specs.Text.{recordText}
 use Rattle.ser_leaf.specs.declared.Target.{Target}
 use Rattle.ser_leaf.specs.declared.Target.the-variants as target
-use Rattle.ser_leaf.specs.Leaf.{Leaf, holds, refused, exactly, boolLeaf, realId, realLeaf, integerEnd, integerBy, pointerLeaf, integerLeaf, entryBy, entryLeaf, enumLeaf, padded, textBy, textLeaf, leafBy}
+use Rattle.ser_leaf.specs.Leaf.{Leaf, holds, refused, exactly, boolLeaf, realId, realLeaf, integerEnd, integerBy, pointerLeaf, integerLeaf, entryBy, entryLeaf, enumLeaf, padded, textBy, textLeaf, leafBy, targetOf, countLeaf, leafFor}
 
 -- P holds of the number of a leaf that is refused
 pub record Tells (P : ℕ → Type 0) (l : Leaf) : Type 0 where
@@ -128,3 +131,26 @@ module _ (P : ℕ → Type 0) where
           tells-test (r .kind) 11 _ _ (tells-text (recordText book text r) k) (λ n11.
           tells-test (r .kind) 12 _ _ (tells-enum (recordText book text r) k) (λ n12.
           tells-test (r .kind) 13 _ _ (tells-refused 17 p17) (λ n13. tells-refused 16 (p16 n6 n7 n8 n9 n10 n11 n12 n13)))))))))
+
+      -- a count of time
+      tells-count : (w : ℕ) (r : Record) → ((r .kind < 6) ⊎ (13 < r .kind) → P 16) → Tells P (countLeaf w r old)
+      unfolding countLeaf
+      tells-count w r p16 =
+          tells-cond (eqb (r .kind) 7) _ _ (tells-pointer w _ old)
+          (tells-cond (eqb (r .kind) 8) _ _ (tells-pointer w _ old) (by (leb 6 (r .kind)) refl (leb (r .kind) 13) refl))
+        where
+          by : (a : Bool) → leb 6 (r .kind) ≡ a → (b : Bool) → leb (r .kind) 13 ≡ b → Tells P (cond (a && b) (refused 17) (refused 16))
+          by true e true f = tells-refused 17 p17
+          by true e false f = tells-refused 16 (p16 (inr (leb-false _ _ f)))
+          by false e b f = tells-refused 16 (p16 (inl (leb-false _ _ e)))
+
+      -- a record of any type
+      pub leaf-for-tells : (c : AdsTypeCategory) (r : Record) (text : List ℕ)
+          → ((r .kind ≡ 6 → ⊥) → (r .kind ≡ 7 → ⊥) → (r .kind ≡ 8 → ⊥) → (r .kind ≡ 9 → ⊥) → (r .kind ≡ 10 → ⊥) → (r .kind ≡ 11 → ⊥) → (r .kind ≡ 12 → ⊥) → (r .kind ≡ 13 → ⊥) → P 16)
+          → Tells P (leafFor book width t c r text old)
+      unfolding leafFor
+      leaf-for-tells c r text p16 =
+          tells-cond (eqb (countWidth book t c) 0) _ _ (leaf-tells (targetOf c) r text p16)
+          (tells-count (countWidth book t c) r
+          (⊎-elim (λ l. p16 (λ e. omega arith) (λ e. omega arith) (λ e. omega arith) (λ e. omega arith) (λ e. omega arith) (λ e. omega arith) (λ e. omega arith) (λ e. omega arith))
+          (λ l. p16 (λ e. omega arith) (λ e. omega arith) (λ e. omega arith) (λ e. omega arith) (λ e. omega arith) (λ e. omega arith) (λ e. omega arith) (λ e. omega arith))))

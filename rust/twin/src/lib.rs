@@ -16,6 +16,7 @@ pub mod read;
 pub mod resolve;
 pub mod tapes;
 pub mod text;
+pub mod time;
 pub mod walk;
 pub mod write;
 

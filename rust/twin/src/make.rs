@@ -148,6 +148,15 @@ pub fn example() -> Vec<u8> {
     ])
 }
 
+/// A struct with a DATE, by way of an alias.
+pub fn dated() -> Vec<u8> {
+    book(&[
+        Type::new("S").size(4).field("Made", "DAY", 0, 4),
+        Type::new("DAY").of("DATE").id(19).size(4),
+        Type::new("DATE").id(19).size(4),
+    ])
+}
+
 /// So many aliases A0, A1 and on, each of the next, the last of `end`.
 pub fn chain(hops: usize, end: &str) -> Vec<Type> {
     let name = |i: usize| if i == hops { end.to_string() } else { format!("A{i}") };

@@ -54,7 +54,7 @@ pub struct Made {
     pub width: u8,
 }
 
-const PLAIN: [(&str, u32, u32); 12] = [
+const PLAIN: [(&str, u32, u32); 14] = [
     ("SINT", 16, 1),
     ("INT", 2, 2),
     ("DINT", 3, 4),
@@ -67,6 +67,8 @@ const PLAIN: [(&str, u32, u32); 12] = [
     ("LREAL", 5, 8),
     ("BIT", 33, 1),
     ("TIME", 19, 4),
+    ("DT", 65, 4),
+    ("LTOD", 21, 8),
 ];
 const IDS: [u32; 21] = [
     0,
@@ -393,7 +395,7 @@ fn senseless(rng: &mut Rng, name: &str) -> Type {
         for _ in 0..1 + rng.below(4) {
             let (name, of) = (
                 rng.pick(&["a", "b", "c", ""]),
-                rng.pick(&["A", "B", "C", "INT", "GONE", "TIME", ""]),
+                rng.pick(&["A", "B", "C", "INT", "GONE", "TIME", "LDT", "TOD", ""]),
             );
             t = t.field(name, of, rng.pick(&[0, 0, 0, 1, 2, 4, 8]), rng.pick(&SIZES));
         }
@@ -414,7 +416,7 @@ fn senseless(rng: &mut Rng, name: &str) -> Type {
 
 /// A valid book of such types.
 pub fn chaos(rng: &mut Rng) -> Made {
-    const NAMES: [&str; 16] = [
+    const NAMES: [&str; 22] = [
         "A",
         "B",
         "C",
@@ -431,6 +433,12 @@ pub fn chaos(rng: &mut Rng) -> Made {
         "__XINT",
         "PCCH",
         "LTIME",
+        "TOD",
+        "DATE",
+        "DATE_AND_TIME",
+        "LDATE",
+        "LDT",
+        "LTOD",
     ];
     let mut types: Vec<Type> = Vec::new();
     for _ in 0..1 + rng.below(7) {

@@ -3,7 +3,7 @@
 use crate::category::{Category, determine};
 use crate::read::{integer, product};
 use crate::resolve::{Field, fields, look_up, resolve};
-use crate::{Book, Stop, block, text};
+use crate::{Book, Stop, block, text, time};
 
 const MOST_LEVELS: u32 = 64;
 const RECORD: usize = 24;
@@ -188,9 +188,12 @@ impl<'w> Writer<'w> {
     fn value(&mut self, t: u32, out: &mut [u8]) -> Result<(), Stop> {
         let r = self.next();
         let id = block::id(self.book.bytes, t);
+        let counts = self.count_width(t).is_some();
         match r.kind {
             1 => self.array(t, out),
             3 => self.map(t, out),
+            // A count of time takes integers only.
+            6 | 9..=12 if counts => Err(MISMATCH),
             6 => bits(r.b, id == 33, 1, out),
             7 => self.integer(t, i128::from(r.b as i64), out),
             8 => self.integer(t, i128::from(r.b), out),
@@ -203,6 +206,11 @@ impl<'w> Writer<'w> {
             }
             _ => Err(MISMATCH),
         }
+    }
+
+    /// The bytes of the count of time that the type is.
+    fn count_width(&self, t: u32) -> Option<u8> {
+        time::count_width(block::name(self.book.bytes, t), self.category(t))
     }
 
     fn category(&self, t: u32) -> Category {
@@ -218,10 +226,11 @@ impl<'w> Writer<'w> {
             self.category(t),
             Category::Pointer | Category::Reference | Category::Interface
         );
-        let (kind, width) = match (pointer, self.width) {
-            (true, 2 | 4 | 8) => (8, self.width),
-            (true, _) => return Err(Stop::Number(13)),
-            (false, _) => integer(block::id(self.book.bytes, t)).ok_or(MISMATCH)?,
+        let (kind, width) = match (self.count_width(t), pointer, self.width) {
+            (Some(width), ..) => (8, width),
+            (None, true, 2 | 4 | 8) => (8, self.width),
+            (None, true, _) => return Err(Stop::Number(13)),
+            (None, false, _) => integer(block::id(self.book.bytes, t)).ok_or(MISMATCH)?,
         };
         let all = 1i128 << (8 * width);
         let range = if kind == 7 { -all / 2..all / 2 } else { 0..all };

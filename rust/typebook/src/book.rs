@@ -491,7 +491,7 @@ impl<'b> TypeRef<'b> {
                 Ok((filled, texts)) => {
                     tape.truncate(24 * filled);
                     text.truncate(texts);
-                    return Ok(Tape::new(self.block.book().bytes(), tape, text));
+                    return Ok(Tape::new(self.block.book().bytes(), Some(self.block()), tape, text));
                 }
             }
         }

@@ -91,7 +91,7 @@ impl<'b> TapeBuilder<'b> {
     pub fn new(book: &'b TypeBook) -> Self {
         let bytes = book.bytes();
         Self {
-            tape: Tape::new(bytes, Vec::new(), Vec::new()),
+            tape: Tape::new(bytes, None, Vec::new(), Vec::new()),
             open: Vec::new(),
             keyed: false,
             fields: names_of(bytes, 2),

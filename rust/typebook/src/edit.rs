@@ -186,7 +186,7 @@ impl Tape<'_> {
     pub fn edits(&self) -> Self {
         let mut records = Vec::new();
         self.put_edits(0, &mut records);
-        Tape::new(self.book, records, self.text.clone())
+        Tape::new(self.book, self.root, records, self.text.clone())
     }
 
     /// Puts the value at a place, of maps only the keys with something changed, and gives the place after it.

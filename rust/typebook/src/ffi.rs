@@ -64,6 +64,21 @@ mod raw {
             values: *mut u64,
             values_len: usize,
         ) -> u8;
+        pub fn gateway_time_parts(
+            name: *const u8,
+            name_len: usize,
+            count: u64,
+            values: *mut u64,
+            values_len: usize,
+        ) -> u8;
+        pub fn gateway_time_count(
+            name: *const u8,
+            name_len: usize,
+            parts: *const u32,
+            parts_len: usize,
+            values: *mut u64,
+            values_len: usize,
+        ) -> u8;
         pub fn gateway_append(
             buffer: *mut u8,
             buffer_len: usize,
@@ -467,6 +482,25 @@ pub mod total {
                 book.len(),
                 width,
                 block,
+                values.as_mut_ptr(),
+                values.len(),
+            )
+        }
+    }
+
+    /// Values: year, month, day, hour, minute, second and nanosecond of a count of the type of that name; or 24.
+    pub fn time_parts(name: &[u8], count: u64, values: &mut [u64]) -> u8 {
+        unsafe { raw::gateway_time_parts(name.as_ptr(), name.len(), count, values.as_mut_ptr(), values.len()) }
+    }
+
+    /// Value: the count of the type of that name that has these seven parts; or 24.
+    pub fn time_count(name: &[u8], parts: &[u32], values: &mut [u64]) -> u8 {
+        unsafe {
+            raw::gateway_time_count(
+                name.as_ptr(),
+                name.len(),
+                parts.as_ptr(),
+                parts.len(),
                 values.as_mut_ptr(),
                 values.len(),
             )
@@ -903,6 +937,8 @@ pub mod total {
                 assert_eq!(raw::gateway_name(null(), 0, 7, null_mut(), 0), 0);
                 assert_eq!(raw::gateway_type_name(null(), 0, 7, null_mut(), 0), 0);
                 assert_eq!(raw::gateway_determine(null(), 0, 8, 0, null_mut(), 0), 0);
+                assert_eq!(raw::gateway_time_parts(null(), 0, 0, null_mut(), 0), 24);
+                assert_eq!(raw::gateway_time_count(null(), 0, null(), 0, null_mut(), 0), 24);
             }
         }
 

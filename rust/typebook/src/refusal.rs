@@ -53,16 +53,14 @@ pub enum Refusal {
     OutOfRange,
     /// 23: a root's name isn't 0 to 200 bytes from 20h to 7Eh.
     RootName,
+    /// 24: the type counts no moments, or a count or parts name none of it.
+    NoMoment,
 }
 
 impl Refusal {
-    /// The refusal of a number that the library answered; for 7 with its block.
-    ///
-    /// # Panics
-    ///
-    /// For a number that is none of document 01's refusals: no call of the library answers one.
-    pub fn from_number(number: u8, block: u64) -> Refusal {
-        match number {
+    /// The refusal of a number that the library answered, for 7 with its block; none for a number that is none of document 01's table.
+    pub fn from_number(number: u8, block: u64) -> Option<Refusal> {
+        Some(match number {
             1 => Refusal::BookSize,
             2 => Refusal::Sum,
             3 => Refusal::Form,
@@ -83,11 +81,12 @@ impl Refusal {
             18 => Refusal::UnknownName,
             19 => Refusal::OutOfRange,
             23 => Refusal::RootName,
-            n => panic!("document 01 has no refusal {n}"),
-        }
+            24 => Refusal::NoMoment,
+            _ => return None,
+        })
     }
 
-    /// The number of the table: document 01's 1 to 19, and 23.
+    /// The number of the table: document 01's 1 to 19, 23 and 24.
     pub fn number(self) -> u8 {
         match self {
             Refusal::BookSize => 1,
@@ -110,6 +109,7 @@ impl Refusal {
             Refusal::UnknownName => 18,
             Refusal::OutOfRange => 19,
             Refusal::RootName => 23,
+            Refusal::NoMoment => 24,
         }
     }
 
@@ -150,6 +150,7 @@ impl Refusal {
             Refusal::UnknownName => "the type has no field or enumeration entry of that name",
             Refusal::OutOfRange => "a number is too large or too small for the type that it is to be written to",
             Refusal::RootName => "the root's name can't be a type's: it has over 200 bytes, or others than 20h to 7Eh",
+            Refusal::NoMoment => "this is no date or time of day that the type can hold",
         }
     }
 }
@@ -173,20 +174,21 @@ mod tests {
 
     #[test]
     fn numbers_there_and_back() {
-        for n in (1..=19).chain([23]) {
-            let refusal = Refusal::from_number(n, 5);
+        for n in (1..=19).chain([23, 24]) {
+            let refusal = Refusal::from_number(n, 5).expect("a refusal");
             assert_eq!(refusal.number(), n);
             assert!(refusal.to_string().starts_with(&format!("refusal {n}: ")));
         }
-        assert_eq!(Refusal::from_number(7, 5), Refusal::NotFound { block: 5 });
-        assert!(Refusal::from_number(7, 5).to_string().ends_with("(block 5 names it)"));
-        let lacking = Refusal::from_number(7, LACKING_ROOT.into());
-        assert!(lacking.to_string().ends_with("(it is the root itself)"));
+        assert_eq!(Refusal::from_number(7, 5), Some(Refusal::NotFound { block: 5 }));
+        let told = |block| Refusal::NotFound { block }.to_string();
+        assert!(told(5).ends_with("(block 5 names it)"));
+        assert!(told(LACKING_ROOT).ends_with("(it is the root itself)"));
     }
 
     #[test]
-    #[should_panic(expected = "no refusal 20")]
-    fn no_twentieth() {
-        Refusal::from_number(20, 0);
+    fn no_others() {
+        for n in (20..=22).chain(25..=255).chain([0]) {
+            assert_eq!(Refusal::from_number(n, 0), None);
+        }
     }
 }

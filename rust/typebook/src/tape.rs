@@ -1,7 +1,10 @@
 //! What a read gives and a write takes: records, each with its value and, for keys and enumeration entries, its name.
 
 use crate::book::name_in;
+use crate::bytes::Bytes;
+use crate::category::Category;
 use crate::ffi::total;
+use crate::moment::Moment;
 use std::collections::BTreeSet;
 use std::fmt;
 
@@ -99,7 +102,7 @@ pub struct Record<'t> {
     pub level: u32,
     /// The field's or entry's block, of a key or an enumeration's entry.
     pub block: Option<u32>,
-    /// The block of its type as it was named, before aliases, of a value; none of a key and an end.
+    /// The block of its type as it was named, before aliases, of a value that was read; none of a key and an end.
     pub declared_block: Option<u32>,
     /// What it says.
     pub value: Value<'t>,
@@ -108,20 +111,63 @@ pub struct Record<'t> {
 
 impl<'t> Record<'t> {
     /// The name of the declared type: what a field's or an array's type name finds, before aliases, so that a screen can show
-    /// "Celsius" where the memory holds a REAL. A further dimension has the name of its array. None of a key and an end.
+    /// "Celsius" where the memory holds a REAL. A further dimension has the name of its array. None of a key and an end, and of what was
+    /// put on a tape by hand.
     ///
     /// ```
     /// use typebook::{TypeBook, Value};
     /// # let folder = concat!(env!("CARGO_MANIFEST_DIR"), "/../../examples/glue/");
     /// # let file = |name: &str| std::fs::read(format!("{folder}{name}"));
-    /// let book = TypeBook::new(file("book.bin")?)?;
-    /// let tape = book.root(0)?.read(8, &file("mem.bin")?)?;
+    /// let book = TypeBook::new(file("book.bin")?, 8)?;
+    /// let tape = book.root(0)?.read(&file("mem.bin")?)?;
     /// let target = tape.iter().find(|r| matches!(r.value, Value::Real32(_))).expect("there is one");
     /// assert_eq!(target.declared(), Some("Celsius"));
     /// # Ok::<(), Box<dyn std::error::Error>>(())
     /// ```
     pub fn declared(&self) -> Option<&'t str> {
         Some(name_in(self.book, self.declared_block?, total::name))
+    }
+
+    /// The moment or the time of day that the value counts; none of a value whose type counts none.
+    ///
+    /// ```
+    /// use typebook::{TypeBook, TypeBuilder, type_id};
+    ///
+    /// let book = TypeBook::builder()
+    ///     .with(TypeBuilder::new("S").size(4).field("Made", "DAY", 0, 4))
+    ///     .with(TypeBuilder::new("DAY").type_name("DATE").id(type_id::UINT32).size(4))
+    ///     .with(TypeBuilder::new("DATE").id(type_id::UINT32).size(4))
+    ///     .build(8)?;
+    /// let tape = book.root(0)?.read(&[0x81, 0x51, 0x01, 0x00])?;
+    /// let moments: Vec<String> = tape.iter().filter_map(|r| r.moment()).map(|m| m.to_string()).collect();
+    /// assert_eq!(moments, ["1970-01-02T00:00:01"]);
+    /// # Ok::<(), Box<dyn std::error::Error>>(())
+    /// ```
+    pub fn moment(&self) -> Option<Moment> {
+        match self.value {
+            Value::Nat { value, .. } => Moment::of(self.counted_name()?, value).ok(),
+            _ => None,
+        }
+    }
+
+    /// The name of the type that the declared one comes to, if its values can count time.
+    fn counted_name(&self) -> Option<&'t str> {
+        let mut block = self.declared_block?;
+        // What was read has fewer than 32 aliases in a row.
+        for _ in 0..32 {
+            let mut values = [0; 1];
+            // None of the categories here is told by the pointer width.
+            total::determine(self.book, 8, block, &mut values);
+            match Category::from_number(values[0])? {
+                Category::Alias => {
+                    let name = name_in(self.book, block, total::type_name);
+                    block = total::find(self.book, name.as_bytes())?;
+                }
+                Category::Pointer | Category::Reference | Category::Enum | Category::SubRange => return None,
+                _ => return Some(name_in(self.book, block, total::name)),
+            }
+        }
+        None
     }
 }
 
@@ -138,20 +184,52 @@ pub(crate) fn record(kind: u8, width: u8, a: u64, b: u64) -> [u8; RECORD] {
 /// The records of a read or of a [`TapeBuilder`](crate::TapeBuilder), and their texts.
 #[derive(Clone)]
 pub struct Tape<'b> {
-    pub(crate) book: &'b [u8],
+    pub(crate) book: Bytes<'b>,
     pub(crate) records: Vec<u8>,
     pub(crate) text: Vec<u8>,
+    /// Whether the records say their declared types: those of a read do, those that were put on a tape by hand don't.
+    pub(crate) declares: bool,
     /// Where the records stand that were changed since the read.
     pub(crate) edited: BTreeSet<usize>,
 }
 
 impl<'b> Tape<'b> {
-    pub(crate) fn new(book: &'b [u8], records: Vec<u8>, text: Vec<u8>) -> Self {
+    pub(crate) fn new(book: Bytes<'b>, declares: bool, records: Vec<u8>, text: Vec<u8>) -> Self {
         Self {
             book,
             records,
             text,
+            declares,
             edited: BTreeSet::new(),
+        }
+    }
+
+    /// The same tape, needing nobody who lent the book's bytes, so that it can be kept beside an `Arc` of the book, or sent to another
+    /// thread. Nothing is copied where the book owns its bytes; lent bytes are.
+    ///
+    /// ```
+    /// use std::sync::Arc;
+    /// use typebook::{Tape, TypeBook, TypeBuilder, Value};
+    ///
+    /// struct Page {
+    ///     book: Arc<TypeBook<'static>>,
+    ///     values: Tape<'static>,
+    /// }
+    ///
+    /// let book = Arc::new(TypeBook::builder().with(TypeBuilder::new("INT").id(2).size(2)).build(8)?);
+    /// let values = book.root(0)?.read(&[5, 0])?.into_owned();
+    /// let page = Page { book, values };
+    /// assert_eq!(page.values.iter().next().map(|r| r.value), Some(Value::Int { bits: 16, value: 5 }));
+    /// assert_eq!(page.book.root(0)?.write(&[0, 0], &page.values)?, [5, 0]);
+    /// # Ok::<(), Box<dyn std::error::Error>>(())
+    /// ```
+    pub fn into_owned(self) -> Tape<'static> {
+        Tape {
+            book: self.book.into_kept(),
+            records: self.records,
+            text: self.text,
+            declares: self.declares,
+            edited: self.edited,
         }
     }
 
@@ -178,9 +256,12 @@ impl<'b> Tape<'b> {
     /// The records in order.
     ///
     /// ```
-    /// # use typebook::{Refusal, TypeBook, Value};
-    /// # let book = TypeBook::new(twin::make::example())?;
-    /// let tape = book.root(0)?.read(8, &[1, 0, 2, 0])?;
+    /// # use typebook::{TypeBook, TypeBuilder, Value};
+    /// # let types = TypeBook::builder()
+    /// #     .with(TypeBuilder::new("S").size(4).field("A", "INT", 0, 2).field("B", "INT", 2, 2))
+    /// #     .with(TypeBuilder::new("INT").id(2).size(2));
+    /// # let book = types.build(8)?;
+    /// let tape = book.root(0)?.read(&[1, 0, 2, 0])?;
     /// let mut sum = 0;
     /// for record in &tape {
     ///     if let Value::Int { value, .. } = record.value {
@@ -188,7 +269,7 @@ impl<'b> Tape<'b> {
     ///     }
     /// }
     /// assert_eq!(sum, 3);
-    /// # Ok::<(), Refusal>(())
+    /// # Ok::<(), Box<dyn std::error::Error>>(())
     /// ```
     pub fn iter(&self) -> Records<'_> {
         Records {
@@ -208,7 +289,7 @@ impl<'b> Tape<'b> {
         let width = self.records[at + 1];
         let bits = 8 * u32::from(width);
         let (a, b) = (self.number(at + 8), self.number(at + 16));
-        let name = || name_in(self.book, a as u32, total::name);
+        let name = || name_in(&self.book, a as u32, total::name);
         match self.records[at] {
             1 => (None, Value::Array(a)),
             3 => (None, Value::Map(a)),
@@ -229,11 +310,11 @@ impl<'b> Tape<'b> {
         }
     }
 
-    /// The number in bytes 4 to 7 of the record at a place.
-    pub(crate) fn declared(&self, at: usize) -> u32 {
+    /// The declared type's block, in bytes 4 to 7 of the record at a place.
+    fn declared(&self, at: usize) -> Option<u32> {
         let mut bytes = [0; 4];
         bytes.copy_from_slice(&self.records[at + 4..at + 8]);
-        u32::from_le_bytes(bytes)
+        self.declares.then_some(u32::from_le_bytes(bytes))
     }
 
     fn text_part(&self, start: u64, len: u64) -> &str {
@@ -275,7 +356,7 @@ impl<'t> Iterator for Records<'t> {
         let (block, value) = self.tape.value(self.at);
         let declared_block = match value {
             Value::End | Value::Key(_) => None,
-            _ => Some(self.tape.declared(self.at)),
+            _ => self.tape.declared(self.at),
         };
         self.at += RECORD;
         let level = match value {
@@ -291,7 +372,7 @@ impl<'t> Iterator for Records<'t> {
             block,
             declared_block,
             value,
-            book: self.tape.book,
+            book: &self.tape.book,
         })
     }
 

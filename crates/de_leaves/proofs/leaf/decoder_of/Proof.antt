@@ -10,23 +10,18 @@ use Rattle.type_id.proofs.AdsTypeId.to_u32.Reads as to-u32-reads
 
 ruleset exits = (decoder-wide, decoder-marked, decoder-narrow)
 
--- src/leaf.rt:144:8
 type-id-requires : tie.Need-type-id-requires
 type-id-requires c κs = search needs
 
--- src/leaf.rt:144:8
 to-u32-requires : tie.Need-to-u32-requires
 to-u32-requires c κs = search needs
 
--- src/leaf.rt:145:9
 returns : tie.Need-returns
 returns c = search exits
 
--- src/leaf.rt:147:8
 is-utf-8-requires : tie.Need-is-utf-8-requires
 is-utf-8-requires c κs = search needs
 
--- src/leaf.rt:148:9
 returns-2 : tie.Need-returns-2
 returns-2 c = search exits
 

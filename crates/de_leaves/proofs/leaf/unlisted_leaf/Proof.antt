@@ -7,27 +7,21 @@ use Rattle.de_leaves.proofs.leaf.unlisted_leaf.Lts as lts
 
 ruleset exits = (unlisted-value, unlisted-size, unlisted-id)
 
--- src/leaf.rt:163:34
 enum-told : tie.Need-enum-told
 enum-told c = search needs
 
--- src/leaf.rt:164:30
 enum-told-2 : tie.Need-enum-told-2
 enum-told-2 c = search needs
 
--- src/leaf.rt:165:37
 enum-told-3 : tie.Need-enum-told-3
 enum-told-3 c = search needs
 
--- src/leaf.rt:159:1
 returns : tie.Need-returns
 returns c = search exits
 
--- src/leaf.rt:159:1
 returns-2 : tie.Need-returns-2
 returns-2 c = search exits
 
--- src/leaf.rt:159:1
 returns-3 : tie.Need-returns-3
 returns-3 c = search exits
 

@@ -1,0 +1,3 @@
+-- Laws that the functions' proofs and upper crates cite.
+pub mod Names
+pub mod Widths

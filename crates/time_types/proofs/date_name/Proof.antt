@@ -1,0 +1,54 @@
+use Rattle.time_types.proofs.Names.{is-dt, is-date, is-date-and-time, no-date-name}
+use borrow.Author.Needs.{needs}
+use Rattle.time_types.proofs.date_name.Statement.{statement}
+use Rattle.time_types.proofs.date_name.Tie as tie
+use Rattle.time_types.proofs.date_name.Reads as reads
+use Rattle.time_types.proofs.date_name.Lts as lts
+use Rattle.type_book.proofs.block.same_name.Reads as same-name-reads
+
+ruleset exits = (is-dt, is-date, is-date-and-time, no-date-name)
+
+slice-aggregate-same-name : tie.Need-slice-aggregate-same-name
+slice-aggregate-same-name c = search needs
+
+same-name-requires : tie.Need-same-name-requires
+same-name-requires c κs = search needs
+
+returns : tie.Need-returns
+returns c = search exits
+
+slice-aggregate-same-name-2 : tie.Need-slice-aggregate-same-name-2
+slice-aggregate-same-name-2 c = search needs
+
+same-name-requires-2 : tie.Need-same-name-requires-2
+same-name-requires-2 c κs = search needs
+
+returns-2 : tie.Need-returns-2
+returns-2 c = search exits
+
+slice-aggregate-same-name-3 : tie.Need-slice-aggregate-same-name-3
+slice-aggregate-same-name-3 c = search needs
+
+same-name-requires-3 : tie.Need-same-name-requires-3
+same-name-requires-3 c κs = search needs
+
+returns-3 : tie.Need-returns-3
+returns-3 c = search exits
+
+returns-4 : tie.Need-returns-4
+returns-4 c = search exits
+
+pub date-name-spec : {M : Type 1} → statement M
+date-name-spec =
+    tie.close
+    (tie.spec
+    slice-aggregate-same-name
+    same-name-requires
+    returns
+    slice-aggregate-same-name-2
+    same-name-requires-2
+    returns-2
+    slice-aggregate-same-name-3
+    same-name-requires-3
+    returns-3
+    returns-4)
