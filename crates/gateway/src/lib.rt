@@ -12,10 +12,12 @@ ghost use Rattle.gateway_codes.specs.Numbers.{foundNumber};
 ghost use Rattle.enc_number.specs.Answer.{refusalOf, truthNumber};
 ghost use Rattle.gateway.specs.Numbers.{WroteAs, FoundAs};
 
+pub mod appending;
 pub mod book;
 pub mod plan;
 pub mod read;
 pub mod resolve;
+pub mod version;
 pub mod walk;
 pub mod write;
 

@@ -10,7 +10,7 @@ use std::collections::BTreeSet;
 use std::error::Error;
 use std::fmt::Write;
 use std::path::{Path, PathBuf};
-use typebook::{Category, Tape, TypeBook, TypeRef, Value};
+use typebook::{Category, Tape, TypeBook, TypeBuilder, Value};
 
 const WIDTH: u8 = 8;
 /// What the fitter of examples/pieces compiled.
@@ -38,14 +38,14 @@ fn main() {
 pub fn told(folder: &Path, unknown: &[String]) -> Result<String, Box<dyn Error>> {
     let file =
         |name: &str| std::fs::read(folder.join(name)).map_err(|e| format!("{}: {e}", folder.join(name).display()));
-    let controller = TypeBook::new(file("book.bin")?)?;
+    let controller = TypeBook::new(file("book.bin")?, WIDTH)?;
     let memory = file("mem.bin")?;
     let ours = without(&controller, unknown)?;
     let mut out = format!("{}: our book has {} types,", ours.root(0)?.name(), ours.types().count());
     writeln!(out, " the controller's {}.\n", controller.types().count())?;
 
     let one_by_one = asks_and_adds(&mut out, &ours, &controller)?;
-    let plan = ours.plan(&controller, WIDTH, 0)?;
+    let plan = ours.plan(&controller, 0)?;
     writeln!(out, "answer: {}", answer(plan.read_modify_write))?;
     assert_eq!(one_by_one, plan.read_modify_write);
     writeln!(
@@ -57,7 +57,7 @@ pub fn told(folder: &Path, unknown: &[String]) -> Result<String, Box<dyn Error>>
     let guess = taken_for_empty(&ours)?;
     writeln!(out, "A walk that takes an unknown type for empty: {}", answer(guess))?;
     if plan.read_modify_write && !guess {
-        let lost = held(&plan.book, &plan.book.root(0)?.read(WIDTH, &memory)?);
+        let lost = held(&plan.book, &plan.book.root(0)?.read(&memory)?);
         writeln!(
             out,
             "That would have cleared what the function block holds: {}",
@@ -74,19 +74,12 @@ fn answer(yes: bool) -> &'static str {
     }
 }
 
-/// A type's block with those of its fields and entries.
-fn definition<'b>(book: &'b TypeBook, t: TypeRef) -> &'b [u8] {
-    let bytes = book.bytes();
-    let number = |at: usize| u32::from_le_bytes([bytes[at], bytes[at + 1], bytes[at + 2], bytes[at + 3]]);
-    let at = 512 * t.block() as usize;
-    &bytes[at..at + 512 * (1 + number(at + 12) + number(at + 16)) as usize]
-}
-
 /// The book without the types of some names.
 fn without(book: &TypeBook, names: &[String]) -> Result<TypeBook<'static>, Box<dyn Error>> {
     let held = book.types().filter(|t| !names.iter().any(|n| n == t.name()));
     Ok(TypeBook::new(
-        held.flat_map(|t| definition(book, t)).copied().collect::<Vec<u8>>(),
+        held.flat_map(|t| t.blocks()).copied().collect::<Vec<u8>>(),
+        WIDTH,
     )?)
 }
 
@@ -105,18 +98,18 @@ fn asks_and_adds(out: &mut String, ours: &TypeBook, controller: &TypeBook) -> Re
             let t = controller
                 .find(name)
                 .ok_or(format!("the controller has no type {name}"))?;
-            book = book.append(definition(controller, t))?;
+            book.append(t.blocks())?;
             writeln!(out, "  add {name}")?;
         }
     }
-    Ok(book.root(0)?.requires_read_modify_write(WIDTH)?)
+    Ok(book.root(0)?.requires_read_modify_write()?)
 }
 
 /// The names that an ask lists; one that isn't whole is no answer.
 fn unknown(book: &TypeBook) -> Result<BTreeSet<String>, Box<dyn Error>> {
-    let missing = book.root(0)?.missing_types(WIDTH)?;
+    let missing = book.root(0)?.missing_types()?;
     match missing.whole {
-        true => Ok(missing.blocks.iter().map(|&b| book.type_name(b).into()).collect()),
+        true => Ok(book.missing_names(&missing).into_iter().collect()),
         false => Err("not all types could be walked: don't save".into()),
     }
 }
@@ -125,16 +118,9 @@ fn unknown(book: &TypeBook) -> Result<BTreeSet<String>, Box<dyn Error>> {
 fn taken_for_empty(ours: &TypeBook) -> Result<bool, Box<dyn Error>> {
     let mut book = ours.clone();
     for name in unknown(ours)? {
-        let mut block = [0; 512];
-        block[0] = 1;
-        block[4] = 65;
-        block[52] = name.len() as u8;
-        block[54..54 + name.len()].copy_from_slice(name.as_bytes());
-        let sum: u32 = block.iter().map(|&b| u32::from(b)).sum();
-        block[508..].copy_from_slice(&sum.to_le_bytes());
-        book = book.append(&block)?;
+        book.append(&TypeBuilder::new(name).blocks()?)?;
     }
-    Ok(book.root(0)?.requires_read_modify_write(WIDTH)?)
+    Ok(book.root(0)?.requires_read_modify_write()?)
 }
 
 /// The values that lie in a function block, with their names.
@@ -158,6 +144,6 @@ fn held(book: &TypeBook, tape: &Tape) -> Vec<String> {
 
 /// Whether a field's type comes to a function block.
 fn is_function_block(book: &TypeBook, field: u32) -> bool {
-    let resolved = book.find(book.type_name(field)).map(|t| t.resolve_alias(WIDTH));
-    matches!(resolved, Some(Ok(t)) if t.category(WIDTH) == Category::FunctionBlock)
+    let resolved = book.find(book.type_name(field)).map(|t| t.resolve_alias());
+    matches!(resolved, Some(Ok(t)) if t.category() == Category::FunctionBlock)
 }

@@ -17,12 +17,12 @@ fn main() -> Result<(), Box<dyn Error>> {
     };
     let file =
         |name: &str| std::fs::read(folder.join(name)).map_err(|e| format!("{}: {e}", folder.join(name).display()));
-    let book = TypeBook::new(file("book.bin")?)?;
+    let book = TypeBook::new(file("book.bin")?, WIDTH)?;
     let memory = file("mem.bin")?;
     let root = book.root(0)?;
     println!("{}: {} bytes", root.name(), memory.len());
     println!("{}", saving(root, &book)?);
-    match root.read(WIDTH, &memory) {
+    match root.read(&memory) {
         Ok(tape) => print(&tape),
         Err(refusal) => return Err(explained(&book, refusal).into()),
     }
@@ -31,7 +31,7 @@ fn main() -> Result<(), Box<dyn Error>> {
 
 /// How the recipe must be saved.
 fn saving(root: TypeRef, book: &TypeBook) -> Result<&'static str, String> {
-    match root.requires_read_modify_write(WIDTH) {
+    match root.requires_read_modify_write() {
         Ok(true) => Ok("a function block lies in it: read, alter and write back"),
         Ok(false) => Ok("no function block lies in it: a fresh image may be sent"),
         Err(refusal) => Err(explained(book, refusal)),

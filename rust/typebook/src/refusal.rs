@@ -51,13 +51,9 @@ pub enum Refusal {
 }
 
 impl Refusal {
-    /// The refusal of a number that the library answered; for 7 with its block.
-    ///
-    /// # Panics
-    ///
-    /// For a number that is none of document 01's refusals: no call of the library answers one.
-    pub fn from_number(number: u8, block: u64) -> Refusal {
-        match number {
+    /// The refusal of a number that the library answered, for 7 with its block; none for a number that is none of document 01's table.
+    pub fn from_number(number: u8, block: u64) -> Option<Refusal> {
+        Some(match number {
             1 => Refusal::BookSize,
             2 => Refusal::Sum,
             3 => Refusal::Form,
@@ -77,8 +73,8 @@ impl Refusal {
             17 => Refusal::Mismatch,
             18 => Refusal::UnknownName,
             19 => Refusal::OutOfRange,
-            n => panic!("document 01 has no refusal {n}"),
-        }
+            _ => return None,
+        })
     }
 
     /// Document 01's number, 1 to 19.
@@ -165,17 +161,22 @@ mod tests {
     #[test]
     fn numbers_there_and_back() {
         for n in 1..=19 {
-            let refusal = Refusal::from_number(n, 5);
+            let refusal = Refusal::from_number(n, 5).expect("a refusal");
             assert_eq!(refusal.number(), n);
             assert!(refusal.to_string().starts_with(&format!("refusal {n}: ")));
         }
-        assert_eq!(Refusal::from_number(7, 5), Refusal::NotFound { block: 5 });
-        assert!(Refusal::from_number(7, 5).to_string().ends_with("(block 5 names it)"));
+        assert_eq!(Refusal::from_number(7, 5), Some(Refusal::NotFound { block: 5 }));
+        assert!(
+            Refusal::NotFound { block: 5 }
+                .to_string()
+                .ends_with("(block 5 names it)")
+        );
     }
 
     #[test]
-    #[should_panic(expected = "no refusal 20")]
-    fn no_twentieth() {
-        Refusal::from_number(20, 0);
+    fn no_others() {
+        for n in (20..=255).chain([0]) {
+            assert_eq!(Refusal::from_number(n, 0), None);
+        }
     }
 }

@@ -1,6 +1,7 @@
 //! What a read gives and a write takes: records, each with its value and, for keys and enumeration entries, its name.
 
 use crate::book::name_in;
+use crate::bytes::Bytes;
 use crate::ffi::total;
 use std::collections::BTreeSet;
 use std::fmt;
@@ -107,7 +108,7 @@ pub(crate) fn record(kind: u8, width: u8, a: u64, b: u64) -> [u8; RECORD] {
 /// The records of a read or of a [`TapeBuilder`](crate::TapeBuilder), and their texts.
 #[derive(Clone)]
 pub struct Tape<'b> {
-    pub(crate) book: &'b [u8],
+    pub(crate) book: Bytes<'b>,
     pub(crate) records: Vec<u8>,
     pub(crate) text: Vec<u8>,
     /// Where the records stand that were changed since the read.
@@ -115,12 +116,40 @@ pub struct Tape<'b> {
 }
 
 impl<'b> Tape<'b> {
-    pub(crate) fn new(book: &'b [u8], records: Vec<u8>, text: Vec<u8>) -> Self {
+    pub(crate) fn new(book: Bytes<'b>, records: Vec<u8>, text: Vec<u8>) -> Self {
         Self {
             book,
             records,
             text,
             edited: BTreeSet::new(),
+        }
+    }
+
+    /// The same tape, needing nobody who lent the book's bytes, so that it can be kept beside an `Arc` of the book, or sent to another
+    /// thread. Nothing is copied where the book owns its bytes; lent bytes are.
+    ///
+    /// ```
+    /// use std::sync::Arc;
+    /// use typebook::{Tape, TypeBook, TypeBuilder, Value};
+    ///
+    /// struct Page {
+    ///     book: Arc<TypeBook<'static>>,
+    ///     values: Tape<'static>,
+    /// }
+    ///
+    /// let book = Arc::new(TypeBook::builder().with(TypeBuilder::new("INT").id(2).size(2)).build(8)?);
+    /// let values = book.root(0)?.read(&[5, 0])?.into_owned();
+    /// let page = Page { book, values };
+    /// assert_eq!(page.values.iter().next().map(|r| r.value), Some(Value::Int { bits: 16, value: 5 }));
+    /// assert_eq!(page.book.root(0)?.write(&[0, 0], &page.values)?, [5, 0]);
+    /// # Ok::<(), Box<dyn std::error::Error>>(())
+    /// ```
+    pub fn into_owned(self) -> Tape<'static> {
+        Tape {
+            book: self.book.into_kept(),
+            records: self.records,
+            text: self.text,
+            edited: self.edited,
         }
     }
 
@@ -147,9 +176,12 @@ impl<'b> Tape<'b> {
     /// The records in order.
     ///
     /// ```
-    /// # use typebook::{Refusal, TypeBook, Value};
-    /// # let book = TypeBook::new(twin::make::example())?;
-    /// let tape = book.root(0)?.read(8, &[1, 0, 2, 0])?;
+    /// # use typebook::{TypeBook, TypeBuilder, Value};
+    /// # let types = TypeBook::builder()
+    /// #     .with(TypeBuilder::new("S").size(4).field("A", "INT", 0, 2).field("B", "INT", 2, 2))
+    /// #     .with(TypeBuilder::new("INT").id(2).size(2));
+    /// # let book = types.build(8)?;
+    /// let tape = book.root(0)?.read(&[1, 0, 2, 0])?;
     /// let mut sum = 0;
     /// for record in &tape {
     ///     if let Value::Int { value, .. } = record.value {
@@ -157,7 +189,7 @@ impl<'b> Tape<'b> {
     ///     }
     /// }
     /// assert_eq!(sum, 3);
-    /// # Ok::<(), Refusal>(())
+    /// # Ok::<(), Box<dyn std::error::Error>>(())
     /// ```
     pub fn iter(&self) -> Records<'_> {
         Records {
@@ -176,7 +208,7 @@ impl<'b> Tape<'b> {
     pub(crate) fn value(&self, at: usize) -> (Option<u32>, Value<'_>) {
         let bits = 8 * u32::from(self.records[at + 1]);
         let (a, b) = (self.number(at + 8), self.number(at + 16));
-        let name = || name_in(self.book, a as u32, total::name);
+        let name = || name_in(&self.book, a as u32, total::name);
         match self.records[at] {
             1 => (None, Value::Array(a)),
             3 => (None, Value::Map(a)),
