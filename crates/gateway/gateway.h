@@ -46,6 +46,13 @@
 extern "C" {
 #endif
 
+/* ---- which library this is */
+
+/* The version that this header describes, and that of the library: two hexadecimal digits for each of three parts, as 0x000100 for
+ * 0.1.0. */
+#define GATEWAY_VERSION 0x000100
+uint32_t gateway_version(void);
+
 /* ---- texts: UTF-8 on one side, the controller's bytes on the other (WHATWG Encoding Standard) */
 
 /* Decodes Windows-1252 bytes to UTF-8, into `out` from byte `at` on: all the bytes, zeros too. Returns the place after the text; `out`
@@ -132,6 +139,17 @@ uint8_t gateway_time_count(const uint8_t *name, size_t name_len, const uint32_t 
  * the buffer, or over 65,536 blocks. A refusal leaves the buffer as before. */
 uint8_t gateway_append(uint8_t *buffer, size_t buffer_len, size_t len, const uint8_t *piece, size_t piece_len, uint64_t *values,
                        size_t values_len);
+
+/* Marks the names of a checked book's types in `marks`, 32,768 elements exactly, which may hold anything before: a mark too many only
+ * costs a search. Which other marks are set is not said. */
+void gateway_mark_names_in(const uint8_t *book, size_t book_len, uint32_t *marks, size_t marks_len);
+
+/* The same as gateway_append without a check of the book and mostly without a search of it, for many types one after the other. It may
+ * only be called where gateway_check_book(buffer, buffer_len, len) would return 0 and with `marks` that gateway_mark_names_in made of
+ * that book, or that this call left with it; both unchanged since. The longer book is valid then, and its names are marked. A book that
+ * was cut back to its first types may keep its marks. */
+uint8_t gateway_append_in(uint8_t *buffer, size_t buffer_len, size_t len, const uint8_t *piece, size_t piece_len, uint32_t *marks,
+                          size_t marks_len, uint64_t *values, size_t values_len);
 
 /* ---- aliases, references, fields */
 

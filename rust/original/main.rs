@@ -236,12 +236,12 @@ impl<'de, S: Sink> Visitor<'de> for Name<'_, S> {
 
 fn walks() {
     let bytes = speed::reached();
-    let (book, cache) = (TypeBook::new(&bytes[..]).expect("valid"), cache(&bytes));
+    let (book, cache) = (TypeBook::new(&bytes[..], WIDTH).expect("valid"), cache(&bytes));
     let (port, original) = (book.root(0).expect("a type"), root(&cache, &bytes));
     let mut scratch = Scratch::new();
-    assert_eq!(port.requires_read_modify_write(WIDTH), Ok(false));
+    assert_eq!(port.requires_read_modify_write(), Ok(false));
     assert!(!requires_read_modify_write(&original, &cache).expect("no refusal"));
-    let missing = port.missing_types(WIDTH).expect("no refusal");
+    let missing = port.missing_types().expect("no refusal");
     assert_eq!((missing.blocks.len(), missing.count), (0, speed::TYPES));
     assert!(missing_types(&original, &cache).is_empty());
 
@@ -249,27 +249,27 @@ fn walks() {
     pair(
         "requires_read_modify_write, book checked before",
         41,
-        || port.requires_read_modify_write_with(WIDTH, &mut scratch),
+        || port.requires_read_modify_write_with(&mut scratch),
         || requires_read_modify_write(&original, &cache),
     );
     pair(
         "missing_types, book checked before",
         41,
-        || port.missing_types_with(WIDTH, &mut scratch),
+        || port.missing_types_with(&mut scratch),
         || missing_types(&original, &cache),
     );
-    let names_only = TypeBook::names_only(&bytes[..]).expect("valid");
+    let names_only = TypeBook::names_only(&bytes[..], WIDTH).expect("valid");
     let by_names = names_only.root(0).expect("a type");
     pair(
         "requires_read_modify_write, by an index of names only",
         41,
-        || by_names.requires_read_modify_write_with(WIDTH, &mut scratch),
+        || by_names.requires_read_modify_write_with(&mut scratch),
         || requires_read_modify_write(&original, &cache),
     );
     pair(
         "missing_types, by an index of names only",
         41,
-        || by_names.missing_types_with(WIDTH, &mut scratch),
+        || by_names.missing_types_with(&mut scratch),
         || missing_types(&original, &cache),
     );
     let (mut numbers, mut list, mut index) = (vec![0; 8_192], vec![0; 4_096], vec![0; typebook::calls::INDEX]);
@@ -288,13 +288,13 @@ fn prepared(bytes: &[u8]) {
     pair(
         "once: checks, index; decoding into the HashMap",
         7,
-        || TypeBook::new(bytes),
+        || TypeBook::new(bytes, WIDTH),
         || cache(bytes),
     );
     pair(
         "once: checks, names only; decoding into the HashMap",
         7,
-        || TypeBook::names_only(bytes),
+        || TypeBook::names_only(bytes, WIDTH),
         || cache(bytes),
     );
 }
@@ -318,8 +318,8 @@ fn plan(what: &str, rounds: usize, ours: &[u8], controller: &[u8]) {
     let (len, theirs) = (ours.len(), controller.len());
     let mut buffer = [ours, &vec![0; theirs]].concat();
     let (mine, whole) = (
-        TypeBook::new(ours).expect("valid"),
-        TypeBook::new(controller).expect("valid"),
+        TypeBook::new(ours, WIDTH).expect("valid"),
+        TypeBook::new(controller, WIDTH).expect("valid"),
     );
     let types = mine.types().count() + whole.types().count();
     let (mut scratch, mut index, mut values) = (vec![0; 8_192], vec![0; 4 * types], [0; 2]);
@@ -350,9 +350,9 @@ fn plans() {
 }
 
 fn reads(what: &str, (bytes, memory): (Vec<u8>, Vec<u8>)) {
-    let (book, cache) = (TypeBook::new(&bytes[..]).expect("valid"), cache(&bytes));
+    let (book, cache) = (TypeBook::new(&bytes[..], WIDTH).expect("valid"), cache(&bytes));
     let (port, original) = (book.root(0).expect("a type"), root(&cache, &bytes));
-    let tape = port.read(WIDTH, &memory).expect("read");
+    let tape = port.read(&memory).expect("read");
     let (mut records, mut text) = (vec![0; tape.bytes().len()], vec![0; tape.text().len()]);
     let (mut other, mut other_text) = (records.clone(), text.clone());
     let counted = || {
@@ -373,7 +373,7 @@ fn reads(what: &str, (bytes, memory): (Vec<u8>, Vec<u8>)) {
     assert_eq!(counted().expect("read").records as usize, tape.len());
 
     head(&format!("read, {what}: {} records", tape.len()), "original");
-    let port = &mut || port.read_into(WIDTH, &memory, &mut records, &mut text);
+    let port = &mut || port.read_into(&memory, &mut records, &mut text);
     pair(
         "book checked before; the visitor keeps nothing",
         101,
@@ -487,9 +487,9 @@ fn leaf_by<S: Serializer>(leaf: Value, s: S) -> Result<S::Ok, S::Error> {
 }
 
 fn writes(what: &str, (bytes, memory): (Vec<u8>, Vec<u8>)) {
-    let (book, cache) = (TypeBook::new(&bytes[..]).expect("valid"), cache(&bytes));
+    let (book, cache) = (TypeBook::new(&bytes[..], WIDTH).expect("valid"), cache(&bytes));
     let (port, original) = (book.root(0).expect("a type"), root(&cache, &bytes));
-    let tape = port.read(WIDTH, &memory).expect("read");
+    let tape = port.read(&memory).expect("read");
     let values: Vec<Value> = tape.iter().map(|r| r.value).collect();
     let value = held(&values).0;
     let image = vec![0x5A; memory.len()];
@@ -499,7 +499,7 @@ fn writes(what: &str, (bytes, memory): (Vec<u8>, Vec<u8>)) {
     pair(
         "book checked before; the original from values in memory",
         101,
-        || port.write_into(WIDTH, &image, tape.bytes(), tape.text(), &mut output),
+        || port.write_into(&image, tape.bytes(), tape.text(), &mut output),
         || {
             other.copy_from_slice(&image);
             value.serialize(AdsSerializer::new(&mut other, &original, &cache))
@@ -515,7 +515,7 @@ fn form_alone(tape: &Tape, port: typebook::TypeRef, image: &[u8]) {
     let mut longer = tape.bytes().to_vec();
     longer.extend_from_slice(&[13, 0, 0, 0, 0, 0, 0, 0, 0, 0, 0, 0, 0, 0, 0, 0, 0, 0, 0, 0, 0, 0, 0, 0]);
     let mut output = image.to_vec();
-    let form = || keep(port.write_into(WIDTH, image, &longer, tape.text(), &mut output));
+    let form = || keep(port.write_into(image, &longer, tape.text(), &mut output));
     let t = turns(101, &mut [&mut { form }]);
     println!(
         "{:58} {:>12}",
@@ -556,9 +556,9 @@ fn whole_write(bytes: &[u8], image: &[u8], tape: &Tape) {
 /// A tape of a million records: an array of INTs.
 fn million() {
     let (bytes, memory) = speed::array_of_ints(999_998);
-    let book = TypeBook::new(&bytes[..]).expect("valid");
+    let book = TypeBook::new(&bytes[..], WIDTH).expect("valid");
     let port = book.root(0).expect("a type");
-    let tape = port.read(WIDTH, &memory).expect("read");
+    let tape = port.read(&memory).expect("read");
     let cache = cache(&bytes);
     let original = root(&cache, &bytes);
     let values: Vec<Value> = tape.iter().map(|r| r.value).collect();
@@ -567,7 +567,7 @@ fn million() {
     let t = turns(
         9,
         &mut [
-            &mut || keep(port.write_into(WIDTH, &memory, tape.bytes(), tape.text(), &mut output)),
+            &mut || keep(port.write_into(&memory, tape.bytes(), tape.text(), &mut output)),
             &mut || {
                 other.copy_from_slice(&memory);
                 keep(value.serialize(AdsSerializer::new(&mut other, &original, &cache)))
@@ -585,11 +585,11 @@ fn million() {
 /// A struct of very many fields, all named in order: the port alone.
 fn long() {
     let (bytes, memory) = speed::struct_of_65_000();
-    let book = TypeBook::new(&bytes[..]).expect("valid");
+    let book = TypeBook::new(&bytes[..], WIDTH).expect("valid");
     let port = book.root(0).expect("a type");
-    let tape = port.read(WIDTH, &memory).expect("read");
+    let tape = port.read(&memory).expect("read");
     let mut output = memory.clone();
-    let write = || keep(port.write_into(WIDTH, &memory, tape.bytes(), tape.text(), &mut output));
+    let write = || keep(port.write_into(&memory, tape.bytes(), tape.text(), &mut output));
     let t = turns(5, &mut [&mut { write }]);
     println!("\nwrite, a struct of 65,000 fields, all named in order: {}", shown(t[0]));
 }

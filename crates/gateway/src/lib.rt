@@ -16,11 +16,13 @@ ghost use Rattle.gateway.specs.Calls.{BuildGiven};
 ghost use Rattle.gateway.specs.Numbers.{WroteAs, FoundAs};
 use type_index::Trust;
 
+pub mod appending;
 pub mod book;
 pub mod plan;
 pub mod read;
 pub mod resolve;
 pub mod time;
+pub mod version;
 pub mod walk;
 pub mod write;
 

@@ -29,7 +29,7 @@ fn is_one_type(addition: &[u8]) -> bool
 
 // Document 01's number of a refusal of the addition, which is tested as a book is. Two types of one name are more than
 // one type, so they are 3 and not 4.
-fn addition_refusal(addition: &[u8]) -> u8
+pub fn addition_refusal(addition: &[u8]) -> u8
     ensures { λ r. ⌜ r ≡ additionRefusal (now (addition .entry)) ⌝ }
 {
     let check = check_book(addition, addition.len());

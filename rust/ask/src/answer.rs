@@ -25,7 +25,7 @@ pub struct More {
 /// One request on a book; none if there is no such request.
 pub fn answer(request: &str, width: u8, bytes: &[u8], root: u32, more: &More) -> Option<String> {
     let memory = &more.memory[..];
-    let book = match TypeBook::new(bytes) {
+    let book = match TypeBook::new(bytes, width) {
         Ok(book) => book,
         Err(refusal) => return Some(format!("err {}", refusal.number())),
     };
@@ -34,20 +34,14 @@ pub fn answer(request: &str, width: u8, bytes: &[u8], root: u32, more: &More) ->
         Err(refusal) => return Some(format!("err {}", refusal.number())),
     };
     let told = match request {
-        "cat" => Ok(format!("{:?}", t.category(width))),
-        "alias" => agreed(t.resolve_alias(width), &book, t, width, calls::resolve_alias),
-        "indir" => agreed(
-            t.resolve_indirection(width),
-            &book,
-            t,
-            width,
-            calls::resolve_indirection,
-        ),
+        "cat" => Ok(format!("{:?}", t.category())),
+        "alias" => agreed(t.resolve_alias(), &book, t, width, calls::resolve_alias),
+        "indir" => agreed(t.resolve_indirection(), &book, t, width, calls::resolve_indirection),
         "rmw" => rmw(&book, t, width),
-        "missing" => t.missing_types(width).map(|missing| listed(&book, t, width, &missing)),
-        "fields" => fields(t, width),
+        "missing" => t.missing_types().map(|missing| listed(&book, t, width, &missing)),
+        "fields" => fields(t),
         "read" => t
-            .read_within(width, memory, more.room)
+            .read_within(memory, more.room)
             .map(|tape| events(&book, t, width, memory, &tape)),
         "write" => written(&book, t, width, more),
         "plan" => Ok(planned(&book, t, width, memory)),
@@ -71,7 +65,7 @@ type Call = fn(&[u8], usize, u8, u64, &mut [u64]) -> u8;
 fn same<T>(number: u8, block: u64, result: &Result<T, Refusal>) -> bool {
     match result {
         Ok(_) => number == 0,
-        Err(refusal) => number == refusal.number() && Refusal::from_number(number, block) == *refusal,
+        Err(refusal) => number == refusal.number() && Refusal::from_number(number, block) == Some(*refusal),
     }
 }
 
@@ -99,7 +93,7 @@ fn index(bytes: &[u8]) -> Vec<u32> {
 }
 
 fn rmw(book: &TypeBook, t: TypeRef, width: u8) -> Result<String, Refusal> {
-    let result = t.requires_read_modify_write(width);
+    let result = t.requires_read_modify_write();
     let (mut scratch, mut values) = (vec![1; 8_192], [0]);
     let bytes = book.bytes();
     let number = calls::requires_read_modify_write(
@@ -146,9 +140,9 @@ fn listed(book: &TypeBook, t: TypeRef, width: u8, missing: &Missing) -> String {
     format!("{out} whole={} count={}", u8::from(missing.whole), missing.count)
 }
 
-fn fields(t: TypeRef, width: u8) -> Result<String, Refusal> {
+fn fields(t: TypeRef) -> Result<String, Refusal> {
     let mut out = "ok".to_string();
-    for f in t.fields(width)? {
+    for f in t.fields()? {
         let name = hex_or_dash(f.name.as_bytes());
         write!(
             out,
@@ -201,7 +195,7 @@ fn events(book: &TypeBook, t: TypeRef, width: u8, memory: &[u8], tape: &Tape) ->
 fn written(book: &TypeBook, t: TypeRef, width: u8, more: &More) -> Result<String, Refusal> {
     let More { memory, tape, text, .. } = more;
     let (mut output, mut other, mut values) = (vec![1; memory.len()], vec![2; memory.len()], [0]);
-    let result = t.write_into(width, memory, tape, text, &mut output);
+    let result = t.write_into(memory, tape, text, &mut output);
     let (bytes, root) = (book.bytes(), t.block().into());
     let number = calls::write(
         bytes,
@@ -223,11 +217,11 @@ fn written(book: &TypeBook, t: TypeRef, width: u8, more: &More) -> Result<String
 
 /// Yes or no, after which the completed book must lack nothing; or the refusal, 7 with the missing name.
 fn planned(book: &TypeBook, t: TypeRef, width: u8, controller: &[u8]) -> String {
-    let controller = match TypeBook::new(controller) {
+    let controller = match TypeBook::new(controller, width) {
         Ok(controller) => controller,
         Err(refusal) => return format!("err {}", refusal.number()),
     };
-    let result = book.plan(&controller, width, u64::from(t.block()));
+    let result = book.plan(&controller, u64::from(t.block()));
     if !plans_alike(book, t, width, &controller, &result) {
         return "differ".into();
     }
@@ -262,10 +256,7 @@ fn plans_alike(
     );
     match result {
         Ok(plan) => {
-            let lacks_none = plan
-                .book
-                .root(u64::from(t.block()))
-                .and_then(|t| t.missing_types(width));
+            let lacks_none = plan.book.root(u64::from(t.block())).and_then(|t| t.missing_types());
             let bytes = plan.book.bytes();
             number == 0
                 && values == [u64::from(plan.read_modify_write), bytes.len() as u64]

@@ -1,8 +1,10 @@
 //! Times the static library against the plain twin: walks, reads, writes, look-ups, checks, encodings.
 //!
-//!     cargo run --release --offline -p speed             # all; with the word plan the plans alone, with index change request 14's table
+//!     cargo run --release --offline -p speed             # all; with the word plan, grow or index that part alone
 //!
 //! Medians of rounds in which the two sides take turns; above 1 the port is quicker. Nothing of the gate needs it.
+
+mod grow;
 
 use speed::{TYPES, head, keep, line, pair, turns};
 use twin::make::{Type, book};
@@ -13,36 +15,36 @@ const WIDTH: u8 = 8;
 
 fn walks() {
     let bytes = speed::reached();
-    let book = TypeBook::new(&bytes[..]).expect("valid");
+    let book = TypeBook::new(&bytes[..], WIDTH).expect("valid");
     let root = book.root(0).expect("a type");
     let (twin, plain) = (twin::Book::new(&bytes), twin::Book::without_map(&bytes));
     let mut s = Scratch::new();
-    let missing = root.missing_types(WIDTH).expect("no refusal");
+    let missing = root.missing_types().expect("no refusal");
     assert_eq!((missing.blocks.len(), missing.whole, missing.count), (0, true, TYPES));
 
     head("walks, 4,096 types of four fields, all reached", "twin");
     pair(
         "requires_read_modify_write, checked before; HashMap",
         41,
-        || root.requires_read_modify_write_with(WIDTH, &mut s),
+        || root.requires_read_modify_write_with(&mut s),
         || twin::walk::requires_read_modify_write(&twin, WIDTH, 0),
     );
     pair(
         "requires_read_modify_write, checked before; each look-up a scan",
         3,
-        || root.requires_read_modify_write_with(WIDTH, &mut s),
+        || root.requires_read_modify_write_with(&mut s),
         || twin::walk::requires_read_modify_write(&plain, WIDTH, 0),
     );
     pair(
         "missing_types, checked before; HashMap",
         41,
-        || root.missing_types_with(WIDTH, &mut s),
+        || root.missing_types_with(&mut s),
         || twin::walk::missing_types(&twin, WIDTH, 0),
     );
     pair(
         "missing_types, checked before; each look-up a scan",
         3,
-        || root.missing_types_with(WIDTH, &mut s),
+        || root.missing_types_with(&mut s),
         || twin::walk::missing_types(&plain, WIDTH, 0),
     );
     whole_walk(&bytes);
@@ -106,8 +108,8 @@ fn plan(what: &str, rounds: usize, ours: &[u8], controller: &[u8]) {
     let mut buffer = [ours, &vec![0; theirs]].concat();
     let (mut other, mut third) = (buffer.clone(), buffer.clone());
     let (mine, whole) = (
-        TypeBook::new(ours).expect("valid"),
-        TypeBook::new(controller).expect("valid"),
+        TypeBook::new(ours, WIDTH).expect("valid"),
+        TypeBook::new(controller, WIDTH).expect("valid"),
     );
     let types = mine.types().count() + whole.types().count();
     let (mut scratch, mut index) = (vec![0; 8_192], vec![0; 4 * types]);
@@ -125,7 +127,7 @@ fn plan(what: &str, rounds: usize, ours: &[u8], controller: &[u8]) {
                 twin::calls::plan_save(&mut other, len, controller, theirs, WIDTH, 0, s, i, &mut wanted);
             },
             &mut || keep(twin::plan::plan(&mut third, len, controller, WIDTH, 0)),
-            &mut || keep(mine.plan(&whole, WIDTH, 0)),
+            &mut || keep(mine.plan(&whole, 0)),
         ],
     );
     assert!(buffer == other && buffer == third && values == wanted);
@@ -152,9 +154,12 @@ fn plans() {
 }
 
 fn reads(what: &str, (bytes, memory): (Vec<u8>, Vec<u8>)) {
-    let (book, twin) = (TypeBook::new(&bytes[..]).expect("valid"), twin::Book::new(&bytes));
+    let (book, twin) = (
+        TypeBook::new(&bytes[..], WIDTH).expect("valid"),
+        twin::Book::new(&bytes),
+    );
     let root = book.root(0).expect("a type");
-    let whole = root.read(WIDTH, &memory).expect("read");
+    let whole = root.read(&memory).expect("read");
     let (mut tape, mut text) = (vec![0; whole.bytes().len()], vec![0; whole.text().len()]);
     let (mut other, mut others) = (tape.clone(), text.clone());
 
@@ -162,16 +167,19 @@ fn reads(what: &str, (bytes, memory): (Vec<u8>, Vec<u8>)) {
     pair(
         &format!("{} records, checked before", whole.len()),
         41,
-        || root.read_into(WIDTH, &memory, &mut tape, &mut text),
+        || root.read_into(&memory, &mut tape, &mut text),
         || twin::calls::read_in(&twin, WIDTH, 0, &memory, &mut other, &mut others),
     );
     assert!(tape == other && text == others);
 }
 
 fn writes(what: &str, (bytes, memory): (Vec<u8>, Vec<u8>)) {
-    let (book, twin) = (TypeBook::new(&bytes[..]).expect("valid"), twin::Book::new(&bytes));
+    let (book, twin) = (
+        TypeBook::new(&bytes[..], WIDTH).expect("valid"),
+        twin::Book::new(&bytes),
+    );
     let root = book.root(0).expect("a type");
-    let tape = root.read(WIDTH, &memory).expect("read");
+    let tape = root.read(&memory).expect("read");
     let (records, text) = (tape.bytes(), tape.text());
     let (mut output, mut other) = (memory.clone(), memory.clone());
 
@@ -179,7 +187,7 @@ fn writes(what: &str, (bytes, memory): (Vec<u8>, Vec<u8>)) {
     pair(
         &format!("{} records, checked before", tape.len()),
         41,
-        || root.write_into(WIDTH, &memory, records, text, &mut output),
+        || root.write_into(&memory, records, text, &mut output),
         || twin::calls::write_in(&twin, WIDTH, 0, &memory, records, text, &mut other),
     );
     assert!(output == other);
@@ -197,16 +205,19 @@ fn one_text(what: &str, before: &[u8]) {
     }
     tape.put(2, 0, 0, 0);
     let (bytes, records) = (types(1), &tape.records[..]);
-    let (book, twin) = (TypeBook::new(&bytes[..]).expect("valid"), twin::Book::new(&bytes));
+    let (book, twin) = (
+        TypeBook::new(&bytes[..], WIDTH).expect("valid"),
+        twin::Book::new(&bytes),
+    );
     let root = book.root(0).expect("a type");
     let (mut output, mut other) = ([0; 2], [0; 2]);
-    let refused = root.write_into(WIDTH, &[0; 2], records, &text, &mut output);
+    let refused = root.write_into(&[0; 2], records, &text, &mut output);
     assert_eq!(refused.expect_err("no array").number(), 17);
 
     pair(
         what,
         3,
-        || root.write_into(WIDTH, &[0; 2], records, &text, &mut output),
+        || root.write_into(&[0; 2], records, &text, &mut output),
         || twin::calls::write_in(&twin, WIDTH, 0, &[0; 2], records, &text, &mut other),
     );
 }
@@ -286,7 +297,10 @@ fn checks() {
 
 fn look_ups() {
     let bytes = types(TYPES);
-    let (book, twin) = (TypeBook::new(&bytes[..]).expect("valid"), twin::Book::new(&bytes));
+    let (book, twin) = (
+        TypeBook::new(&bytes[..], WIDTH).expect("valid"),
+        twin::Book::new(&bytes),
+    );
     let names: Vec<String> = (0..TYPES).step_by(41).map(|i| format!("ST_Recipe{i}")).collect();
     head("100 look-ups among 4,096 types", "twin");
     pair(
@@ -345,11 +359,17 @@ fn main() {
     match std::env::args().nth(1).as_deref() {
         Some("plan") => return plans(),
         Some("index") => return indexes(),
+        Some("grow") => {
+            grow::growing();
+            return grow::one_type();
+        }
         _ => {}
     }
     walks();
     indexes();
     plans();
+    grow::growing();
+    grow::one_type();
     reads("a struct of 200 fields among 4,096 types", speed::struct_of_200());
     reads("an array of 10,000 structs of 6 fields", speed::array_of_10_000());
     long_read(speed::struct_among_60_000());

@@ -32,17 +32,17 @@ fn edit(words: &[String]) -> Result<(), Box<dyn Error>> {
     };
     let file =
         |name: &str| std::fs::read(folder.join(name)).map_err(|e| format!("{}: {e}", folder.join(name).display()));
-    let book = TypeBook::new(file("book.bin")?)?;
+    let book = TypeBook::new(file("book.bin")?, WIDTH)?;
     let image = file("mem.bin")?;
     let recipe = book.root(0)?;
 
-    let mut tape = recipe.read(WIDTH, &image)?;
+    let mut tape = recipe.read(&image)?;
     let before = tape.at(path)?.to_string();
     let new = new_value(tape.at(path)?, value)?;
     tape.edit(path, new)?;
 
-    let output = recipe.write(WIDTH, &image, &tape.edits())?;
-    let again = recipe.read(WIDTH, &output)?;
+    let output = recipe.write(&image, &tape.edits())?;
+    let again = recipe.read(&output)?;
     println!("{}: {path} was {before}, is {}", recipe.name(), again.at(path)?);
     for (at, (old, new)) in image.iter().zip(&output).enumerate().filter(|(_, (a, b))| a != b) {
         println!("byte {at}: {old:02X} -> {new:02X}");

@@ -10,7 +10,7 @@ use std::collections::BTreeSet;
 use std::error::Error;
 use std::fmt::Write;
 use std::path::{Path, PathBuf};
-use typebook::{Category, Tape, TypeBook, TypeRef, Value};
+use typebook::{Category, Tape, TypeBook, TypeBuilder, Value};
 
 const WIDTH: u8 = 8;
 /// What the fitter of examples/pieces compiled.
@@ -38,7 +38,7 @@ fn main() {
 pub fn told(folder: &Path, unknown: &[String]) -> Result<String, Box<dyn Error>> {
     let file =
         |name: &str| std::fs::read(folder.join(name)).map_err(|e| format!("{}: {e}", folder.join(name).display()));
-    let controller = TypeBook::new(file("book.bin")?)?;
+    let controller = TypeBook::new(file("book.bin")?, WIDTH)?;
     let memory = file("mem.bin")?;
     let ours = without(&controller, unknown)?;
     let root = controller.root(0)?.name();
@@ -46,12 +46,12 @@ pub fn told(folder: &Path, unknown: &[String]) -> Result<String, Box<dyn Error>>
     writeln!(out, " the controller's {}.\n", controller.types().count())?;
 
     let one_by_one = asks_and_adds(&mut out, &ours, &controller, root)?;
-    let plan = ours.plan(&controller, WIDTH, root)?;
+    let plan = ours.plan(&controller, root)?;
     writeln!(out, "answer: {}", answer(plan.read_modify_write))?;
     assert_eq!(one_by_one, plan.read_modify_write);
     writeln!(out, "in one call: plan adds {}; the same answer", plan.added.join(", "))?;
-    let from_nothing = asks_and_adds(&mut String::new(), &TypeBook::empty(), &controller, root)?;
-    let all = TypeBook::empty().plan(&controller, WIDTH, root)?;
+    let from_nothing = asks_and_adds(&mut String::new(), &TypeBook::empty(WIDTH), &controller, root)?;
+    let all = TypeBook::empty(WIDTH).plan(&controller, root)?;
     assert_eq!((from_nothing, all.read_modify_write), (one_by_one, one_by_one));
     writeln!(
         out,
@@ -62,7 +62,7 @@ pub fn told(folder: &Path, unknown: &[String]) -> Result<String, Box<dyn Error>>
     let guess = taken_for_empty(&ours, root)?;
     writeln!(out, "A walk that takes an unknown type for empty: {}", answer(guess))?;
     if plan.read_modify_write && !guess {
-        let lost = held(&plan.book, &plan.book.root(root)?.read(WIDTH, &memory)?);
+        let lost = held(&plan.book, &plan.book.root(root)?.read(&memory)?);
         writeln!(
             out,
             "That would have cleared what the function block holds: {}",
@@ -83,7 +83,8 @@ fn answer(yes: bool) -> &'static str {
 fn without(book: &TypeBook, names: &[String]) -> Result<TypeBook<'static>, Box<dyn Error>> {
     let held = book.types().filter(|t| !names.iter().any(|n| n == t.name()));
     Ok(TypeBook::new(
-        held.flat_map(TypeRef::definition).copied().collect::<Vec<u8>>(),
+        held.flat_map(|t| t.blocks()).copied().collect::<Vec<u8>>(),
+        WIDTH,
     )?)
 }
 
@@ -102,18 +103,18 @@ fn asks_and_adds(out: &mut String, ours: &TypeBook, controller: &TypeBook, root:
             let t = controller
                 .find(name)
                 .ok_or(format!("the controller has no type {name}"))?;
-            book = book.append(t.definition())?;
+            book.append(t.blocks())?;
             writeln!(out, "  add {name}")?;
         }
     }
-    Ok(book.root(root)?.requires_read_modify_write(WIDTH)?)
+    Ok(book.root(root)?.requires_read_modify_write()?)
 }
 
 /// The names that an ask lists, the root's own where the book lacks it; one that isn't whole is no answer.
 fn unknown(book: &TypeBook, root: &str) -> Result<BTreeSet<String>, Box<dyn Error>> {
-    let missing = book.missing_types(root, WIDTH)?;
+    let missing = book.missing_types(root)?;
     match missing.whole {
-        true => Ok(missing.names(book, root).into_iter().map(String::from).collect()),
+        true => Ok(missing.names(book, root).into_iter().collect()),
         false => Err("not all types could be walked: don't save".into()),
     }
 }
@@ -122,16 +123,9 @@ fn unknown(book: &TypeBook, root: &str) -> Result<BTreeSet<String>, Box<dyn Erro
 fn taken_for_empty(ours: &TypeBook, root: &str) -> Result<bool, Box<dyn Error>> {
     let mut book = ours.clone();
     for name in unknown(ours, root)? {
-        let mut block = [0; 512];
-        block[0] = 1;
-        block[4] = 65;
-        block[52] = name.len() as u8;
-        block[54..54 + name.len()].copy_from_slice(name.as_bytes());
-        let sum: u32 = block.iter().map(|&b| u32::from(b)).sum();
-        block[508..].copy_from_slice(&sum.to_le_bytes());
-        book = book.append(&block)?;
+        book.append(&TypeBuilder::new(name).blocks()?)?;
     }
-    Ok(book.root(root)?.requires_read_modify_write(WIDTH)?)
+    Ok(book.root(root)?.requires_read_modify_write()?)
 }
 
 /// The values that lie in a function block, with their names.
@@ -155,6 +149,6 @@ fn held(book: &TypeBook, tape: &Tape) -> Vec<String> {
 
 /// Whether a field's type comes to a function block.
 fn is_function_block(book: &TypeBook, field: u32) -> bool {
-    let resolved = book.find(book.type_name(field)).map(|t| t.resolve_alias(WIDTH));
-    matches!(resolved, Some(Ok(t)) if t.category(WIDTH) == Category::FunctionBlock)
+    let resolved = book.find(book.type_name(field)).map(|t| t.resolve_alias());
+    matches!(resolved, Some(Ok(t)) if t.category() == Category::FunctionBlock)
 }

@@ -122,9 +122,9 @@ impl Tape<'_> {
     /// use typebook::{EditError, Step, TypeBook, Value};
     /// # let folder = concat!(env!("CARGO_MANIFEST_DIR"), "/../../examples/glue/");
     /// # let file = |name: &str| std::fs::read(format!("{folder}{name}"));
-    /// let book = TypeBook::new(file("book.bin")?)?;
+    /// let book = TypeBook::new(file("book.bin")?, 8)?;
     /// let (recipe, image) = (book.root(0)?, file("mem.bin")?);
-    /// let mut tape = recipe.read(8, &image)?;
+    /// let mut tape = recipe.read(&image)?;
     /// tape.edit("Title", "Spine 8")?;
     /// tape.edit("Glue", "COLD")?;
     /// tape.edit("Tank.Heated", false)?;
@@ -133,7 +133,7 @@ impl Tape<'_> {
     /// assert_eq!(tape.at("Pattern[1,2]")?, Value::Int { bits: 16, value: 9 });
     ///
     /// // What was written is read again.
-    /// let again = recipe.read(8, &recipe.write(8, &image, &tape.edits())?)?;
+    /// let again = recipe.read(&recipe.write(&image, &tape.edits())?)?;
     /// assert_eq!(again.at("Title")?, Value::Text { text: "Spine 8", clipped: false });
     ///
     /// // What can't be is an error at once, and the tape stays as it is.
@@ -169,24 +169,24 @@ impl Tape<'_> {
     /// use typebook::{Refusal, TypeBook};
     /// # let folder = concat!(env!("CARGO_MANIFEST_DIR"), "/../../examples/glue/");
     /// # let file = |name: &str| std::fs::read(format!("{folder}{name}"));
-    /// # let book = TypeBook::new(file("book.bin")?)?;
+    /// # let book = TypeBook::new(file("book.bin")?, 8)?;
     /// # let (recipe, image) = (book.root(0)?, file("mem.bin")?);
-    /// let mut tape = recipe.read(8, &image)?;
+    /// let mut tape = recipe.read(&image)?;
     /// tape.edit("Nozzles[2].Flow", 7)?;
     /// // A map of one field, of an array of three maps, of which the last has one field.
     /// assert_eq!(format!("{:?}", tape.edits()), "[Map(1), Key(\"Nozzles\"), Array(3), Map(0), End, Map(0), End, \
     ///     Map(1), Key(\"Flow\"), Nat { bits: 16, value: 7 }, End, End, End]");
-    /// assert!(recipe.write(8, &image, &tape.edits()).is_ok());
+    /// assert!(recipe.write(&image, &tape.edits()).is_ok());
     ///
     /// // The whole tape can't be written: a text in it fills its bytes to the last, and has no room for its zero.
     /// assert_eq!(tape.at("Operator")?.to_string(), "\"M. Fische\" (clipped)");
-    /// assert_eq!(recipe.write(8, &image, &tape), Err(Refusal::Size));
+    /// assert_eq!(recipe.write(&image, &tape), Err(Refusal::Size));
     /// # Ok::<(), Box<dyn std::error::Error>>(())
     /// ```
     pub fn edits(&self) -> Self {
         let mut records = Vec::new();
         self.put_edits(0, &mut records);
-        Tape::new(self.book, self.root, records, self.text.clone())
+        Tape::new(self.book.clone(), self.declares, records, self.text.clone())
     }
 
     /// Puts the value at a place, of maps only the keys with something changed, and gives the place after it.
@@ -313,7 +313,7 @@ impl Tape<'_> {
         let first = (0..=old).rev().take_while(is_entry).last().unwrap_or(old);
         let mut entries = (first..).take_while(is_entry).map(|n| n as u32);
         entries
-            .find(|&n| name_in(self.book, n, total::name) == name)
+            .find(|&n| name_in(&self.book, n, total::name) == name)
             .ok_or_else(|| EditError::UnknownEntry(name.into()))
     }
 }
@@ -343,7 +343,7 @@ mod tests {
 
     /// A book with one value of each kind, in a map that stands twice in an array.
     fn tape<'a>(book: &'a TypeBook) -> Tape<'a> {
-        book.root(0).expect("a type").read(8, &[0; 30]).expect("read")
+        book.root(0).expect("a type").read(&[0; 30]).expect("read")
     }
 
     fn all_kinds() -> Vec<u8> {
@@ -376,7 +376,7 @@ mod tests {
 
     #[test]
     fn each_kind_at_its_edges() {
-        let book = TypeBook::new(all_kinds()).expect("valid");
+        let book = TypeBook::new(all_kinds(), 8).expect("valid");
         let mut tape = tape(&book);
         for (path, new, fine) in [
             ("[1].i", New::Int(-128), true),
@@ -403,12 +403,12 @@ mod tests {
         wanted[6..14].copy_from_slice(&1e300f64.to_le_bytes());
         wanted[15] = 127;
         wanted[29] = 1;
-        assert_eq!(root.write(8, &[0; 30], &tape), Ok(wanted.to_vec()));
+        assert_eq!(root.write(&[0; 30], &tape), Ok(wanted.to_vec()));
     }
 
     #[test]
     fn what_is_not_there() {
-        let book = TypeBook::new(all_kinds()).expect("valid");
+        let book = TypeBook::new(all_kinds(), 8).expect("valid");
         let mut tape = tape(&book);
         let before = tape.bytes().to_vec();
         for (path, wanted) in [
@@ -437,25 +437,25 @@ mod tests {
             Type::new("N").size(6),
             Type::new("STRING").id(30).size(3),
         ];
-        let book = TypeBook::new(book(&types)).expect("valid");
+        let book = TypeBook::new(book(&types), 8).expect("valid");
         let root = book.root(0).expect("a type");
         let image = *b"\x01\x00abcdefxyz";
-        let mut tape = root.read(8, &image).expect("read");
-        assert_eq!(root.write(8, &image, &tape.edits()), Ok(image.to_vec()));
+        let mut tape = root.read(&image).expect("read");
+        assert_eq!(root.write(&image, &tape.edits()), Ok(image.to_vec()));
         tape.edit("a", 5).expect("an integer");
-        assert_eq!(root.write(8, &image, &tape), Err(Refusal::Mismatch));
+        assert_eq!(root.write(&image, &tape), Err(Refusal::Mismatch));
         let wanted = b"\x05\x00abcdefxyz".to_vec();
-        assert_eq!(root.write(8, &image, &tape.edits()), Ok(wanted));
+        assert_eq!(root.write(&image, &tape.edits()), Ok(wanted));
         tape.edit("t", "ab").expect("a text");
         let wanted = b"\x05\x00abcdefab\0".to_vec();
-        assert_eq!(root.write(8, &image, &tape.edits()), Ok(wanted));
+        assert_eq!(root.write(&image, &tape.edits()), Ok(wanted));
     }
 
     #[test]
     fn doubled_names_are_not_guessed() {
         let s = Type::new("S").size(4).field("a", "INT", 0, 2).field("a", "INT", 2, 2);
-        let book = TypeBook::new(book(&[s, int()])).expect("valid");
-        let mut tape = book.root(0).expect("a type").read(8, &[0; 4]).expect("read");
+        let book = TypeBook::new(book(&[s, int()]), 8).expect("valid");
+        let mut tape = book.root(0).expect("a type").read(&[0; 4]).expect("read");
         assert_eq!(tape.edit("a", 1), Err(EditError::Doubled("a".into())));
     }
 }

@@ -4,7 +4,9 @@
 //! that was checked and a root that is one of its type blocks; [`Checked`] and [`TypeBlock`] can only be had by those checks, and
 //! their bytes can't change while they are lent. An index may hold any numbers.
 
+use crate::bytes::Bytes;
 use std::borrow::Cow;
+use std::sync::OnceLock;
 
 mod raw {
     // A slice crosses as a pointer and a length. tests/declarations.rs holds these against the exports of crates/gateway.
@@ -88,6 +90,19 @@ mod raw {
             values: *mut u64,
             values_len: usize,
         ) -> u8;
+        pub fn gateway_mark_names_in(book: *const u8, book_len: usize, marks: *mut u32, marks_len: usize);
+        pub fn gateway_append_in(
+            buffer: *mut u8,
+            buffer_len: usize,
+            len: usize,
+            piece: *const u8,
+            piece_len: usize,
+            marks: *mut u32,
+            marks_len: usize,
+            values: *mut u64,
+            values_len: usize,
+        ) -> u8;
+        pub fn gateway_version() -> u32;
         pub fn gateway_resolve_alias(
             buffer: *const u8,
             buffer_len: usize,
@@ -520,6 +535,11 @@ pub mod total {
                 values.len(),
             )
         }
+    }
+
+    /// The library's version: two hexadecimal digits for each of three parts.
+    pub fn version() -> u32 {
+        unsafe { raw::gateway_version() }
     }
 
     /// Value: the block that the root's aliases come to.
@@ -1062,21 +1082,34 @@ pub mod total {
     }
 }
 
+/// The marks of a book's names have this many numbers.
+const MARKS: usize = 32_768;
+
 /// A book that the library has found valid, with an index.
 #[derive(Clone)]
 pub(crate) struct Checked<'a> {
-    bytes: Cow<'a, [u8]>,
-    index: Vec<u32>,
+    bytes: Bytes<'a>,
+    /// Whether the index is one of the names alone.
+    names_only: bool,
+    index: OnceLock<Vec<u32>>,
+    /// Empty, or the names of all types are marked here.
+    marks: Vec<u32>,
 }
 
 impl<'a> Checked<'a> {
-    /// The checks of document 01's refusals 1 to 4, or the number of the one that is met first; no index yet.
-    fn bare(bytes: Cow<'a, [u8]>) -> Result<Self, u8> {
+    /// The checks of document 01's refusals 1 to 4, or the number of the one that is met first.
+    fn tested(bytes: Cow<'a, [u8]>, names_only: bool) -> Result<Self, u8> {
         match total::check_book(&bytes, bytes.len()) {
-            0 => Ok(Self {
-                bytes,
-                index: Vec::new(),
-            }),
+            0 => {
+                let checked = Self {
+                    bytes: bytes.into(),
+                    names_only,
+                    index: OnceLock::new(),
+                    marks: Vec::new(),
+                };
+                checked.index();
+                Ok(checked)
+            }
             number => Err(number),
         }
     }
@@ -1088,31 +1121,92 @@ impl<'a> Checked<'a> {
 
     /// A checked book with an index of its names.
     pub(crate) fn names_only(bytes: Cow<'a, [u8]>) -> Result<Self, u8> {
-        let mut checked = Self::bare(bytes)?;
-        checked.index = vec![0; checked.slots()];
-        total::fill_names(&checked.bytes, &mut checked.index);
-        Ok(checked)
+        Self::tested(bytes, true)
     }
 
     /// A checked book with an index of its names and a hint for each block.
     pub(crate) fn new(bytes: Cow<'a, [u8]>) -> Result<Self, u8> {
-        let mut checked = Self::bare(bytes)?;
-        let blocks = checked.bytes.len() / 512;
-        checked.index = vec![0; blocks + checked.slots().max(2 * blocks)];
-        total::fill_index(&checked.bytes, &mut checked.index);
-        Ok(checked)
+        Self::tested(bytes, false)
     }
 
     pub(crate) fn bytes(&self) -> &[u8] {
         &self.bytes
     }
 
-    pub(crate) fn into_bytes(self) -> Cow<'a, [u8]> {
-        self.bytes
+    /// The bytes, to be kept beside the book.
+    pub(crate) fn shared(&self) -> Bytes<'a> {
+        self.bytes.clone()
     }
 
+    pub(crate) fn into_bytes(self) -> Cow<'a, [u8]> {
+        self.bytes.into_cow()
+    }
+
+    pub(crate) fn into_kept(self) -> Checked<'static> {
+        Checked {
+            bytes: self.bytes.into_kept(),
+            names_only: self.names_only,
+            index: self.index,
+            marks: self.marks,
+        }
+    }
+
+    /// The index, made when the book is checked, and at the first call after it was appended to.
     pub(crate) fn index(&self) -> &[u32] {
-        &self.index
+        self.index.get_or_init(|| match self.names_only {
+            true => {
+                let mut index = vec![0; self.slots()];
+                total::fill_names(&self.bytes, &mut index);
+                index
+            }
+            false => {
+                let blocks = self.bytes.len() / 512;
+                let mut index = vec![0; blocks + self.slots().max(2 * blocks)];
+                total::fill_index(&self.bytes, &mut index);
+                index
+            }
+        })
+    }
+
+    /// Appends one type's blocks, or gives the number of the refusal, and then the book is as it was. The book isn't checked again.
+    pub(crate) fn append(&mut self, piece: &[u8]) -> Result<(), u8> {
+        let len = self.bytes.len();
+        if self.marks.is_empty() {
+            self.marks = vec![0; MARKS];
+            let (b, m) = (&self.bytes, &mut self.marks);
+            // SAFETY: the book was checked, and the marks are as many as they must be.
+            unsafe { raw::gateway_mark_names_in(b.as_ptr(), b.len(), m.as_mut_ptr(), m.len()) };
+        }
+        let (buffer, marks, mut values) = (self.bytes.to_mut(), &mut self.marks, [0; 1]);
+        buffer.resize(len + piece.len(), 0);
+        // SAFETY: the first `len` bytes are the checked book, the names of all its types are marked, and every pointer and length is one
+        // slice's, lent for the call alone. What the call leaves is again a valid book with its names marked.
+        let number = unsafe {
+            raw::gateway_append_in(
+                buffer.as_mut_ptr(),
+                buffer.len(),
+                len,
+                piece.as_ptr(),
+                piece.len(),
+                marks.as_mut_ptr(),
+                marks.len(),
+                values.as_mut_ptr(),
+                values.len(),
+            )
+        };
+        if number != 0 {
+            buffer.truncate(len);
+            return Err(number);
+        }
+        buffer.truncate(values[0] as usize);
+        self.index = OnceLock::new();
+        Ok(())
+    }
+
+    /// The book as it was when it had `len` bytes, of which it was made by appending. A mark too many changes no answer.
+    pub(crate) fn cut_back(&mut self, len: usize) {
+        self.bytes.to_mut().truncate(len);
+        self.index = OnceLock::new();
     }
 
     /// The block, if it is one of this book's type blocks.
@@ -1316,8 +1410,9 @@ mod tests {
             let told = answers(book.type_block(made.root).expect("a type"), made.width, &memory);
             let blocks = made.book.len() / 512;
             for len in [0, 1, 2, blocks, 3 * blocks - 1, 3 * blocks, 3 * blocks + 1, 10 * blocks] {
-                book.index = vec![0; len];
-                total::fill_index(&book.bytes, &mut book.index);
+                let mut index = vec![0; len];
+                total::fill_index(&book.bytes, &mut index);
+                book.index = OnceLock::from(index);
                 assert_eq!(
                     answers(book.type_block(made.root).expect("a type"), made.width, &memory),
                     told
@@ -1333,7 +1428,7 @@ mod tests {
             let made = made(&mut Rng::new(seed));
             let checked = Checked::new(Cow::Borrowed(&made.book)).expect("valid");
             let twin = twin::Book::new(&made.book);
-            let hints = &checked.index[checked.index.len() - made.book.len() / 512..];
+            let hints = &checked.index()[checked.index().len() - made.book.len() / 512..];
             for (b, &hint) in hints.iter().enumerate() {
                 let found = twin.find(twin::block::type_name(&made.book, b as u32));
                 assert_eq!(hint, found.map_or(0, |t| t + 1), "block {b} of {seed}");
@@ -1354,7 +1449,7 @@ mod tests {
             let blocks = book.bytes().len() as u64 / 512;
             for most in [1, 2, blocks + 3, u64::from(u32::MAX) + 1] {
                 let len = rng.below(6 * blocks as usize + 3);
-                book.index = (0..len).map(|_| (rng.number() % most) as u32).collect();
+                book.index = OnceLock::from((0..len).map(|_| (rng.number() % most) as u32).collect::<Vec<_>>());
                 assert_eq!(
                     answers(book.type_block(made.root).expect("a type"), made.width, &memory),
                     told

@@ -1,6 +1,6 @@
 //! The plan of a save: one call completes a book from the controller's and decides how the memory may be written.
 
-use crate::book::{BLOCK, SCRATCH, TypeBook};
+use crate::book::{BLOCK, SCRATCH, TypeBook, told};
 use crate::ffi::total;
 use crate::refusal::Refusal;
 use crate::root::{Given, Root};
@@ -64,29 +64,28 @@ impl From<Refusal> for PlanError {
 }
 
 impl TypeBook<'_> {
-    /// Plans the save of a value of the root, a block of this book or a name: adds to a copy of this book, from the controller's, every type that the root
-    /// is made of and this book lacks, until an ask lists none, and then decides. `width` is the controller's pointer width. This
+    /// Plans the save of a value of the root, a block of this book or a name: adds to a copy of this book, from the controller's, every
+    /// type that the root is made of and this book lacks, until an ask lists none, and then decides, by this book's pointer width. This
     /// book stays as it is.
     ///
     /// That a type of ours is the controller's of that name isn't tested: after a new download to the controller start from a
     /// new book.
     ///
     /// ```
-    /// use typebook::{PlanError, TypeBook};
-    /// # use twin::make::{Type, book, int};
-    /// # let recipe = Type::new("Recipe").size(14).field("Tank", "Tank", 0, 14);
-    /// # let tank = Type::new("Tank").size(14).field("Level", "INT", 0, 2).field("Pieces", "FB_Counter", 2, 12);
-    /// # let list = book(&[int(), Type::new("FB_Counter").size(12), tank, recipe.clone()]);
-    /// # let short = book(&[int(), recipe.clone()]);
-    /// # let ours = recipe.bytes();
-    /// let ours = TypeBook::new(ours)?; // the root's own definition
-    /// let controller = TypeBook::new(list)?;
-    /// let plan = ours.plan(&controller, 8, 0)?;
+    /// use typebook::{PlanError, TypeBook, TypeBuilder};
+    /// # let int = TypeBuilder::new("INT").id(2).size(2);
+    /// # let recipe = TypeBuilder::new("Recipe").size(14).field("Tank", "Tank", 0, 14);
+    /// # let tank = TypeBuilder::new("Tank").size(14).field("Level", "INT", 0, 2).field("Pieces", "FB_Counter", 2, 12);
+    /// # let short = TypeBook::builder().with(int.clone()).with(recipe.clone());
+    /// # let list = TypeBook::builder().with(int).with(TypeBuilder::new("FB_Counter").size(12)).with(tank);
+    /// let ours = TypeBook::builder().with(recipe).build(8)?; // the root's own definition
+    /// let controller = list.build(8)?;
+    /// let plan = ours.plan(&controller, 0)?;
     /// assert!(plan.read_modify_write);
     /// assert_eq!(plan.added, ["Tank", "INT", "FB_Counter"]);
-    /// assert!(plan.book.root(0)?.missing_types(8)?.blocks.is_empty());
+    /// assert!(plan.book.root(0)?.missing_types()?.blocks.is_empty());
     /// // A type that the controller's list lacks too is named: no answer is made up.
-    /// let refused = ours.plan(&TypeBook::new(short)?, 8, 0).unwrap_err();
+    /// let refused = ours.plan(&short.build(8)?, 0).unwrap_err();
     /// assert_eq!(refused, PlanError::Missing { name: "Tank".into() });
     /// # Ok::<(), Box<dyn std::error::Error>>(())
     /// ```
@@ -94,18 +93,18 @@ impl TypeBook<'_> {
     /// A root's name that this book lacks is added first, so that a plan may begin from nothing:
     ///
     /// ```
-    /// use typebook::TypeBook;
-    /// # use twin::make::{Type, book, int};
-    /// # let recipe = Type::new("Recipe").size(14).field("Pieces", "FB_Counter", 2, 12);
-    /// # let list = book(&[int(), Type::new("FB_Counter").size(12), recipe]);
-    /// let controller = TypeBook::new(list)?;
-    /// let plan = TypeBook::empty().plan(&controller, 8, "Recipe")?;
+    /// use typebook::{TypeBook, TypeBuilder};
+    /// # let recipe = TypeBuilder::new("Recipe").size(14).field("Pieces", "FB_Counter", 2, 12);
+    /// # let counter = TypeBuilder::new("FB_Counter").size(12);
+    /// # let list = TypeBook::builder().with(TypeBuilder::new("INT").id(2).size(2)).with(counter).with(recipe);
+    /// let controller = list.build(8)?;
+    /// let plan = TypeBook::empty(8).plan(&controller, "Recipe")?;
     /// assert!(plan.read_modify_write);
     /// assert_eq!(plan.added, ["Recipe", "FB_Counter"]);
     /// assert_eq!(plan.book.root("Recipe")?.block(), 0);
     /// # Ok::<(), Box<dyn std::error::Error>>(())
     /// ```
-    pub fn plan(&self, controller: &TypeBook<'_>, width: u8, root: impl Root) -> Result<Plan, PlanError> {
+    pub fn plan(&self, controller: &TypeBook<'_>, root: impl Root) -> Result<Plan, PlanError> {
         let (old, theirs) = (self.bytes().len(), controller.bytes());
         // Each type of the controller's is added once at most.
         let mut buffer = vec![0; old + theirs.len()];
@@ -125,18 +124,18 @@ impl TypeBook<'_> {
             len,
             theirs,
             theirs.len(),
-            width,
+            self.width(),
             root,
             &mut scratch,
             &mut index,
             &mut values,
         );
         match number {
-            0 => planned(buffer, old, values),
+            0 => planned(buffer, old, self.width(), values),
             7 => Err(PlanError::Missing {
                 name: crate::book::name_in(&buffer, values[0] as u32, total::type_name).into(),
             }),
-            n => Err(PlanError::Refused(Refusal::from_number(n, 0))),
+            n => Err(PlanError::Refused(told(n, 0))),
         }
     }
 }
@@ -147,17 +146,17 @@ fn add_root(buffer: &mut [u8], len: usize, controller: &TypeBook<'_>, name: &str
         .find(name)
         .ok_or_else(|| PlanError::Missing { name: name.into() })?;
     let mut values = [0; 1];
-    match total::append(buffer, len, root.definition(), &mut values) {
+    match total::append(buffer, len, root.blocks(), &mut values) {
         0 => Ok(values[0] as usize),
-        number => Err(PlanError::Refused(Refusal::from_number(number, 0))),
+        number => Err(PlanError::Refused(told(number, 0))),
     }
 }
 
 /// The plan of an answer: yes or no, and the length of the completed book.
-fn planned(mut buffer: Vec<u8>, old: usize, [yes, len]: [u64; 2]) -> Result<Plan, PlanError> {
+fn planned(mut buffer: Vec<u8>, old: usize, width: u8, [yes, len]: [u64; 2]) -> Result<Plan, PlanError> {
     buffer.truncate(len as usize);
     buffer.shrink_to_fit();
-    let book = TypeBook::new(buffer)?;
+    let book = TypeBook::new(buffer, width)?;
     let first = (old / BLOCK) as u32;
     let added = book.types_from(first).map(|t| t.name().into()).collect();
     Ok(Plan {

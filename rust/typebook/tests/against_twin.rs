@@ -282,14 +282,14 @@ fn walks_at_their_limit() {
         let there = (0..fields).filter(|&i| !missing(i, every));
         let types = there.map(|i| Type::new(&format!("T{i}")).id(id(i)).size(size(i)));
         let bytes = book(&[vec![wide(fields)], types.collect()].concat());
-        let (twin, checked) = (twin::Book::new(&bytes), TypeBook::new(&bytes[..]).expect("valid"));
+        let (twin, checked) = (twin::Book::new(&bytes), TypeBook::new(&bytes[..], 8).expect("valid"));
         let root = checked.root(0).expect("a type");
         let yes = twin::walk::requires_read_modify_write(&twin, 8, 0).map_err(stopped);
-        assert_eq!(root.requires_read_modify_write(8).map_err(told), yes);
+        assert_eq!(root.requires_read_modify_write().map_err(told), yes);
         let theirs = twin::walk::missing_types(&twin, 8, 0);
         let (whole, count) = (theirs.whole, theirs.count);
         assert_eq!(
-            root.missing_types(8),
+            root.missing_types(),
             Ok(Missing {
                 blocks: theirs.blocks,
                 whole,
@@ -336,7 +336,7 @@ fn stopped(stop: Stop) -> (u8, u32) {
 fn checked_books() {
     run(&[0, 1, 2, 3, 4, 5, 7, 8, 10, 11, 12, 13, 14, 15], |rng, c| {
         let len = c.len.min(c.book.len());
-        match TypeBook::new(&c.book[..len]) {
+        match TypeBook::new(&c.book[..len], c.width) {
             Ok(book) => match book.root(c.root) {
                 Ok(t) => checked_type(rng, c, &book, t),
                 Err(refusal) => {
@@ -360,16 +360,16 @@ fn checked_type(rng: &mut Rng, c: &Case, book: &TypeBook, t: TypeRef) -> Vec<u8>
     let (width, root) = (c.width, t.block());
     let found = |r: Result<TypeRef, Refusal>| r.map(|t| t.block()).map_err(told);
     assert_eq!(
-        found(t.resolve_alias(width)),
+        found(t.resolve_alias()),
         resolve(&twin, width, root, false).map_err(stopped)
     );
     assert_eq!(
-        found(t.resolve_indirection(width)),
+        found(t.resolve_indirection()),
         resolve(&twin, width, root, true).map_err(stopped)
     );
     let yes = twin::walk::requires_read_modify_write(&twin, width, root).map_err(stopped);
-    assert_eq!(t.requires_read_modify_write(width).map_err(told), yes);
-    let (ours, theirs) = (t.missing_types(width), twin::walk::missing_types(&twin, width, root));
+    assert_eq!(t.requires_read_modify_write().map_err(told), yes);
+    let (ours, theirs) = (t.missing_types(), twin::walk::missing_types(&twin, width, root));
     assert_eq!(
         ours,
         Ok(Missing {
@@ -378,7 +378,7 @@ fn checked_type(rng: &mut Rng, c: &Case, book: &TypeBook, t: TypeRef) -> Vec<u8>
             count: theirs.count
         })
     );
-    let ours = t.fields(width).map_err(told);
+    let ours = t.fields().map_err(told);
     let theirs = twin::resolve::fields(&twin, width, root).map_err(stopped);
     let ours = ours.map(|all| {
         all.iter()
@@ -402,7 +402,7 @@ fn checked_read(rng: &mut Rng, c: &Case, twin: &twin::Book, t: TypeRef) -> u8 {
     };
     let (mut tape, mut text) = (vec![0; 24 * room.records], vec![0; room.text]);
     let theirs = twin::calls::read_in(twin, c.width, t.block(), &c.memory, &mut tape, &mut text);
-    match (t.read_within(c.width, &c.memory, room), theirs) {
+    match (t.read_within(&c.memory, room), theirs) {
         (Ok(ours), Ok((records, texts))) => {
             assert!(ours.bytes() == &tape[..24 * records] && ours.text() == &text[..texts]);
             assert_eq!(ours.iter().count(), records);

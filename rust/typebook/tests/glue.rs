@@ -35,9 +35,9 @@ fn line(value: Value) -> String {
 /// What is read from a folder's book.bin and mem.bin.
 fn printed(folder: &Path) -> String {
     let file = |name: &str| std::fs::read(folder.join(name)).expect("a file");
-    let (book, memory) = (TypeBook::new(file("book.bin")).expect("valid"), file("mem.bin"));
+    let (book, memory) = (TypeBook::new(file("book.bin"), 8).expect("valid"), file("mem.bin"));
     let root = book.root(0).expect("a type");
-    let tape = root.read(8, &memory).expect("read");
+    let tape = root.read(&memory).expect("read");
     let head = format!("walk {} {}\n", root.name(), memory.len());
     tape.iter().fold(head, |out, record| out + &line(record.value) + "\n")
 }
@@ -54,19 +54,19 @@ fn the_glue_recipe() {
 fn the_glue_recipe_edited() {
     let folder = Path::new(env!("CARGO_MANIFEST_DIR")).join("../../examples/glue");
     let file = |name: &str| std::fs::read(folder.join(name)).expect("a file");
-    let (book, image) = (TypeBook::new(file("book.bin")).expect("valid"), file("mem.bin"));
+    let (book, image) = (TypeBook::new(file("book.bin"), 8).expect("valid"), file("mem.bin"));
     let root = book.root(0).expect("a type");
-    let mut tape = root.read(8, &image).expect("read");
+    let mut tape = root.read(&image).expect("read");
     // The operator's name fills its bytes: it is shown as clipped, and has no room for its zero.
     let clipped = Value::Text {
         text: "M. Fische",
         clipped: true,
     };
     assert_eq!(tape.at("Operator"), Ok(clipped));
-    assert_eq!(root.write(8, &image, &tape), Err(Refusal::Size));
+    assert_eq!(root.write(&image, &tape), Err(Refusal::Size));
     assert_eq!(tape.at("Tank.Target"), Ok(Value::Real32(127.5f32.to_bits())));
     tape.edit("Tank.Target", 131.25).expect("a real");
-    let output = root.write(8, &image, &tape.edits()).expect("written");
+    let output = root.write(&image, &tape.edits()).expect("written");
     let at = image
         .windows(4)
         .position(|w| w == 127.5f32.to_le_bytes())
@@ -74,7 +74,7 @@ fn the_glue_recipe_edited() {
     let mut wanted = image.clone();
     wanted[at..at + 4].copy_from_slice(&131.25f32.to_le_bytes());
     assert_eq!(output, wanted);
-    let again = root.read(8, &output).expect("read");
+    let again = root.read(&output).expect("read");
     assert_eq!(again.at("Tank.Target"), Ok(Value::Real32(131.25f32.to_bits())));
     // The text buffer may be ordered otherwise, the values are the same.
     assert!(again.iter().zip(&tape).all(|(a, b)| a.value == b.value));

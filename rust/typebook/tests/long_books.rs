@@ -42,8 +42,8 @@ fn alike(bytes: &[u8], memory: &[u8], records: usize) {
     assert_eq!((n, values), (m, wanted));
     assert!(tape == other && text == others);
     if n == 0 {
-        let checked = TypeBook::new(bytes).unwrap();
-        assert!(checked.root(0).unwrap().read(WIDTH, memory).unwrap().bytes() == tape);
+        let checked = TypeBook::new(bytes, WIDTH).unwrap();
+        assert!(checked.root(0).unwrap().read(memory).unwrap().bytes() == tape);
     }
 }
 

@@ -67,8 +67,11 @@ impl<'a> Lent<'a> {
 }
 
 fn planned(ours: &[u8], controller: &[u8]) -> Result<Plan, PlanError> {
-    let (ours, controller) = (TypeBook::new(ours).unwrap(), TypeBook::new(controller).unwrap());
-    ours.plan(&controller, WIDTH, 0)
+    let (ours, controller) = (
+        TypeBook::new(ours, WIDTH).unwrap(),
+        TypeBook::new(controller, WIDTH).unwrap(),
+    );
+    ours.plan(&controller, 0)
 }
 
 #[test]
@@ -101,8 +104,8 @@ fn refusals_1_to_5_of_our_book_and_the_root() {
             ..Lent::new(&ours, &theirs, root)
         }
         .refused(5);
-        let ours = TypeBook::new(&ours[..]).unwrap();
-        let refused = ours.plan(&ours, WIDTH, root).unwrap_err();
+        let ours = TypeBook::new(&ours[..], WIDTH).unwrap();
+        let refused = ours.plan(&ours, root).unwrap_err();
         assert_eq!(refused, PlanError::Refused(Refusal::Root));
     }
 }

@@ -59,7 +59,7 @@ fn refusal_1_the_books_size() {
         assert_eq!(calls::check_book(&book, len), 1, "{len}");
     }
     assert_eq!(calls::check_book(&[], 512), 1);
-    assert_eq!(TypeBook::new(vec![0; 511]).unwrap_err(), Refusal::BookSize);
+    assert_eq!(TypeBook::new(vec![0; 511], WIDTH).unwrap_err(), Refusal::BookSize);
     // Over 65,536 blocks come before their sums.
     assert_eq!(calls::check_book(&vec![1; 65_537 * 512], 65_537 * 512), 1);
     assert_eq!(calls::check_book(&vec![1; 65_536 * 512], 65_536 * 512), 2);
@@ -120,7 +120,7 @@ fn refusal_5_the_root() {
             5
         );
         assert_eq!(
-            TypeBook::new(&bytes[..]).unwrap().root(root).unwrap_err(),
+            TypeBook::new(&bytes[..], WIDTH).unwrap().root(root).unwrap_err(),
             Refusal::Root
         );
     }
@@ -261,9 +261,9 @@ fn refusal_9_a_name_too_many() {
     let over = book(&[vec![wide(4_096)], types(4_096)].concat());
     assert_eq!(rmw(&over), (9, 99));
     assert_eq!(missing(&over), (vec![], 0, 4_097));
-    let book = TypeBook::new(over).unwrap();
+    let book = TypeBook::new(over, WIDTH).unwrap();
     assert_eq!(
-        book.root(0).unwrap().requires_read_modify_write(WIDTH),
+        book.root(0).unwrap().requires_read_modify_write(),
         Err(Refusal::TooManyTypes)
     );
     // 4,096 missing types: the last taken is neither looked up nor listed.
@@ -275,8 +275,8 @@ fn refusal_9_a_name_too_many() {
 fn refusals_10_to_13_of_leaves() {
     assert_eq!(answer_of(&int().bytes(), &[0, 0, 0]), 10);
     assert_eq!(answer_of(&int().bytes(), &[0, 0]), 0);
-    assert_eq!(answer_of(&Type::new("TIME").size(4).bytes(), &[0; 4]), 11);
-    assert_eq!(answer_of(&Type::new("TIME").size(4).bytes(), &[0; 9]), 11);
+    assert_eq!(answer_of(&Type::new("XINT").size(4).bytes(), &[0; 4]), 11);
+    assert_eq!(answer_of(&Type::new("XINT").size(4).bytes(), &[0; 9]), 11);
     let e = Type::new("E")
         .id(2)
         .size(2)
@@ -287,11 +287,12 @@ fn refusals_10_to_13_of_leaves() {
     assert_eq!(answer_of(&e, &[3, 0]), 12);
     assert_eq!(answer_of(&e, &[1, 0]), 0);
     assert_eq!(answer_of(&e, &[1]), 10);
-    let pointer = TypeBook::new(Type::new("PVOID").size(3).bytes()).unwrap();
+    let pointer = TypeBook::new(Type::new("PVOID").size(3).bytes(), WIDTH).unwrap();
+    let odd = pointer.clone().with_width(3);
+    assert_eq!(odd.root(0).unwrap().read(&[0; 3]).unwrap_err(), Refusal::PointerWidth);
     let pointer = pointer.root(0).unwrap();
-    assert_eq!(pointer.read(3, &[0; 3]).unwrap_err(), Refusal::PointerWidth);
-    assert_eq!(pointer.read(8, &[0; 3]).unwrap_err(), Refusal::Size);
-    assert_eq!(pointer.read(8, &[1; 8]).unwrap().len(), 1);
+    assert_eq!(pointer.read(&[0; 3]).unwrap_err(), Refusal::Size);
+    assert_eq!(pointer.read(&[1; 8]).unwrap().len(), 1);
     // Products are exact.
     let byte = Type::new("BYTE").id(17).size(1);
     let array = |counts: &[u32], of: &Type| book(&[Type::new("ARR").of(&of.name).dimensions(counts), of.clone()]);
@@ -412,8 +413,8 @@ fn appending() {
     // The book appended to itself: 4, or 3 where it isn't one type.
     assert_eq!(calls::append(&mut buffer, 512, &start, &mut values), 4);
     assert_eq!(calls::append(&mut buffer, 1024, &before[..1024], &mut values), 3);
-    let book = TypeBook::new(example()).unwrap();
-    let more = book.append(&piece).unwrap();
+    let book = TypeBook::new(example(), WIDTH).unwrap();
+    let mut more = book.appended(&piece).unwrap();
     assert_eq!((book.blocks(), more.blocks()), (4, 5));
     assert_eq!(more.append(&piece).unwrap_err(), Refusal::DoubledName);
 }
@@ -432,7 +433,7 @@ fn appending_up_to_65_536_blocks() {
         15
     );
     assert_eq!(
-        TypeBook::new(&buffer[..len + 512])
+        TypeBook::new(&buffer[..len + 512], WIDTH)
             .unwrap()
             .find("T65534")
             .unwrap()
@@ -497,8 +498,8 @@ fn memory_of_every_kind() -> Vec<u8> {
 
 #[test]
 fn values_of_every_kind() {
-    let book = TypeBook::new(every_kind()).unwrap();
-    let tape = book.root(0).unwrap().read(WIDTH, &memory_of_every_kind()).unwrap();
+    let book = TypeBook::new(every_kind(), WIDTH).unwrap();
+    let tape = book.root(0).unwrap().read(&memory_of_every_kind()).unwrap();
     let values: Vec<Value> = tape
         .iter()
         .map(|r| r.value)
@@ -539,8 +540,8 @@ fn values_of_every_kind() {
 
 #[test]
 fn keys_and_levels() {
-    let book = TypeBook::new(every_kind()).unwrap();
-    let tape = book.root(0).unwrap().read(WIDTH, &memory_of_every_kind()).unwrap();
+    let book = TypeBook::new(every_kind(), WIDTH).unwrap();
+    let tape = book.root(0).unwrap().read(&memory_of_every_kind()).unwrap();
     let keys: Vec<&str> = tape
         .iter()
         .filter_map(|r| if let Value::Key(k) = r.value { Some(k) } else { None })

@@ -44,11 +44,11 @@ impl Case<'_> {
 
     /// The form for a checked book, where the book is valid and the root a type.
     fn checked(&self) -> Option<(Result<(), Refusal>, Vec<u8>)> {
-        let book = TypeBook::new(&self.book[..self.len.min(self.book.len())]).ok()?;
+        let book = TypeBook::new(&self.book[..self.len.min(self.book.len())], self.width).ok()?;
         let mut out = vec![0xEE; self.room];
         let Tape { records, text } = self.tape;
         let root = book.root(self.root).ok()?;
-        Some((root.write_into(self.width, self.image, records, text, &mut out), out))
+        Some((root.write_into(self.image, records, text, &mut out), out))
     }
 
     /// The answer, once the twin and the form for a checked book agree with it.
@@ -161,13 +161,13 @@ fn of_each_kind() -> (Vec<u8>, Vec<u8>, Tape) {
 #[test]
 fn every_byte_of_every_record() {
     let (bytes, image, tape) = of_each_kind();
-    let (checked, twin) = (TypeBook::new(&bytes[..]).expect("valid"), twin::Book::new(&bytes));
+    let (checked, twin) = (TypeBook::new(&bytes[..], 8).expect("valid"), twin::Book::new(&bytes));
     let root = checked.root(0).expect("a type");
     let mut answers = BTreeSet::new();
     let mut same = |tape: &Tape| {
         let (mut ours, mut theirs) = (vec![1; image.len()], vec![2; image.len()]);
         let Tape { records, text } = tape;
-        let told = root.write_into(8, &image, records, text, &mut ours);
+        let told = root.write_into(&image, records, text, &mut ours);
         let twins = twin::calls::write_in(&twin, 8, 0, &image, records, text, &mut theirs);
         let number = told.map_or_else(|refusal| refusal.number(), |()| 0);
         assert_eq!(number, twins.map_or_else(number_of, |()| 0));
@@ -241,19 +241,20 @@ fn of_every_category() -> Vec<Type> {
 fn every_kind_into_every_category() {
     let types = of_every_category();
     let bytes = book(&types);
-    let (checked, twin) = (TypeBook::new(&bytes[..]).expect("valid"), twin::Book::new(&bytes));
+    let (checked, twin) = (TypeBook::new(&bytes[..], 8).expect("valid"), twin::Book::new(&bytes));
     let field = (0..).find(|&n| twin::block::kind(&bytes, n) == 2).expect("a field");
     let entry = (0..).find(|&n| twin::block::kind(&bytes, n) == 3).expect("an entry");
     let (mut answers, mut at) = (BTreeSet::new(), 0);
+    let of_width = [2, 3, 4, 8].map(|width| checked.clone().with_width(width));
     for t in &types {
-        let root = checked.root(at).expect("a type");
         for tape in one_of_each(field, entry) {
-            for width in [2, 3, 4, 8] {
+            for checked in &of_width {
+                let (root, width) = (checked.root(at).expect("a type"), checked.width());
                 for len in [1, 2, 3, 4, 8] {
                     let image = vec![0x55; len];
                     let (mut ours, mut theirs) = (vec![1; len], vec![2; len]);
                     let Tape { records, text } = &tape;
-                    let told = root.write_into(width, &image, records, text, &mut ours);
+                    let told = root.write_into(&image, records, text, &mut ours);
                     let n = root.block();
                     let twins = twin::calls::write_in(&twin, width, n, &image, records, text, &mut theirs);
                     let number = told.map_or_else(|refusal| refusal.number(), |()| 0);

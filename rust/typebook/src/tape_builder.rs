@@ -59,7 +59,7 @@ struct Open {
 /// use typebook::{BuildError, TapeBuilder, TypeBook};
 /// # let folder = concat!(env!("CARGO_MANIFEST_DIR"), "/../../examples/glue/");
 /// # let file = |name: &str| std::fs::read(format!("{folder}{name}"));
-/// let book = TypeBook::new(file("book.bin")?)?;
+/// let book = TypeBook::new(file("book.bin")?, 8)?;
 /// let mut tape = TapeBuilder::new(&book);
 /// tape.map()?
 ///     .key("Glue")?.entry("HOTMELT")?
@@ -69,7 +69,7 @@ struct Open {
 ///     .end()?
 ///     .end()?;
 /// let image = file("mem.bin")?;
-/// let new = book.root(0)?.write(8, &image, &tape.finish()?)?;
+/// let new = book.root(0)?.write(&image, &tape.finish()?)?;
 /// assert_ne!(new, image);
 ///
 /// // Wrong nesting is an error at once.
@@ -91,7 +91,7 @@ impl<'b> TapeBuilder<'b> {
     pub fn new(book: &'b TypeBook) -> Self {
         let bytes = book.bytes();
         Self {
-            tape: Tape::new(bytes, None, Vec::new(), Vec::new()),
+            tape: Tape::new(book.checked.shared(), false, Vec::new(), Vec::new()),
             open: Vec::new(),
             keyed: false,
             fields: names_of(bytes, 2),
@@ -232,7 +232,7 @@ mod tests {
     #[test]
     fn what_can_not_follow() {
         let bytes = twin::make::example();
-        let book = TypeBook::new(bytes).expect("valid");
+        let book = TypeBook::new(bytes, 8).expect("valid");
         let new = || TapeBuilder::new(&book);
         let told = |mut b: TapeBuilder, f: fn(&mut TapeBuilder) -> Result<(), BuildError>| f(&mut b).unwrap_err();
         assert_eq!(told(new(), |b| b.key("A").map(drop)), BuildError::KeyNotDue);
@@ -264,7 +264,7 @@ mod tests {
     #[test]
     fn level_64_is_the_last() {
         for (level, fine) in [(64, true), (65, false)] {
-            let book = TypeBook::new(book(&deep(level))).expect("valid");
+            let book = TypeBook::new(book(&deep(level)), 8).expect("valid");
             let mut tape = TapeBuilder::new(&book);
             for _ in 1..level {
                 tape.map().expect("due").key("x").expect("a field");
@@ -277,7 +277,7 @@ mod tests {
                 let new = book
                     .root(0)
                     .expect("a type")
-                    .write(8, &[1, 2], &tape.finish().expect("whole"));
+                    .write(&[1, 2], &tape.finish().expect("whole"));
                 assert_eq!(new, Ok(vec![7, 0]));
             }
         }
@@ -287,7 +287,7 @@ mod tests {
     fn keys_of_another_type_go_by_name() {
         let other = Type::new("O").size(2).field("x", "INT", 0, 2).entry("x", &[1]);
         let own = Type::new("S").size(4).field("y", "INT", 0, 2).field("x", "INT", 2, 2);
-        let book = TypeBook::new(book(&[own, other, int()])).expect("valid");
+        let book = TypeBook::new(book(&[own, other, int()]), 8).expect("valid");
         let mut tape = TapeBuilder::new(&book);
         let mut fill = || {
             tape.map()?.key("x")?.uint(5)?.key("x")?.int(6)?.end()?;
@@ -296,7 +296,7 @@ mod tests {
         fill().expect("due");
         let root = book.root(0).expect("a type");
         let tape = tape.finish().expect("whole");
-        assert_eq!(root.write(8, &[1, 1, 1, 1], &tape), Ok(vec![1, 1, 6, 0]));
-        assert_eq!(root.write(8, &[1, 1, 1], &tape), Err(Refusal::Size));
+        assert_eq!(root.write(&[1, 1, 1, 1], &tape), Ok(vec![1, 1, 6, 0]));
+        assert_eq!(root.write(&[1, 1, 1], &tape), Err(Refusal::Size));
     }
 }
