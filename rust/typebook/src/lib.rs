@@ -83,6 +83,7 @@ mod tape;
 mod tape_builder;
 pub mod text;
 mod type_builder;
+mod upload;
 
 pub use book::{Missing, ResolvedField, Room, Scratch, TypeBook, TypeRef};
 pub use category::Category;
@@ -96,6 +97,10 @@ pub use refusal::Refusal;
 pub use tape::{Record, Records, Tape, Value};
 pub use tape_builder::{BuildError, TapeBuilder};
 pub use type_builder::{BookBuilder, Misfit, Part, TypeBuilder, TypeError, type_id};
+pub use upload::{
+    Upload, UploadAttribute, UploadDimension, UploadEntry, UploadEnumInfo, UploadError, UploadFault, UploadFlags,
+    UploadPart,
+};
 
 /// The version of the proved library that is linked, in three parts.
 ///
