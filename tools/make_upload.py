@@ -16,7 +16,7 @@ import os
 import struct
 import sys
 
-from make_recipe import BIG, IMPLEMENTS, METHODS, POINTER, RECORDS, REFERENCE, described, usage, write
+from make_recipe import BIG, IMPLEMENTS, METHODS, POINTER, RECORDS, REFERENCE, UTF_8, described, usage, write
 
 DATATYPE, DATAITEM, REFERENCE_TO, PROP_ITEM, TYPE_GUID, COPY_MASK = 0x1, 0x2, 0x4, 0x40, 0x80, 0x200
 METHOD_INFOS, ATTRIBUTES, ENUM_INFOS, ALIGNED, STATIC, PLC_POINTER_TYPE = 0x800, 0x1000, 0x2000, 0x10000, 0x20000, 0x800000
@@ -74,6 +74,9 @@ def data_type(recipe, t):
     if t.flags & IMPLEMENTS:
         flags |= ATTRIBUTES
         tail += attributes([("TcImplements", "I_Watch"), ("no_check", "")])
+    if t.flags & UTF_8:
+        flags |= ATTRIBUTES
+        tail += attributes([("TcEncoding", "UTF-8")])
     if t.kind == "enum":
         flags |= ENUM_INFOS
         tail += struct.pack("<H", len(t.parts))

@@ -73,3 +73,4 @@ pub found-terminated : (d : Decoder) (bytes : List ℕ) → wasFound (endBy d by
 unfolding endBy terminated
 found-terminated decoder.Windows1252 bytes = zero-from bytes (length bytes) 0 (omega arith) refl
 found-terminated decoder.Utf16 bytes = pair-from bytes (suc (length bytes)) 0 (omega arith) (omega arith) refl
+found-terminated decoder.Utf8 bytes = zero-from bytes (length bytes) 0 (omega arith) refl

@@ -24,6 +24,7 @@ hasZeroPair (x ∷ y ∷ xs) = (eqb x 0 && eqb y 0) || hasZeroPair xs
 unfoldable pub terminated : Decoder → List ℕ → Bool
 terminated decoder.Windows1252 bytes = hasZero bytes
 terminated decoder.Utf16 bytes = hasZeroPair bytes
+terminated decoder.Utf8 bytes = hasZero bytes
 
 -- the search for the end told that it found one
 abbrev pub wasFound : TextEnd → Bool

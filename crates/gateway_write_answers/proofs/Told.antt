@@ -35,8 +35,8 @@ use Rattle.tape.specs.Record.{stepAt}
 use Rattle.tape.specs.Text.{recordText}
 use Rattle.tape.specs.declared.record.Record.{Record}
 use Rattle.tape.specs.declared.cursor.Cursor.{Cursor}
-use Rattle.tape.specs.declared.cursor.Step.{Step}
-use Rattle.tape.specs.declared.cursor.Step.the-variants as step
+use Rattle.tape.specs.declared.cursor.NextRecord.{NextRecord}
+use Rattle.tape.specs.declared.cursor.NextRecord.the-variants as step
 use Rattle.type_category.specs.declared.type_category.AdsTypeCategory.{AdsTypeCategory}
 use Rattle.ser_leaf.specs.Leaf.{Leaf, holds, leafFor}
 use Rattle.ser_leaf.proofs.Tells.{Tells, leaf-for-tells}
@@ -134,7 +134,7 @@ is-19 = refl
 
 -- ---- records
 
-fine-by : (bytes : List ℕ) (f : Record → Cursor → Outcome) (s : Step) → ((r : Record) (next : Cursor) → Fine (f r next)) → Fine (takenBy bytes f s)
+fine-by : (bytes : List ℕ) (f : Record → Cursor → Outcome) (s : NextRecord) → ((r : Record) (next : Cursor) → Fine (f r next)) → Fine (takenBy bytes f s)
 unfolding takenBy
 fine-by bytes f (step.Record r next) h = h r next
 fine-by bytes f step.End h = fine-refused 16 0 bytes is-16

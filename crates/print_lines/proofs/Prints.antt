@@ -10,9 +10,9 @@ use Rattle.enc_utf_8.specs.declared.Put.{Put}
 use Rattle.enc_utf_8.specs.declared.Put.the-variants.{Next}
 use Rattle.type_book.specs.Book.{nameOf}
 use Rattle.tape.specs.declared.record.Record.{Record}
-use Rattle.tape.specs.declared.cursor.Step.{Step}
+use Rattle.tape.specs.declared.cursor.NextRecord.{NextRecord}
 use Rattle.tape.specs.declared.cursor.Cursor.{Cursor}
-use Rattle.tape.specs.declared.cursor.Step.the-variants as step
+use Rattle.tape.specs.declared.cursor.NextRecord.the-variants as step
 use Rattle.tape.specs.Record.{recordOf, stepAt}
 use Rattle.print_figures.specs.Puts.{Puts, ClearedEnd, Printed}
 use Rattle.print_figures.proofs.Joins.{chain, chain-3, Rest, rest-all, rest-next, rest-end, printed}
@@ -46,7 +46,7 @@ module _ (book text tape : List ℕ) (at n : ℕ) where
   unfolding linesOf recordsAt before
   lines-none e = rw (← e)
 
-module _ (book text tape : List ℕ) (all out₀ : List ℕ) (p₀ : Put) (at left : ℕ) (out : List ℕ) (p : Put) (s : Step) (e : s ≡ stepAt tape at)
+module _ (book text tape : List ℕ) (all out₀ : List ℕ) (p₀ : Put) (at left : ℕ) (out : List ℕ) (p : Put) (s : NextRecord) (e : s ≡ stepAt tape at)
     (inv : Rest all out₀ p₀ (linesOf book text (recordsAt tape left at)) out p) (h : 0 < left) where
   as-suc : left ≡ suc (left - 1)
   as-suc = omega arith

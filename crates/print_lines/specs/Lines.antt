@@ -3,13 +3,13 @@ use mathlib.Core.List.{List, [], _∷_, _++_}
 use Prim.Native.Nat.{ℕ, zero, suc, _+_}
 use Rattle.type_book.specs.Book.{nameOf}
 use Rattle.tape.specs.declared.record.Record.{Record}
-use Rattle.tape.specs.declared.cursor.Step.{Step}
-use Rattle.tape.specs.declared.cursor.Step.the-variants as step
+use Rattle.tape.specs.declared.cursor.NextRecord.{NextRecord}
+use Rattle.tape.specs.declared.cursor.NextRecord.the-variants as step
 use Rattle.tape.specs.Record.{stepAt}
 use Rattle.print_record_line.specs.Line.{countedLine, lineOf}
 
 -- a record before others, or the end
-unfoldable pub before : Step → List Record → List Record
+unfoldable pub before : NextRecord → List Record → List Record
 before (step.Record r next) rest = r ∷ rest
 before step.End rest = []
 

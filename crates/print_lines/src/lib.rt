@@ -8,7 +8,7 @@ use print_figures::put::put_bytes;
 use print_record_line::counted;
 use print_record_line::line;
 use tape::cursor::Cursor;
-use tape::cursor::Step;
+use tape::cursor::NextRecord;
 
 // The head: the root's name and the memory's length.
 fn head(book: &[u8], root: u32, memory: usize, out: &mut [u8]) -> Put
@@ -36,12 +36,12 @@ fn record_lines<'a>(
     while left > 0 {
         let step = cursor.next(tape);
         match step {
-            Step::Record(r, after) => {
+            NextRecord::Record(r, after) => {
                 next = line(next, book, text, r, out);
                 cursor = after;
                 left -= 1;
             }
-            Step::End => {
+            NextRecord::End => {
                 return next;
             }
         }

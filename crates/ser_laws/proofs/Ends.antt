@@ -28,8 +28,8 @@ use Rattle.tape.specs.Record.{stepAt}
 use Rattle.tape.specs.Text.{recordText}
 use Rattle.tape.specs.declared.record.Record.{Record}
 use Rattle.tape.specs.declared.cursor.Cursor.{Cursor}
-use Rattle.tape.specs.declared.cursor.Step.{Step}
-use Rattle.tape.specs.declared.cursor.Step.the-variants as step
+use Rattle.tape.specs.declared.cursor.NextRecord.{NextRecord}
+use Rattle.tape.specs.declared.cursor.NextRecord.the-variants as step
 use Rattle.tape_form.specs.declared.form.Place.{Place}
 use Rattle.tape_form.specs.declared.form.Place.the-variants.{At, Broken}
 use Rattle.tape_form.specs.Ranges.{declares, onlyA, empty, namesBlock, opens, closes, isKey, leafFine}
@@ -81,13 +81,13 @@ ends-placed n from size bytes (refused k b part) p = ends-refused n k b _ (p .en
 broken-at : {X : Type 0} {next : Cursor} → Broken ≡ At next → X
 broken-at h = different cc
 
-record Took (s : Step) (f : Record → Cursor → Place) (next : Cursor) : Type 0 where
+record Took (s : NextRecord) (f : Record → Cursor → Place) (next : Cursor) : Type 0 where
   r : Record
   mid : Cursor
   is : s ≡ step.Record r mid
   goes : f r mid ≡ At next
 
-took : (s : Step) (f : Record → Cursor → Place) (next : Cursor) → withRecord s f ≡ At next → Took s f next
+took : (s : NextRecord) (f : Record → Cursor → Place) (next : Cursor) → withRecord s f ≡ At next → Took s f next
 unfolding withRecord
 took (step.Record r mid) f next h = record { r = r; mid = mid; is = refl; goes = h }
 took step.End f next h = broken-at h

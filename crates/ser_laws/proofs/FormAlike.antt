@@ -10,7 +10,7 @@ use lib.Dec.{leb, eqb}
 use Rattle.tape.specs.Record.{recordOf, stepAt}
 use Rattle.tape.specs.declared.record.Record.{Record}
 use Rattle.tape.specs.declared.cursor.Cursor.{Cursor}
-use Rattle.tape.specs.declared.cursor.Step.the-variants as step
+use Rattle.tape.specs.declared.cursor.NextRecord.the-variants as step
 use Rattle.tape_form.specs.declared.form.Place.{Place}
 use Rattle.tape_form.specs.declared.form.Place.the-variants.{At, Broken}
 use Rattle.tape_form.specs.Ranges.{unused, undeclared, declares, blockIs, textIn, onlyA, empty, namesBlock, opens, closes, isKey, textual, leafBy, leafFine}

@@ -29,8 +29,8 @@ use Rattle.tape.specs.Record.{stepAt}
 use Rattle.tape.specs.Text.{recordText}
 use Rattle.tape.specs.declared.record.Record.{Record}
 use Rattle.tape.specs.declared.cursor.Cursor.{Cursor}
-use Rattle.tape.specs.declared.cursor.Step.{Step}
-use Rattle.tape.specs.declared.cursor.Step.the-variants as step
+use Rattle.tape.specs.declared.cursor.NextRecord.{NextRecord}
+use Rattle.tape.specs.declared.cursor.NextRecord.the-variants as step
 use Rattle.ser_leaf.specs.Leaf.{Leaf, holds}
 use Rattle.ser_leaf.specs.Leaf as leaf
 use Rattle.ser.specs.declared.array_writer.Entered.the-variants as entered
@@ -108,7 +108,7 @@ agrees-placed from at size bytes l (refused n b part) t a = agrees-refused from 
 -- ---- records
 
 agrees-by : (from : ℕ) (bytes : List ℕ) (f : Record → Cursor → Outcome) (g : Record → Cursor → Touched)
-    → ((r : Record) (next : Cursor) → Agrees from bytes (f r next) (g r next)) → (s : Step) → Agrees from bytes (takenBy bytes f s) (recordBy g s)
+    → ((r : Record) (next : Cursor) → Agrees from bytes (f r next) (g r next)) → (s : NextRecord) → Agrees from bytes (takenBy bytes f s) (recordBy g s)
 unfolding takenBy recordBy
 agrees-by from bytes f g h (step.Record r next) = h r next
 agrees-by from bytes f g h step.End = agrees-refused from bytes 16 0 bytes nowhere

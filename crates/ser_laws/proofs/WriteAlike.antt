@@ -28,9 +28,11 @@ use Rattle.tape.specs.Record.{recordOf, stepAt}
 use Rattle.tape.specs.Text.{recordText}
 use Rattle.tape.specs.declared.record.Record.{Record}
 use Rattle.tape.specs.declared.cursor.Cursor.{Cursor}
-use Rattle.tape.specs.declared.cursor.Step.the-variants as step
+use Rattle.tape.specs.declared.cursor.NextRecord.the-variants as step
 use Rattle.ser_leaf.specs.declared.Target.{Target}
-use Rattle.ser_leaf.specs.Leaf.{Leaf, holds, targetOf, leafBy}
+use Rattle.type_category.specs.declared.type_category.AdsTypeCategory.{AdsTypeCategory}
+use Rattle.ser_leaf.specs.Leaf.{Leaf, holds, targetOf, leafBy, countLeaf, leafFor}
+use Rattle.time_types.specs.Counts.{countWidth}
 use Rattle.ser_leaf.specs.Leaf as leaf
 use Rattle.ser.specs.declared.array_writer.Entered.{Entered}
 use Rattle.ser.specs.declared.array_writer.Entered.the-variants as entered
@@ -79,8 +81,8 @@ same-placed from size bytes (refused k b part) o′ p = rw (sym (p .is)) (same-r
 same-checked : (f : FieldsCheck) (bytes : List ℕ) (o o′ : Outcome) → Same o o′ → Same (checked f bytes o) (checked f bytes o′)
 unfolding checked
 same-checked check.Fine bytes o o′ p = p
-same-checked (check.Lacks b) bytes o o′ p = same-refused 7 b bytes
-same-checked check.TooLong bytes o o′ p = same-refused 8 0 bytes
+same-checked (check.Lacks b) bytes o o′ p = same-refused _ _ bytes
+same-checked check.TooLong bytes o o′ p = same-refused _ _ bytes
 
 -- ---- a record
 
@@ -99,6 +101,21 @@ module _ (book text : List ℕ) (r s : Record) (w : WrittenAlike r s) where
           let f : s .kind ≡ 11 = sym (w .kind) ∙ e in
           rw (text-alike, e, f)
       by false q = rw (text-alike, w .kind, w .b, w .width (eqb-false (r .kind) 11 q))
+
+  count-alike : (n : ℕ) (old : List ℕ) → countLeaf n r old ≡ countLeaf n s old
+  unfolding countLeaf
+  count-alike n old = by (eqb (r .kind) 11) refl
+    where
+      by : (x : Bool) → eqb (r .kind) 11 ≡ x → countLeaf n r old ≡ countLeaf n s old
+      by true q =
+          let e : r .kind ≡ 11 = eqb-true (r .kind) 11 q in
+          let f : s .kind ≡ 11 = sym (w .kind) ∙ e in
+          rw (e, f)
+      by false q = rw (w .kind, w .b, w .width (eqb-false (r .kind) 11 q))
+
+  leaf-for-alike : (width t : ℕ) (k : AdsTypeCategory) (old : List ℕ) → leafFor book width t k r text old ≡ leafFor book width t k s text old
+  unfolding leafFor
+  leaf-for-alike width t k old = rw (leaf-alike width t (targetOf k) old, count-alike (countWidth book t k) old)
 
 -- ---- the walk
 
@@ -139,8 +156,8 @@ module _ (book : List ℕ) (width : ℕ) (text tape tape′ : List ℕ) (alike :
     unfolding fieldValue
     field-same at bytes h (answer.Field f) =
         same-cond (leb (f .offset + f .size) (length bytes)) (same-placed _ _ bytes _ _ (ih (whole (f .resolved)) at _ h)) (same-refused 10 0 bytes)
-    field-same at bytes h (answer.Lacks b) = same-refused 7 b bytes
-    field-same at bytes h answer.TooLong = same-refused 8 0 bytes
+    field-same at bytes h (answer.Lacks b) = same-refused _ _ bytes
+    field-same at bytes h answer.TooLong = same-refused _ _ bytes
 
     found-same : (at : Cursor) (bytes : List ℕ) → at .at % 24 ≡ 0 → (f : Found) → Same (foundValue child c at bytes f) (foundValue child′ c′ at bytes f)
     unfolding foundValue
@@ -200,7 +217,7 @@ module _ (book : List ℕ) (width : ℕ) (text tape tape′ : List ℕ) (alike :
         → Same (valueBy child c t at bytes r next) (valueBy child′ c′ t at bytes s next)
     unfolding valueBy mapOf leafOf
     value-same t at bytes h r s next w n =
-        rw (← leaf-alike book text r s w width t (targetOf (categoryOf book width t)) bytes, ← w .kind, ← w .a)
+        rw (← leaf-for-alike book text r s w width t (categoryOf book width t) bytes, ← w .kind, ← w .a)
         (same-cond (eqb (r .kind) 1) (array-same t at bytes h)
         (same-cond (eqb (r .kind) 3) (map-same t (r .a) next bytes n (shapeAt book width t)) (same-leaf next bytes n _)))
 

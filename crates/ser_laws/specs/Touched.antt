@@ -21,8 +21,8 @@ use Rattle.tape.specs.Record.{stepAt}
 use Rattle.tape.specs.Text.{recordText}
 use Rattle.tape.specs.declared.record.Record.{Record}
 use Rattle.tape.specs.declared.cursor.Cursor.{Cursor}
-use Rattle.tape.specs.declared.cursor.Step.{Step}
-use Rattle.tape.specs.declared.cursor.Step.the-variants as step
+use Rattle.tape.specs.declared.cursor.NextRecord.{NextRecord}
+use Rattle.tape.specs.declared.cursor.NextRecord.the-variants as step
 use Rattle.tape_array_elements.specs.Element.{Content, whole, further, elementItem}
 use Rattle.ser.specs.Write.{Ctx}
 
@@ -74,7 +74,7 @@ abbrev pub Child : Type 0
 Child = Content ℕ → Cursor → ℕ → ℕ → Touched
 
 -- what follows by a record, where there is one
-unfoldable pub recordBy : (Record → Cursor → Touched) → Step → Touched
+unfoldable pub recordBy : (Record → Cursor → Touched) → NextRecord → Touched
 recordBy f (step.Record r next) = f r next
 recordBy f step.End = nowhere
 

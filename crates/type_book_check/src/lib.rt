@@ -13,7 +13,7 @@ use type_block_form::field_form;
 use type_block_form::sum_right;
 use type_block_form::type_form;
 use type_book::block::BLOCK;
-use type_doubles::names_distinct;
+use type_doubles::distinct;
 use type_provider::Found;
 use type_provider::find;
 
@@ -148,6 +148,9 @@ fn size_right(room: usize, len: usize) -> bool
 pub fn check_book(buffer: &[u8], len: usize) -> BookCheck
     ensures { λ r. ⌜ bookNumbers r ≡ bookNumbers (checkBook (now (buffer .entry)) len) ⌝ }
 {
+    // The marks are made before the first answer, so that every way through this function has its whole stack (docs/DECISIONS.md, "Stack
+    // probes").
+    let mut marks = [0u32; 32768];
     if !size_right(buffer.len(), len) {
         return BookCheck::Size;
     }
@@ -158,7 +161,7 @@ pub fn check_book(buffer: &[u8], len: usize) -> BookCheck
     if !placed(book) {
         return BookCheck::Form;
     }
-    if !names_distinct(book) {
+    if !distinct(book, &mut marks) {
         return BookCheck::Doubled;
     }
     BookCheck::Valid

@@ -15,8 +15,8 @@ use Rattle.type_names.specs.Names.{isPointerName, isSubRangeName, isPrimitiveNa
 use Rattle.type_names.proofs.Texts.{and-false}
 use Rattle.type_category.specs.declared.type_category.AdsTypeCategory.{AdsTypeCategory}
 use Rattle.type_category.specs.declared.type_category.AdsTypeCategory.the-variants.{None, Primitive, Alias, Enum, Array, Struct, FunctionBlock, SubRange, Pointer, Union, Reference, Interface}
-use Rattle.type_category.specs.declared.type_category.Step.{Step}
-use Rattle.type_category.specs.declared.type_category.Step.the-variants.{Is, Next}
+use Rattle.type_category.specs.declared.type_category.ById.{ById}
+use Rattle.type_category.specs.declared.type_category.ById.the-variants.{Is, Next}
 use Rattle.type_category.specs.Category.{isPointer, isReference, isAlias, idStep, orElse, isUnion, methodsCategory, fieldsCategory, isEmptyStruct, bareCategory, sizeCategory, complexCategory, simpleCategory, categoryOf}
 
 -- by_bare_size
@@ -178,7 +178,7 @@ module _ (book : List ℕ) (n : ℕ) where
         unfolding simpleCategory
         simple-alias h s q k = sym (rw (← e, h, ← named, ← q, k))
 
-        module _ (h : t ≡ false) (i : AdsTypeId) (q : i ≡ idOf (typeIdOf book n)) (u : Step) (p : u ≡ idStep i) where
+        module _ (h : t ≡ false) (i : AdsTypeId) (q : i ≡ idOf (typeIdOf book n)) (u : ById) (p : u ≡ idStep i) where
           pub simple-id : (c : AdsTypeCategory) → u ≡ Is c → c ≡ simpleCategory book width n
           unfolding simpleCategory orElse
           simple-id c k = sym (rw (← e, h, ← q, ← p, k))

@@ -13,8 +13,8 @@ use Rattle.type_names.specs.Text.{asciiBytes, startsWith}
 use Rattle.type_names.specs.Names.{isPointerName, isSubRangeName, isPrimitiveName}
 use Rattle.type_category.specs.declared.type_category.AdsTypeCategory.{AdsTypeCategory}
 use Rattle.type_category.specs.declared.type_category.AdsTypeCategory.the-variants.{None, Primitive, Alias, Enum, Array, Struct, FunctionBlock, SubRange, String, Bitset, Pointer, Union, Reference, Interface}
-use Rattle.type_category.specs.declared.type_category.Step.{Step}
-use Rattle.type_category.specs.declared.type_category.Step.the-variants.{Is, Next}
+use Rattle.type_category.specs.declared.type_category.ById.{ById}
+use Rattle.type_category.specs.declared.type_category.ById.the-variants.{Is, Next}
 
 -- the type has fields
 abbrev pub hasFields : List ℕ → ℕ → Bool
@@ -53,7 +53,7 @@ unfoldable pub isAlias : List ℕ → ℕ → Bool
 isAlias book n = hasTypeName book n && not (hasFields book n) && not (hasMethods book n)
 
 -- the type id alone decides primitives, strings and bitsets
-abbrev pub idStep : AdsTypeId → Step
+abbrev pub idStep : AdsTypeId → ById
 idStep id.Void = Next
 idStep id.Int16 = Is Primitive
 idStep id.Int32 = Is Primitive
@@ -74,7 +74,7 @@ idStep id.BigType = Next
 idStep (id.Unknown k) = Next
 
 -- the category that a step decides, or else the next step's
-unfoldable pub orElse : Step → AdsTypeCategory → AdsTypeCategory
+unfoldable pub orElse : ById → AdsTypeCategory → AdsTypeCategory
 orElse (Is c) next = c
 orElse Next next = next
 

@@ -47,8 +47,8 @@ pub enum AdsTypeCategory {
     Interface,
 }
 
-// What one step of the decision gives: the category, or that the next step decides.
-pub enum Step {
+// What the type id alone gives: the category, or that what follows decides.
+pub enum ById {
     Is(AdsTypeCategory),
     Next,
 }
@@ -98,8 +98,8 @@ fn simple(book: &[u8], width: u8, n: u32) -> AdsTypeCategory
     }
     let step = by_type_id(block::type_id(book, n));
     match step {
-        Step::Is(category) => return category,
-        Step::Next => {}
+        ById::Is(category) => return category,
+        ById::Next => {}
     }
     if is_primitive_name(name) {
         return AdsTypeCategory::Primitive;
@@ -124,28 +124,28 @@ fn is_alias(book: &[u8], n: u32) -> bool
 }
 
 // Primitives, bitsets and strings.
-fn by_type_id(id: AdsTypeId) -> Step
+fn by_type_id(id: AdsTypeId) -> ById
     ensures { λ r. ⌜ r ≡ idStep id ⌝ }
 {
     match id {
-        AdsTypeId::Int8 => Step::Is(AdsTypeCategory::Primitive),
-        AdsTypeId::UInt8 => Step::Is(AdsTypeCategory::Primitive),
-        AdsTypeId::Int16 => Step::Is(AdsTypeCategory::Primitive),
-        AdsTypeId::UInt16 => Step::Is(AdsTypeCategory::Primitive),
-        AdsTypeId::Int32 => Step::Is(AdsTypeCategory::Primitive),
-        AdsTypeId::UInt32 => Step::Is(AdsTypeCategory::Primitive),
-        AdsTypeId::Int64 => Step::Is(AdsTypeCategory::Primitive),
-        AdsTypeId::UInt64 => Step::Is(AdsTypeCategory::Primitive),
-        AdsTypeId::Real32 => Step::Is(AdsTypeCategory::Primitive),
-        AdsTypeId::Real64 => Step::Is(AdsTypeCategory::Primitive),
-        AdsTypeId::Real80 => Step::Is(AdsTypeCategory::Primitive),
-        AdsTypeId::Bit => Step::Is(AdsTypeCategory::Bitset),
-        AdsTypeId::String => Step::Is(AdsTypeCategory::String),
-        AdsTypeId::WString => Step::Is(AdsTypeCategory::String),
-        AdsTypeId::Void => Step::Next,
-        AdsTypeId::MaxTypes => Step::Next,
-        AdsTypeId::BigType => Step::Next,
-        AdsTypeId::Unknown(_) => Step::Next,
+        AdsTypeId::Int8 => ById::Is(AdsTypeCategory::Primitive),
+        AdsTypeId::UInt8 => ById::Is(AdsTypeCategory::Primitive),
+        AdsTypeId::Int16 => ById::Is(AdsTypeCategory::Primitive),
+        AdsTypeId::UInt16 => ById::Is(AdsTypeCategory::Primitive),
+        AdsTypeId::Int32 => ById::Is(AdsTypeCategory::Primitive),
+        AdsTypeId::UInt32 => ById::Is(AdsTypeCategory::Primitive),
+        AdsTypeId::Int64 => ById::Is(AdsTypeCategory::Primitive),
+        AdsTypeId::UInt64 => ById::Is(AdsTypeCategory::Primitive),
+        AdsTypeId::Real32 => ById::Is(AdsTypeCategory::Primitive),
+        AdsTypeId::Real64 => ById::Is(AdsTypeCategory::Primitive),
+        AdsTypeId::Real80 => ById::Is(AdsTypeCategory::Primitive),
+        AdsTypeId::Bit => ById::Is(AdsTypeCategory::Bitset),
+        AdsTypeId::String => ById::Is(AdsTypeCategory::String),
+        AdsTypeId::WString => ById::Is(AdsTypeCategory::String),
+        AdsTypeId::Void => ById::Next,
+        AdsTypeId::MaxTypes => ById::Next,
+        AdsTypeId::BigType => ById::Next,
+        AdsTypeId::Unknown(_) => ById::Next,
     }
 }
 

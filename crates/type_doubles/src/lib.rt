@@ -41,8 +41,9 @@ fn is_first(book: &[u8], marks: &mut [u32], n: u32) -> bool
     true
 }
 
-// The marks may hold anything at first: a mark too many only costs a comparison.
-fn distinct(book: &[u8], marks: &mut [u32]) -> bool
+// Whether no two types have one name (refusal 4). A book has at most 65,536 blocks, which is tested before. The marks may hold anything
+// at first: a mark too many only costs a comparison.
+pub fn distinct(book: &[u8], marks: &mut [u32]) -> bool
     requires { ⌜ (length (now marks) ≡ 32768) × (blocksOf (now book) ≤ 65536) ⌝ }
     ensures { λ r. ⌜ r ≡ distinctIn (now (book .entry)) ⌝ }
 {
@@ -55,13 +56,4 @@ fn distinct(book: &[u8], marks: &mut [u32]) -> bool
         i += 1;
     }
     true
-}
-
-// Whether no two types have one name (refusal 4). A book has at most 65,536 blocks, which is tested before.
-pub fn names_distinct(book: &[u8]) -> bool
-    requires { ⌜ blocksOf (now book) ≤ 65536 ⌝ }
-    ensures { λ r. ⌜ r ≡ distinctIn (now (book .entry)) ⌝ }
-{
-    let mut marks = [0u32; 32768];
-    distinct(book, &mut marks)
 }

@@ -64,8 +64,8 @@ impl Desk {
         t.write(image, tape)
     }
 
-    /// Plans a save.
-    pub fn plan(&self, controller: &Desk, t: TypeRef) -> Result<Plan, PlanError> {
-        self.book.plan(&controller.book, t.block().into())
+    /// Plans a save of a value of the type of a name, which this book may lack.
+    pub fn plan(&self, controller: &Desk, name: &str) -> Result<Plan, PlanError> {
+        self.book.plan(&controller.book, name)
     }
 }

@@ -35,7 +35,7 @@ const COMMANDS: [(&str, &str); 9] = [
         "plan",
         "typebook plan BOOK CONTROLLER TYPE [--output FILE]
     How a value of the type may be saved: asks what our book lacks, adds it from the controller's, asks again, and then answers.
-    --output writes the completed book.
+    Our book may be an empty file, and may lack the type itself. --output writes the completed book.
 ",
     ),
     (

@@ -12,7 +12,7 @@ use typebook::Refusal;
 
 /// What the proved call says, in the walk's words.
 fn proved(desk: &Desk, root: u32) -> Outcome {
-    match desk.read_modify_write(desk.book.root(root.into()).expect("a type")) {
+    match desk.read_modify_write(desk.book.root(u64::from(root)).expect("a type")) {
         Ok(true) => Outcome::Yes,
         Ok(false) => Outcome::No,
         Err(Refusal::NotFound { block }) => Outcome::Lacking(block),
@@ -87,7 +87,7 @@ impl Ways<'_> {
 /// Holds one root's walk against the calls; the outcome.
 fn hold(made: &Made, seed: u64) -> Outcome {
     let desk = Desk::new(made.book.clone(), made.width).expect("a valid book");
-    let root = desk.book.root(made.root.into()).expect("a type");
+    let root = desk.book.root(u64::from(made.root)).expect("a type");
     let walk = Walk::new(&desk, root);
     assert_eq!(walk.outcome, proved(&desk, made.root), "seed {seed}");
     let missing = desk.missing(root).expect("no refusal is left");

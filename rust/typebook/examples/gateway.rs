@@ -99,14 +99,12 @@ struct Recipe {
 impl Recipe {
     /// Fetches all that the root is made of, and only then asks the question that matters.
     fn load(controller: &mut Controller, root: &str) -> Result<Self, Fault> {
-        let own = controller.describe(root)?.ok_or("the controller has no such recipe")?;
-        let mut book = TypeBook::builder().with(own).build(Controller::POINTER_WIDTH)?;
+        let mut book = TypeBook::empty(Controller::POINTER_WIDTH);
         book.complete(root, |name| -> Result<Option<Vec<u8>>, Fault> {
             let described = controller.describe(name)?;
             Ok(described.map(|t| t.blocks()).transpose()?)
         })?;
-        let recipe = book.find(root).ok_or("the book has no such recipe")?;
-        let keeps_state = recipe.requires_read_modify_write()?;
+        let keeps_state = book.root(root)?.requires_read_modify_write()?;
         Ok(Self {
             root: root.into(),
             keeps_state,
@@ -116,7 +114,7 @@ impl Recipe {
 
     /// Changes one setting by its path; the new bytes of the whole recipe.
     fn changed(&self, memory: &[u8], path: &str, value: u16) -> Result<Vec<u8>, Fault> {
-        let recipe = self.book.find(&self.root).ok_or("the book has no such recipe")?;
+        let recipe = self.book.root(&self.root)?;
         let fresh = vec![0; recipe.size() as usize];
         // Without state a fresh image would do; with state it would clear the counter.
         let image = if self.keeps_state { memory } else { &fresh };
@@ -127,7 +125,7 @@ impl Recipe {
 
     /// The values of a memory, one a line.
     fn shown(&self, memory: &[u8]) -> Result<String, Fault> {
-        let recipe = self.book.find(&self.root).ok_or("the book has no such recipe")?;
+        let recipe = self.book.root(&self.root)?;
         let mut out = String::new();
         for record in &recipe.read_or_explain(memory)? {
             writeln!(out, "{:1$}{2}", "", 2 * record.level as usize, record.value)?;

@@ -186,10 +186,8 @@ impl<'b> TypeRef<'b> {
                     .and_then(|e| product(u64::from(e.size()), &counts))
                     .unwrap_or(of_type)
             }
-            Category::Struct | Category::Union | Category::FunctionBlock | Category::Array | Category::String => {
-                of_type
-            }
-            // By the type id or the pointer width: the number of bytes that isn't refused so.
+            Category::Struct | Category::Union | Category::FunctionBlock | Category::Array => of_type,
+            // By the type id, the name of a count of time, the pointer width or a text's size: the number of bytes that isn't refused so.
             _ => {
                 let fits = |len: &usize| t.read(&[0; 8][..*len]).err() != Some(Refusal::Size);
                 [1, 2, 4, 8].into_iter().find(fits).map_or(of_type, |len| len as u64)

@@ -1,8 +1,9 @@
 //! A book made longer: one type or many appended, or all that a root is made of fetched by name.
 
-use crate::book::{Missing, TypeBook, TypeRef, told};
+use crate::book::{TypeBook, TypeRef, told};
 use crate::category::Category;
 use crate::refusal::Refusal;
+use crate::root::{Given, Root};
 use std::collections::{HashMap, HashSet};
 use std::error::Error;
 use std::fmt;
@@ -137,8 +138,9 @@ impl TypeBook<'_> {
         Ok(())
     }
 
-    /// Adds every type that the type `root` is made of and the book lacks, the root itself too. `fetch` gives the blocks of the type of a
-    /// name, or none where there is no such type; it is asked for each name once at most. Answers the names that were added, in order.
+    /// Adds every type that the type `root` is made of and the book lacks. A root that is given by its name may be lacking itself, so
+    /// that a book with nothing in it can be completed: then it is asked for first. `fetch` gives the blocks of the type of a name, or
+    /// none where there is no such type; it is asked for each name once at most. Answers the names that were added, in order.
     ///
     /// In the end the book itself is asked what it lacks ([`TypeRef::missing_types`]), and the answer is that it lacks nothing and the walk
     /// was whole, or there is an error: only after this is a "no" of
@@ -152,37 +154,38 @@ impl TypeBook<'_> {
     /// let fetch = |name: &str| -> Result<Option<Vec<u8>>, Infallible> {
     ///     let recipe = TypeBuilder::new("ST_Glue").size(14).field("Temp", "INT", 0, 2).field("Pieces", "FB_Counter", 2, 12);
     ///     let counter = TypeBuilder::new("FB_Counter").size(12);
+    ///     let int = TypeBuilder::new("INT").id(type_id::INT16).size(2);
     ///     Ok(match name {
+    ///         "INT" => int.blocks().ok(),
     ///         "ST_Glue" => recipe.blocks().ok(),
     ///         "FB_Counter" => counter.blocks().ok(),
     ///         _ => None,
     ///     })
     /// };
-    /// let int = TypeBuilder::new("INT").id(type_id::INT16).size(2);
-    /// let mut book = TypeBook::builder().with(int).build(8)?;
-    /// assert_eq!(book.complete("ST_Glue", fetch)?, ["ST_Glue", "FB_Counter"]);
-    /// assert!(book.find("ST_Glue").is_some_and(|recipe| recipe.requires_read_modify_write() == Ok(true)));
+    /// let mut book = TypeBook::empty(8);
+    /// assert_eq!(book.complete("ST_Glue", fetch)?, ["ST_Glue", "FB_Counter", "INT"]);
+    /// assert!(book.root("ST_Glue")?.requires_read_modify_write()?);
     /// # Ok::<(), Box<dyn std::error::Error>>(())
     /// ```
     pub fn complete<E>(
         &mut self,
-        root: &str,
+        root: impl Root,
         fetch: impl FnMut(&str) -> Result<Option<Vec<u8>>, E>,
     ) -> Result<Vec<String>, CompleteError<E>> {
+        let root = self.root_name(root).map_err(CompleteError::Ask)?;
         let mut adding = Adding {
             met: self.types().map(|t| (t.name().to_string(), Some(t.block()))).collect(),
             walked: HashSet::new(),
             added: Vec::new(),
             fetch,
         };
-        adding.needed(self, root)?;
+        adding.needed(self, &root)?;
         loop {
-            let asked = self.find(root).ok_or(CompleteError::Ask(Refusal::Root))?;
-            let missing = asked.missing_types().map_err(CompleteError::Ask)?;
+            let missing = self.missing_types(&root).map_err(CompleteError::Ask)?;
             if missing.is_complete() {
                 return Ok(adding.added);
             }
-            let names = self.missing_names(&missing);
+            let names = missing.names(self, &root);
             if names.is_empty() {
                 return Err(CompleteError::NotWhole);
             }
@@ -192,22 +195,13 @@ impl TypeBook<'_> {
         }
     }
 
-    /// The names that are missing, each once, in the order found.
-    ///
-    /// ```
-    /// use typebook::{TypeBook, TypeBuilder};
-    ///
-    /// let recipe = TypeBuilder::new("S").size(6).field("x", "FOO", 0, 2).field("y", "BAR", 2, 2).field("z", "FOO", 4, 2);
-    /// let book = TypeBook::builder().with(recipe).build(8)?;
-    /// let missing = book.root(0)?.missing_types()?;
-    /// assert_eq!(book.missing_names(&missing), ["FOO", "BAR"]);
-    /// assert!(!missing.is_complete());
-    /// # Ok::<(), Box<dyn std::error::Error>>(())
-    /// ```
-    pub fn missing_names(&self, missing: &Missing) -> Vec<String> {
-        let mut met = HashSet::new();
-        let names = missing.blocks.iter().map(|&block| self.type_name(block));
-        names.filter(|&name| met.insert(name)).map(str::to_string).collect()
+    /// The name of a root that is in the book or can be added to it.
+    fn root_name(&self, root: impl Root) -> Result<String, Refusal> {
+        match (self.root(root), root.given()) {
+            (Ok(t), _) => Ok(t.name().into()),
+            (Err(Refusal::NotFound { .. }), Given::Name(name)) => Ok(name.into()),
+            (Err(refusal), _) => Err(refusal),
+        }
     }
 }
 

@@ -1,6 +1,7 @@
 //! Dates and times of day: a count of a type such as DT or TOD as year to nanosecond, and back.
 
 use crate::Refusal;
+use crate::book::told;
 use crate::ffi::total;
 use std::fmt;
 
@@ -53,7 +54,7 @@ impl Moment {
                     nanosecond,
                 })
             }
-            number => Err(Refusal::from_number(number, 0)),
+            number => Err(told(number, 0)),
         }
     }
 
@@ -71,7 +72,7 @@ impl Moment {
         let mut values = [0; 1];
         match total::time_count(type_name.as_bytes(), &parts, &mut values) {
             0 => Ok(values[0]),
-            number => Err(Refusal::from_number(number, 0)),
+            number => Err(told(number, 0)),
         }
     }
 

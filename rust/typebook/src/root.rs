@@ -10,14 +10,17 @@ mod sealed {
 /// What a root may be given by: the number of its block, or its name.
 ///
 /// ```
-/// use typebook::{LACKING_ROOT, Refusal, TypeBook};
-/// # let bytes = twin::make::example();
-/// let book = TypeBook::new(bytes)?;
-/// assert_eq!(book.root("INT")?.block(), book.root(3)?.block());
+/// use typebook::{LACKING_ROOT, Refusal, TypeBook, TypeBuilder};
+///
+/// let book = TypeBook::builder()
+///     .with(TypeBuilder::new("S").size(2).field("x", "INT", 0, 2))
+///     .with(TypeBuilder::new("INT").id(2).size(2))
+///     .build(8)?;
+/// assert_eq!(book.root("INT")?.block(), book.root(2)?.block());
 /// // A name that the book lacks, and one that no type can have.
 /// assert_eq!(book.root("FOO").unwrap_err(), Refusal::NotFound { block: LACKING_ROOT });
 /// assert_eq!(book.root("Größe").unwrap_err(), Refusal::RootName);
-/// # Ok::<(), Refusal>(())
+/// # Ok::<(), Box<dyn std::error::Error>>(())
 /// ```
 pub trait Root: Copy + sealed::Sealed {
     /// The root, by number or by name.

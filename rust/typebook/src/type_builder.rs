@@ -11,6 +11,7 @@ const NAME: usize = 200;
 const DIMENSIONS: usize = 8;
 const VALUE: usize = 8;
 const MOST_BLOCKS: usize = 65_536;
+const UTF_8: u8 = 32;
 
 /// The type ids that have a meaning, for [`TypeBuilder::id`]. Any other number may stand in a book too.
 #[allow(missing_docs)]
@@ -85,6 +86,8 @@ pub enum Misfit {
         /// The number of bytes.
         len: usize,
     },
+    /// UTF-8 is said of a type with this type id, which isn't STRING's.
+    Utf8(u32),
     /// More than 65,536 blocks; the type has one, and one for each field and each entry.
     Blocks(usize),
 }
@@ -109,6 +112,7 @@ impl fmt::Display for Misfit {
             Misfit::LongValue { entry, len } => {
                 write!(f, "entry {entry} has a value of {len} bytes, and 8 is the most")
             }
+            Misfit::Utf8(id) => write!(f, "UTF-8 is said of a type with the id {id}, and STRING has 30"),
             Misfit::Blocks(n) => write!(f, "{n} blocks, and a book has 65,536 at most"),
         }
     }
@@ -127,8 +131,6 @@ pub enum TypeError {
     },
     /// Two types of a book have this name.
     Doubled(String),
-    /// A book has at least one type.
-    NoTypes,
     /// The types have this many blocks together, and a book has 65,536 at most.
     LongBook(usize),
     /// The book that was made is refused. No book of this builder is.
@@ -140,7 +142,6 @@ impl fmt::Display for TypeError {
         match self {
             TypeError::Misfit { name, what } => write!(f, "the type {name:?} doesn't fit a type book: {what}"),
             TypeError::Doubled(name) => write!(f, "two types are named {name:?}"),
-            TypeError::NoTypes => f.write_str("a type book has at least one type"),
             TypeError::LongBook(blocks) => {
                 write!(
                     f,
@@ -270,6 +271,11 @@ impl TypeBuilder {
         self.flag(16)
     }
 
+    /// A STRING in UTF-8; without this one is in Windows-1252. Of the type id [`STRING`](type_id::STRING) only.
+    pub fn utf_8(self) -> Self {
+        self.flag(UTF_8)
+    }
+
     /// With one more dimension of so many elements; the first one is the outermost.
     pub fn dimension(mut self, elements: u32) -> Self {
         self.counts.push(elements);
@@ -320,6 +326,9 @@ impl TypeBuilder {
         }
         if DIMENSIONS < self.counts.len() {
             return Err(Misfit::Dimensions(self.counts.len()));
+        }
+        if self.flags & UTF_8 != 0 && self.id != type_id::STRING {
+            return Err(Misfit::Utf8(self.id));
         }
         let mut own = Block::new(1, self.flags);
         own.0[2] = self.counts.len() as u8;
@@ -403,10 +412,8 @@ impl BookBuilder {
     /// The book's bytes. Every book that this gives passes the check of [`TypeBook::new`].
     pub fn bytes(&self) -> Result<Vec<u8>, TypeError> {
         let blocks = self.types.iter().map(TypeBuilder::count).sum();
-        match blocks {
-            0 => return Err(TypeError::NoTypes),
-            1..=MOST_BLOCKS => {}
-            _ => return Err(TypeError::LongBook(blocks)),
+        if blocks > MOST_BLOCKS {
+            return Err(TypeError::LongBook(blocks));
         }
         let (mut names, mut bytes) = (HashSet::new(), Vec::with_capacity(blocks * BLOCK));
         for one in &self.types {
@@ -498,6 +505,9 @@ mod tests {
             misfit(new().entry("a", &[0; 9])),
             Misfit::LongValue { entry: 0, len: 9 }
         );
+        assert_eq!(misfit(new().utf_8()), Misfit::Utf8(65));
+        assert_eq!(misfit(new().utf_8().id(type_id::WSTRING)), Misfit::Utf8(31));
+        assert!(new().utf_8().id(type_id::STRING).blocks().is_ok());
         let many = (0..65_536).fold(new(), |t, _| t.entry("e", &[]));
         assert_eq!(misfit(many), Misfit::Blocks(65_537));
     }
@@ -529,8 +539,8 @@ mod tests {
     }
 
     #[test]
-    fn books_that_are_none() {
-        assert_eq!(TypeBook::builder().build(8).unwrap_err(), TypeError::NoTypes);
+    fn books_of_no_type_and_of_too_many_blocks() {
+        assert_eq!(TypeBook::builder().build(8).expect("a book").blocks(), 0);
         let entries = |name: &str, n| (0..n).fold(TypeBuilder::new(name), |t, _| t.entry("e", &[]));
         let fits = TypeBook::builder()
             .with(entries("A", 40_000))

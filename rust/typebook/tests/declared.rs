@@ -23,8 +23,8 @@ fn types() -> Vec<u8> {
 
 #[test]
 fn as_they_are_named() {
-    let book = TypeBook::new(types()).expect("valid");
-    let tape = book.root(0).expect("a type").read(8, &[0; 11]).expect("read");
+    let book = TypeBook::new(types(), 8).expect("valid");
+    let tape = book.root(0).expect("a type").read(&[0; 11]).expect("read");
     let told: Vec<Option<&str>> = tape.iter().map(|r| r.declared()).collect();
     let row = [Some("Grid"), Some("Bar"), Some("Bar"), None];
     let mut wanted = vec![Some("Root"), None, Some("Rows")];
@@ -38,16 +38,16 @@ fn as_they_are_named() {
         assert_eq!(record.declared_block.is_none(), no_value);
     }
     // By its own block the struct is named as such, and by the array's the array.
-    let inner = book.root(1).expect("a type").read(8, &[0; 11]).expect("read");
+    let inner = book.root(1).expect("a type").read(&[0; 11]).expect("read");
     assert_eq!(inner.iter().next().and_then(|r| r.declared()), Some("S"));
-    let grid = book.find("Grid").expect("there").read(8, &[0; 8]).expect("read");
+    let grid = book.find("Grid").expect("there").read(&[0; 8]).expect("read");
     assert_eq!(grid.iter().next().and_then(|r| r.declared()), Some("Grid"));
 }
 
 #[test]
 fn an_edit_keeps_it() {
-    let book = TypeBook::new(types()).expect("valid");
-    let mut tape = book.root(0).expect("a type").read(8, &[0; 11]).expect("read");
+    let book = TypeBook::new(types(), 8).expect("valid");
+    let mut tape = book.root(0).expect("a type").read(&[0; 11]).expect("read");
     let before: Vec<_> = tape.iter().map(|r| r.declared_block).collect();
     tape.edit("r[1,0]", 7).expect("an integer");
     tape.edit_at(&[Step::Key("t")], "x").expect("a text");
@@ -58,12 +58,12 @@ fn an_edit_keeps_it() {
 /// Any type block will do and writes the same; a field's number, one past the book, and any but 0 in an end or a key are 16.
 #[test]
 fn what_a_write_takes() {
-    let book = TypeBook::new(types()).expect("valid");
+    let book = TypeBook::new(types(), 8).expect("valid");
     let root = book.root(0).expect("a type");
-    let mut tape = root.read(8, &[0; 11]).expect("read");
+    let mut tape = root.read(&[0; 11]).expect("read");
     tape.edit("r[0,1]", 258).expect("an integer");
     let edits = tape.edits();
-    let wanted = root.write(8, &[0; 11], &edits).expect("written");
+    let wanted = root.write(&[0; 11], &edits).expect("written");
     let blocks = book.bytes().len() as u32 / 512;
     for at in (0..edits.bytes().len()).step_by(24) {
         let framed = matches!(edits.bytes()[at], 2 | 4 | 5);
@@ -71,7 +71,7 @@ fn what_a_write_takes() {
             let mut records = edits.bytes().to_vec();
             records[at + 4..at + 8].copy_from_slice(&number.to_le_bytes());
             let mut output = [0; 11];
-            let done = root.write_into(8, &[0; 11], &records, edits.text(), &mut output);
+            let done = root.write_into(&[0; 11], &records, edits.text(), &mut output);
             let is_type = number < blocks && book.bytes()[number as usize * 512] == 1;
             let fine = if framed { number == 0 } else { is_type };
             assert_eq!(done.is_ok(), fine, "record {} with {number}", at / 24);

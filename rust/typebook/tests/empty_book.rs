@@ -33,11 +33,11 @@ fn a_book_of_no_bytes_is_valid() {
     assert_eq!(calls::check_book(&example(), 0), 0);
     assert_eq!(calls::check_book(&[9; 511], 0), 0);
     assert_eq!(calls::check_book(&[9; 511], 511), 1);
-    let empty = TypeBook::empty();
+    let empty = TypeBook::empty(8);
     assert_eq!((empty.blocks(), empty.bytes().len(), empty.types().count()), (0, 0, 0));
     assert_eq!(empty.root(0).unwrap_err(), Refusal::Root);
     assert_eq!(empty.root("").unwrap_err(), Refusal::NotFound { block: LACKING_ROOT });
-    assert!(TypeBook::new(vec![]).is_ok() && TypeBook::names_only(vec![]).is_ok());
+    assert!(TypeBook::new(vec![], 8).is_ok() && TypeBook::names_only(vec![], 8).is_ok());
     let (mut tape, mut text, mut values) = ([7; 24], [7; 4], [9; 2]);
     assert_eq!(calls::read(&[], 0, 8, 0, &[], &mut tape, &mut text, &mut values), 5);
     assert_eq!((tape, text, values), ([0; 24], [0; 4], [9; 2]));
@@ -115,7 +115,7 @@ fn a_name_that_the_book_has_is_its_block() {
     // The name of no bytes finds an unnamed type.
     let unnamed = Type::new("").id(2).size(2).bytes();
     assert_eq!(read(&unnamed, 512, b"", &[5, 0]), (0, [1, 0], false));
-    assert_eq!(TypeBook::new(unnamed).unwrap().root("").unwrap().block(), 0);
+    assert_eq!(TypeBook::new(unnamed, 8).unwrap().root("").unwrap().block(), 0);
 }
 
 #[test]
@@ -162,6 +162,9 @@ fn the_number_of_a_lacking_root_is_no_block() {
         assert_eq!((answer, values), (5, [99; 2]));
         assert_eq!(calls::resolve_alias(bytes, len, 8, LACKING, &mut values), 5);
         assert_eq!(calls::resolve_fields(bytes, len, 8, LACKING, &mut [], &mut values), 5);
-        assert_eq!(TypeBook::new(bytes).unwrap().root(LACKING).unwrap_err(), Refusal::Root);
+        assert_eq!(
+            TypeBook::new(bytes, 8).unwrap().root(LACKING).unwrap_err(),
+            Refusal::Root
+        );
     }
 }

@@ -7,8 +7,8 @@ use typebook::{Refusal, TypeBook, Value};
 /// Byte 1 and the text of what is read of some bytes, as a STRING (30) or a WSTRING (31).
 fn read(id: u32, bytes: &[u8]) -> (u8, String) {
     let types = [Type::new("T").id(id).size(bytes.len() as u32)];
-    let book = TypeBook::new(book(&types)).expect("valid");
-    let tape = book.root(0).expect("a type").read(8, bytes).expect("read");
+    let book = TypeBook::new(book(&types), 8).expect("valid");
+    let tape = book.root(0).expect("a type").read(bytes).expect("read");
     let record = tape.iter().next().expect("one record");
     match record.value {
         Value::Text { text, clipped } => {
@@ -45,14 +45,14 @@ fn what_is_shown() {
 #[test]
 fn written_alike() {
     let types = [Type::new("T").id(30).size(3)];
-    let book = TypeBook::new(book(&types)).expect("valid");
+    let book = TypeBook::new(book(&types), 8).expect("valid");
     let root = book.root(0).expect("a type");
     let write = |text: &str, byte_1: u8, image: &[u8]| {
         let mut tape = Tape::default();
         tape.put_text(text);
         tape.records[1] = byte_1;
         let mut output = image.to_vec();
-        root.write_into(8, image, &tape.records, &tape.text, &mut output)
+        root.write_into(image, &tape.records, &tape.text, &mut output)
             .map(|()| output)
     };
     for ended in [0, 1] {
@@ -63,6 +63,6 @@ fn written_alike() {
     // Byte 1 of no other kind but an integer's is used.
     let mut unit = Tape::default();
     unit.put(13, 1, 0, 0);
-    let refused = root.write_into(8, b"xyz", &unit.records, &unit.text, &mut [0; 3]);
+    let refused = root.write_into(b"xyz", &unit.records, &unit.text, &mut [0; 3]);
     assert_eq!(refused, Err(Refusal::TapeForm));
 }

@@ -154,7 +154,7 @@ fn the_place_is_refused_as_the_whole_was() {
         let made = made(rng);
         let memory = memory(rng, &made);
         let book = TypeBook::new(&made.book[..], made.width).expect("valid");
-        let root = book.root(made.root.into()).expect("a type");
+        let root = book.root(u64::from(made.root)).expect("a type");
         let told = root.explain(&memory);
         assert_eq!(told.as_ref().map(|e| e.refusal), root.read(&memory).err());
         let Some(ReadError {

@@ -145,7 +145,12 @@ fn completed_by_name_as_by_asks() {
         let controller = twin::Book::new(&made.book);
         let by_name: BTreeMap<String, Vec<u8>> = pieces(&made.book).into_iter().collect();
         let root = String::from_utf8_lossy(block::name(&made.book, made.root)).to_string();
-        let start = Type::new("\u{7e}other").bytes();
+        // Begun with a type that has nothing to do with it, or from nothing.
+        let start = if seed % 2 == 0 {
+            Type::new("\u{7e}other").bytes()
+        } else {
+            Vec::new()
+        };
         let mut book = TypeBook::names_only(&start[..], made.width).expect("valid");
         let mut asked = BTreeSet::new();
         let told = book.complete(&root, |name| {
@@ -222,6 +227,37 @@ fn what_a_fetch_can_do_wrong() {
     assert!(missing.blocks.is_empty() && !missing.is_complete());
     let told = book.complete("R", |_| Ok::<_, Infallible>(None));
     assert_eq!(told, Err(CompleteError::NotWhole));
+}
+
+/// A root is given by its number or its name; what can be no root is refused before anything is fetched.
+#[test]
+fn completed_from_a_root_of_either_kind() {
+    let recipe = TypeBuilder::new("R")
+        .size(2)
+        .field("x", "INT", 0, 2)
+        .blocks()
+        .expect("fits");
+    let fetch = |name: &str| {
+        Ok::<_, Infallible>(match name {
+            "R" => Some(recipe.clone()),
+            "INT" => Some(int().bytes()),
+            _ => None,
+        })
+    };
+    let mut book = TypeBook::empty(8);
+    assert_eq!(book.complete("R", fetch), Ok(vec!["R".into(), "INT".into()]));
+    let mut book = TypeBook::new(&recipe[..], 8).expect("valid");
+    assert_eq!(book.complete(0, fetch), Ok(vec!["INT".into()]));
+    let mut book = TypeBook::empty(8);
+    let name = "Q".to_string();
+    assert_eq!(book.complete("Q", fetch), Err(CompleteError::Missing { name }));
+    let never = |_: &str| -> Result<_, Infallible> { panic!("nothing is to be fetched") };
+    assert_eq!(book.complete(0, never), Err(CompleteError::Ask(Refusal::Root)));
+    assert_eq!(
+        book.complete("Gr\u{f6}\u{df}e", never),
+        Err(CompleteError::Ask(Refusal::RootName))
+    );
+    assert_eq!(book.blocks(), 0);
 }
 
 #[test]

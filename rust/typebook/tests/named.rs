@@ -227,12 +227,12 @@ fn plans_from_nothing() {
             false => b"no such type",
         };
         let text = std::str::from_utf8(name).unwrap();
-        let Ok(controller) = TypeBook::new(&made.book[..]) else {
+        let Ok(controller) = TypeBook::new(&made.book[..], made.width) else {
             continue;
         };
         let mut buffer = vec![0; made.book.len()];
         let (answer, len) = twin::plan::plan(&mut buffer, 0, &made.book, made.width, name);
-        let number = match (TypeBook::empty().plan(&controller, made.width, text), answer) {
+        let number = match (TypeBook::empty(made.width).plan(&controller, text), answer) {
             (Ok(plan), Ok(yes)) => {
                 assert_eq!(
                     (plan.read_modify_write, plan.book.bytes()),
@@ -240,7 +240,7 @@ fn plans_from_nothing() {
                     "{seed}"
                 );
                 let whole = controller.root(text).unwrap();
-                assert_eq!(whole.requires_read_modify_write(made.width), Ok(yes), "{seed}");
+                assert_eq!(whole.requires_read_modify_write(), Ok(yes), "{seed}");
                 0
             }
             (Err(PlanError::Missing { .. }), Err(Stop::Missing(_))) => 7,

@@ -3,7 +3,7 @@
 
 use std::path::Path;
 use twin::make::{Type, book, int};
-use typebook::{Category, EditError, Refusal, Room, Step, TypeBook, TypeBuilder, TypeError, Value, calls};
+use typebook::{Category, EditError, Refusal, Room, Step, TypeBook, TypeBuilder, Value, calls};
 
 const BLOCKS: [u32; 8] = [4, 5, 6, 65_535, 65_536, 1 << 23, u32::MAX - 1, u32::MAX];
 
@@ -17,7 +17,7 @@ fn blocks_past_the_book() {
     let book = made();
     for block in BLOCKS {
         assert_eq!((book.name(block), book.type_name(block)), ("", ""));
-        assert_eq!(book.root(block.into()).err(), Some(Refusal::Root));
+        assert_eq!(book.root(u64::from(block)).err(), Some(Refusal::Root));
         let mut values = [0; 3];
         assert!(!calls::is_type(book.bytes(), block));
         assert_eq!(calls::determine(book.bytes(), 8, block, &mut values), 0);
@@ -31,7 +31,7 @@ fn blocks_past_the_book() {
 #[test]
 fn numbers_that_stand_for_nothing() {
     let known = (0..=u8::MAX).filter(|&n| Refusal::from_number(n, u64::MAX).is_some());
-    assert_eq!(known.map(usize::from).max(), Some(19));
+    assert!(known.eq((1..=19).chain([23, 24])));
     assert_eq!(
         (Category::from_number(16), Category::from_number(u64::MAX)),
         (None, None)
@@ -99,7 +99,6 @@ fn types_of_the_largest_numbers() {
         t.explain(&[]).map(|e| e.to_string()),
         Some(format!("0 bytes where T has {most}"))
     );
-    assert!(matches!(TypeBook::builder().build(8), Err(TypeError::NoTypes)));
 }
 
 #[test]

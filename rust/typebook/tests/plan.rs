@@ -77,13 +77,19 @@ fn planned(ours: &[u8], controller: &[u8]) -> Result<Plan, PlanError> {
 #[test]
 fn refusals_1_to_5_of_our_book_and_the_root() {
     let (ours, theirs) = (example(), example());
-    for len in [0, 1, 513, 5 * 512 + theirs.len(), usize::MAX] {
+    for len in [1, 513, 5 * 512 + theirs.len(), usize::MAX] {
         Lent {
             len,
             ..Lent::new(&ours, &theirs, 0)
         }
         .refused(1);
     }
+    // A book with nothing in it is one, and has no root by number.
+    Lent {
+        len: 0,
+        ..Lent::new(&ours, &theirs, 0)
+    }
+    .refused(5);
     let mut damaged = ours.clone();
     damaged[508] ^= 1;
     // Ours come before the controller's and before the scratch.
@@ -113,7 +119,7 @@ fn refusals_1_to_5_of_our_book_and_the_root() {
 #[test]
 fn refusals_1_to_4_of_the_controllers_book_and_6() {
     let (ours, mut theirs) = (example(), example());
-    for len in [0, 511, theirs.len() + 512, usize::MAX] {
+    for len in [511, theirs.len() + 512, usize::MAX] {
         Lent {
             theirs: len,
             scratch: 0,

@@ -185,8 +185,8 @@ fn shown_as_iso_8601() {
 
 /// What a type alone is read as, with pointers of `width`.
 fn read(types: &[Type], width: u8, memory: &[u8]) -> Result<String, Refusal> {
-    let book = TypeBook::new(book(types)).expect("a book");
-    let tape: Tape = book.root(0)?.read(width, memory)?;
+    let book = TypeBook::new(book(types), width).expect("a book");
+    let tape: Tape = book.root(0)?.read(memory)?;
     Ok(format!("{tape:?}"))
 }
 
@@ -227,11 +227,11 @@ fn read_by_name() {
 #[test]
 fn written_from_integers_only() {
     let write = |ty: Type, put: &dyn Fn(&mut TapeBuilder), image: &[u8]| {
-        let book = TypeBook::new(book(&[ty])).expect("a book");
+        let book = TypeBook::new(book(&[ty]), 3).expect("a book");
         let mut builder = TapeBuilder::new(&book);
         put(&mut builder);
         let tape = builder.finish().expect("a tape");
-        book.root(0).expect("a root").write(3, image, &tape)
+        book.root(0).expect("a root").write(image, &tape)
     };
     let ty = |name: &str, id: u32| Type::new(name).id(id).size(4);
     assert_eq!(
@@ -274,14 +274,14 @@ fn moments_of_records() {
         Type::new("UDINT").id(19).size(4),
         Type::new("LDT").id(21).size(8),
     ];
-    let book = TypeBook::new(book(&types)).expect("a book");
+    let book = TypeBook::new(book(&types), 8).expect("a book");
     let mut memory = vec![0; 24];
     memory[..4].copy_from_slice(&86_401u32.to_le_bytes());
     memory[8..12].copy_from_slice(&21_600_000u32.to_le_bytes());
     memory[12] = 7;
     memory[16..].copy_from_slice(&u64::MAX.to_le_bytes());
     let root = book.root(0).expect("a root");
-    let tape = root.read(8, &memory).expect("a read");
+    let tape = root.read(&memory).expect("a read");
     let shown: Vec<String> = tape.iter().filter_map(|r| r.moment()).map(|m| m.to_string()).collect();
     assert_eq!(
         shown,
@@ -292,11 +292,7 @@ fn moments_of_records() {
             "2554-07-21T23:34:33.709551615"
         ]
     );
-    let alone = book
-        .find("TOD")
-        .expect("a type")
-        .read(8, &[1, 0, 0, 0])
-        .expect("a read");
+    let alone = book.find("TOD").expect("a type").read(&[1, 0, 0, 0]).expect("a read");
     assert_eq!(
         alone
             .iter()

@@ -31,10 +31,15 @@ fn number(rng: &mut Rng) -> u32 {
 fn both(rng: &mut Rng, wild: bool) -> (Type, TypeBuilder) {
     let mut twin = Type::new(&name(rng, wild))
         .of(&name(rng, wild))
-        .id(number(rng))
+        .id(if rng.chance(300) { 30 } else { number(rng) })
         .size(number(rng));
     let counts: Vec<u32> = (0..rng.below(9 + usize::from(wild))).map(|_| number(rng)).collect();
-    twin = twin.flags(rng.below(32) as u8).dimensions(&counts);
+    let flags = if twin.id == 30 || wild && rng.chance(100) {
+        64
+    } else {
+        32
+    };
+    twin = twin.flags(rng.below(flags) as u8).dimensions(&counts);
     for _ in 0..rng.below(5) {
         twin = twin.field(&name(rng, wild), &name(rng, wild), number(rng), number(rng));
     }
@@ -53,12 +58,13 @@ fn built(twin: &Type) -> TypeBuilder {
         .type_name(&twin.type_name)
         .id(twin.id)
         .size(twin.size);
-    let flags: [Flag; 5] = [
+    let flags: [Flag; 6] = [
         TypeBuilder::pointer,
         TypeBuilder::reference,
         TypeBuilder::enumeration,
         TypeBuilder::methods,
         TypeBuilder::tc_implements,
+        TypeBuilder::utf_8,
     ];
     for (bit, flag) in flags.iter().enumerate() {
         if twin.flags >> bit & 1 == 1 {
@@ -85,7 +91,9 @@ fn names(t: &Type) -> Vec<&str> {
 /// Whether a type has a block form, by document 01's table.
 fn fits(t: &Type) -> bool {
     let named = |name: &&str| name.len() <= 200 && name.bytes().all(|b| (0x20..=0x7E).contains(&b));
-    names(t).iter().all(named) && t.dimensions.len() <= 8 && t.entries.iter().all(|(_, value)| value.len() <= 8)
+    let values = t.entries.iter().all(|(_, value)| value.len() <= 8);
+    let marked = t.flags < 32 || t.id == 30;
+    names(t).iter().all(named) && t.dimensions.len() <= 8 && values && marked
 }
 
 #[test]
@@ -103,8 +111,8 @@ fn every_type_that_fits_passes_the_check() {
 #[test]
 fn what_is_refused_is_what_does_not_fit() {
     let rng = &mut Rng::new(29);
-    let (mut fine, mut kinds) = (0, [0; 4]);
-    for _ in 0..3_000 {
+    let (mut fine, mut kinds) = (0, [0; 5]);
+    for _ in 0..4_000 {
         let (twin, one) = both(rng, true);
         match one.blocks() {
             Ok(blocks) => {
@@ -131,6 +139,10 @@ fn what_is_refused_is_what_does_not_fit() {
                     Misfit::LongValue { entry, len } => {
                         assert_eq!((len, twin.entries[entry].1.len()), (9, 9));
                         kinds[3] += 1;
+                    }
+                    Misfit::Utf8(id) => {
+                        assert!(id != 30 && (id, twin.flags & 32) == (twin.id, 32));
+                        kinds[4] += 1;
                     }
                     other => panic!("{other}"),
                 }

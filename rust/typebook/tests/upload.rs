@@ -338,6 +338,51 @@ fn bits() {
     assert_eq!(book.type_name(missing.blocks[0]), "S");
 }
 
+/// A STRING, or a field, an alias or an array of one, that an attribute marks as UTF-8: the type that it comes to has the mark.
+#[test]
+fn texts_in_utf_8() {
+    let mark = b"\x01\x00\x0a\x05TcEncoding\0UTF-8\0";
+    let marked = |made: Made| made.flags(UploadFlags::ATTRIBUTES, mark);
+    let string = Made::new("STRING(3)", 4).id(30);
+    let field = |name: &str, of: &str, at: u32| Made::new(name, 4).of(of).at(at);
+    let root = Made::new("S", 24)
+        .item(field("plain", "STRING(3)", 0))
+        .item(marked(field("own", "STRING(3)", 4)))
+        .item(field("type", "T_Text", 8))
+        .item(marked(field("alias", "T_Alias", 12)))
+        .item(marked(field("array", "ARRAY [0..0] OF T_Alias", 16)))
+        .item(marked(field("number", "DINT", 20)));
+    let types = [
+        root,
+        string,
+        marked(Made::new("T_Text", 4).id(30)),
+        Made::new("T_Alias", 4).id(30).of("STRING(3)"),
+        Made::new("ARRAY [0..0] OF T_Alias", 4)
+            .id(30)
+            .of("T_Alias")
+            .bounds(0, 1),
+        Made::new("DINT", 4).id(3),
+    ];
+    let book = TypeBook::from_upload(&all(&types), 8).expect("a book");
+    assert!(book.find("STRING(3) UTF-8").is_some() && book.find("T_Alias UTF-8").is_some());
+    let euro = "\u{20ac}\0".as_bytes();
+    let memory = [euro, euro, euro, euro, euro, &[5, 0, 0, 0]].concat();
+    let tape = book.root(0).expect("a type").read(&memory).expect("read");
+    let shown = |path: &str| tape.at(path).expect("a value").to_string();
+    assert_eq!(shown("plain"), "\"\u{e2}\u{201a}\u{ac}\"");
+    for path in ["own", "type", "alias", "array[0]"] {
+        assert_eq!(shown(path), "\"\u{20ac}\"", "{path}");
+    }
+    assert_eq!(shown("number"), "5");
+    // An alias that is marked itself; one of a type that isn't there stays as it is.
+    let alias = marked(Made::new("A", 4).id(30).of("STRING(3)"));
+    let lost = marked(Made::new("B", 4).id(30).of("GONE"));
+    let book = TypeBook::from_upload(&all(&[alias, Made::new("STRING(3)", 4).id(30), lost]), 8).expect("a book");
+    let tape = book.root(0).expect("a type").read(euro).expect("read");
+    assert!(format!("{tape:?}").contains('\u{20ac}'), "{tape:?}");
+    assert_eq!(book.find("B").expect("a type").type_name(), "GONE");
+}
+
 #[test]
 fn names_that_do_not_fit() {
     let long = "x".repeat(201);
@@ -467,10 +512,8 @@ fn entries_in_one_another() {
 /// No upload, and one of more blocks than a book has.
 #[test]
 fn too_few_and_too_many() {
-    assert!(matches!(
-        TypeBook::from_upload(&[], 8).expect_err("no types").fault,
-        UploadFault::Form(_)
-    ));
+    // Nothing gives the book with nothing in it, which lacks every type and so never says "no".
+    assert_eq!(TypeBook::from_upload(&[], 8).expect("a book").blocks(), 0);
     let wide = |name: &str| (0..40_000).fold(Made::new(name, 0), |made, _| made.item(Made::new("f", 0)));
     assert!(TypeBook::from_upload(&wide("S").bytes(), 8).is_ok());
     let told = refused(&[wide("S"), wide("T")]);
@@ -575,6 +618,13 @@ fn uploaded(book: &[u8], n: u32) -> Option<Made> {
     }
     if block::flag(book, n, 4) {
         made = made.flags(UploadFlags::ATTRIBUTES, b"\x01\x00\x0c\x01TcImplements\0I\0");
+    }
+    if block::flag(book, n, 5) {
+        // Of an alias or an array the attribute would be said of what it is one of.
+        if block::flag(book, n, 4) || !block::type_name(book, n).is_empty() {
+            return None;
+        }
+        made = made.flags(UploadFlags::ATTRIBUTES, b"\x01\x00\x0a\x05TcEncoding\0UTF-8\0");
     }
     if block::flag(book, n, 2) != (entries > 0) {
         return None;

@@ -98,7 +98,7 @@ fn string(size: u32) -> Type {
 
 #[test]
 fn the_mark_is_a_strings() {
-    let checked = |t: Type| TypeBook::new(t.bytes()).map(|_| ());
+    let checked = |t: Type| TypeBook::new(t.bytes(), WIDTH).map(|_| ());
     assert_eq!(checked(string(4).flags(MARK)), Ok(()));
     assert_eq!(checked(string(4).flags(MARK + 4)), Ok(()));
     assert_eq!(checked(string(4).dimensions(&[2]).of("S").flags(MARK)), Ok(()));
@@ -116,16 +116,16 @@ fn the_mark_is_a_strings() {
     let mut field = Type::new("R").size(40).field("f", "S", 30, 4).bytes();
     field[512 + 1] = MARK;
     twin::make::mend(&mut field[512..1024]);
-    assert_eq!(TypeBook::new(field).map(|_| ()), Err(Refusal::Form));
+    assert_eq!(TypeBook::new(field, WIDTH).map(|_| ()), Err(Refusal::Form));
 }
 
 /// The texts of a read, in order.
 fn texts(types: &[Type], memory: &[u8]) -> Vec<String> {
-    let book = TypeBook::new(book(types)).expect("a valid book");
-    let tape = book.root(0).expect("a type").read(WIDTH, memory).expect("a read");
+    let book = TypeBook::new(book(types), WIDTH).expect("a valid book");
+    let tape = book.root(0).expect("a type").read(memory).expect("a read");
     tape.iter()
         .filter_map(|record| match record.value {
-            Value::Text(text) => Some(text.to_string()),
+            Value::Text { text, .. } => Some(text.to_string()),
             _ => None,
         })
         .collect()
@@ -153,11 +153,11 @@ fn a_marked_string_is_read_as_utf_8() {
 
 /// What a write of one text answers over an image of FFh.
 fn written(types: &[Type], size: usize, value: &str) -> Result<Vec<u8>, Refusal> {
-    let book = TypeBook::new(book(types)).expect("a valid book");
+    let book = TypeBook::new(book(types), WIDTH).expect("a valid book");
     let mut tape = TapeBuilder::new(&book);
     tape.text(value).expect("a text");
     let tape = tape.finish().expect("a tape");
-    book.root(0).expect("a type").write(WIDTH, &vec![0xFF; size], &tape)
+    book.root(0).expect("a type").write(&vec![0xFF; size], &tape)
 }
 
 #[test]

@@ -25,8 +25,11 @@ placed-requires c κs = search book-few
 returns-3 : tie.Need-returns-3
 returns-3 c = book-says _ _ (search book-form)
 
-names-distinct-requires : tie.Need-names-distinct-requires
-names-distinct-requires c κs = search book-few
+slice-aggregate-distinct : tie.Need-slice-aggregate-distinct
+slice-aggregate-distinct c = search needs
+
+distinct-requires : tie.Need-distinct-requires
+distinct-requires c κs = (search needs, search book-few)
 
 returns-4 : tie.Need-returns-4
 returns-4 c = book-says _ _ (search book-doubled)
@@ -45,6 +48,7 @@ check-book-spec =
     returns-2
     placed-requires
     returns-3
-    names-distinct-requires
+    slice-aggregate-distinct
+    distinct-requires
     returns-4
     returns-5)

@@ -22,7 +22,7 @@ fn asker(desk: &Desk, block: u32) -> String {
     if is_field(book, block) {
         return format!("the field {} of {}", book.name(block), book.name(holder(book, block)));
     }
-    let category = book.root(block.into()).map(|t| desk.category(t));
+    let category = book.root(u64::from(block)).map(|t| desk.category(t));
     let kind = category.map_or("type", word);
     format!("the {kind} {}", book.name(block))
 }
@@ -158,7 +158,7 @@ fn placed(desk: &Desk, place: &Place) -> String {
 
 /// Why what lies at a place is a function block.
 fn because(desk: &Desk, place: &Place) -> String {
-    let found = desk.book.root(place.block.into());
+    let found = desk.book.root(u64::from(place.block));
     found.map_or_else(|_| String::new(), |t| reason(t, &desk.book))
 }
 
@@ -201,7 +201,7 @@ fn no(desk: &Desk, root: TypeRef, walk: &Walk) -> Told {
     );
     let behind = walk.not_followed(MOST_PLACES);
     for place in &behind.shown {
-        let category = desk.book.root(place.block.into()).map(|t| desk.category(t));
+        let category = desk.book.root(u64::from(place.block)).map(|t| desk.category(t));
         let kind = category.map_or("type", word);
         let _ = writeln!(text, "  not looked behind: {}, {}", placed(desk, place), kind);
     }
@@ -247,9 +247,8 @@ fn unanswered(desk: &Desk, name: &str, walk: &Walk, refusal: Refusal) -> Failure
 
 /// How a value of a type may be saved.
 pub fn plan(ours: &Desk, controller: &Desk, name: &str, call: &Call) -> Result<Told, Failure> {
-    let root = ours.find(name)?;
-    let plan = ours.plan(controller, root)?;
-    let rounds = rounds(ours, root, &plan)?;
+    let plan = ours.plan(controller, name)?;
+    let rounds = rounds(ours, name, &plan)?;
     let mut text = format!(
         "{name}: our book has {}, the controller's {}\n",
         counted(ours.book.types().count() as u64, "type"),
@@ -286,20 +285,17 @@ struct Round {
 }
 
 /// The rounds of a plan. Its book grew from round to round, so each ask is made again on the part of it that was there.
-fn rounds(ours: &Desk, root: TypeRef, plan: &Plan) -> Result<Vec<Round>, Failure> {
+fn rounds(ours: &Desk, root: &str, plan: &Plan) -> Result<Vec<Round>, Failure> {
     let (mut rounds, mut done) = (Vec::new(), 0);
     while done < plan.added.len() {
         let first = plan.book.find(&plan.added[done]).map(|t| 512 * t.block() as usize);
         let desk = Desk::new(plan.book.bytes()[..first.unwrap_or_default()].to_vec(), ours.width())?;
-        let missing = desk.missing(desk.book.root(root.block().into())?)?;
-        let mut listed: Vec<String> = Vec::new();
-        for &block in &missing.blocks {
-            let name = desk.book.type_name(block);
-            if listed.iter().all(|n| n != name) {
-                listed.push(name.into());
-            }
-        }
-        let end = round_end(ours, plan, done, listed.len());
+        let listed = desk.book.missing_types(root)?.names(&desk.book, root);
+        let end = match desk.book.find(root) {
+            Some(_) => round_end(ours, plan, done, listed.len()),
+            // A root that our book lacks is added by itself.
+            None => done + 1,
+        };
         let added = plan.added[done..end].to_vec();
         done = end;
         rounds.push(Round { listed, added });

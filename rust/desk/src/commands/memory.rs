@@ -76,8 +76,17 @@ impl<'s> Shown<'s> {
                 members.push(("elements", Json::List(out)));
             }
             value => {
-                let _ = writeln!(self.text, "{head} = {value}");
                 members.push(("value", leaf(value)));
+                let _ = match record.moment() {
+                    Some(moment) => {
+                        members.push(("moment", Json::text(&moment.to_string())));
+                        writeln!(self.text, "{head} = {value} ({moment})")
+                    }
+                    None => writeln!(self.text, "{head} = {value}"),
+                };
+                if let Value::Text { clipped: true, .. } = value {
+                    members.push(("clipped", Json::Bool(true)));
+                }
             }
         }
         Json::Object(members)
@@ -137,7 +146,7 @@ fn leaf(value: Value) -> Json {
         Value::Nat { value, .. } => Json::number(value),
         Value::Real32(bits) => Json::real(value.to_string(), f32::from_bits(bits).is_finite()),
         Value::Real64(bits) => Json::real(value.to_string(), f64::from_bits(bits).is_finite()),
-        Value::Text(text) | Value::Enum(text) => Json::text(text),
+        Value::Text { text, .. } | Value::Enum(text) => Json::text(text),
         _ => Json::Null,
     }
 }
@@ -164,7 +173,7 @@ fn culprit(desk: &Desk, root: TypeRef, image: &[u8], read: &Tape, values: &[(Str
             continue;
         }
         match (desk.write(root, image, &tape.edits()), read.at(path)) {
-            (Err(Refusal::Size), Ok(Value::Text(..))) => return format!("{path}: the text is too long"),
+            (Err(Refusal::Size), Ok(Value::Text { .. })) => return format!("{path}: the text is too long"),
             (Err(_), _) => return path.clone(),
             _ => {}
         }

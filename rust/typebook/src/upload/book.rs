@@ -1,13 +1,18 @@
 //! A type book of an upload: which part of an entry goes where, and which types hold themselves.
 
-use super::{Upload, UploadEntry, UploadError, UploadFault, UploadFlags};
-use crate::{BookBuilder, Category, TypeBook, TypeBuilder};
+use super::{Upload, UploadAttribute, UploadEntry, UploadError, UploadFault, UploadFlags};
+use crate::{BookBuilder, Category, TypeBook, TypeBuilder, type_id};
+use std::borrow::Cow;
 use std::collections::{HashMap, HashSet};
 
 /// The attribute by which a function block says that it implements interfaces.
 const IMPLEMENTS: &str = "TcImplements";
 /// The attribute of a STRING that says how its characters stand in the bytes.
 const ENCODING: &str = "TcEncoding";
+/// What is put behind the name of a type that a field uses in UTF-8, though the type itself isn't marked.
+const UTF_8: &str = " UTF-8";
+/// As many aliases and arrays are followed to a STRING.
+const MOST_HOPS: usize = 32;
 /// How many names of a cycle are told.
 const MOST_TOLD: usize = 32;
 
@@ -16,6 +21,20 @@ impl UploadEntry {
     pub fn is_utf_8(&self) -> bool {
         let said = |name: &str, value: &str| name == ENCODING && value.eq_ignore_ascii_case("UTF-8");
         self.attributes.iter().any(|a| said(&a.name, &a.value))
+    }
+
+    /// The same type in UTF-8, under a name of its own.
+    fn in_utf_8(&self) -> Self {
+        let mut out = self.clone();
+        out.name += UTF_8;
+        match out.type_name.is_empty() {
+            true => out.attributes.push(UploadAttribute {
+                name: ENCODING.into(),
+                value: "UTF-8".into(),
+            }),
+            false => out.type_name += UTF_8,
+        }
+        out
     }
 
     /// Whether it has bytes of its own in a value: statics lie elsewhere, properties are calls.
@@ -44,6 +63,7 @@ impl UploadEntry {
         out = with(out, self.flags.has(UploadFlags::ENUM_INFOS), TypeBuilder::enumeration);
         out = with(out, self.methods > 0, TypeBuilder::methods);
         out = with(out, self.has_attribute(IMPLEMENTS), TypeBuilder::tc_implements);
+        out = with(out, self.id == type_id::STRING && self.is_utf_8(), TypeBuilder::utf_8);
         out = self.dimensions.iter().fold(out, |out, d| out.dimension(d.elements));
         for item in self.items.iter().filter(|i| i.has_bytes()) {
             let (Some(offset), Some(size)) = (item.bytes(item.offset), item.bytes(item.size)) else {
@@ -88,7 +108,8 @@ impl Upload {
     /// The book of all types, in the order of the upload; two entries of one name and one definition count once. The first thing that
     /// doesn't fit a book is the error. `width` is the controller's pointer width.
     pub fn book(&self, width: u8) -> Result<TypeBook<'static>, UploadError> {
-        let (kept, unfit) = self.parted()?;
+        let upload = self.marked();
+        let (kept, unfit) = upload.parted()?;
         match unfit.into_iter().min_by_key(|error| error.at) {
             None => built(&kept, width),
             Some(error) => Err(error),
@@ -100,8 +121,37 @@ impl Upload {
     ///
     /// Of entries that have one name and differ none is taken.
     pub fn fitting(&self, width: u8) -> Result<(TypeBook<'static>, Vec<UploadError>), UploadError> {
-        let (kept, unfit) = self.parted()?;
+        let upload = self.marked();
+        let (kept, unfit) = upload.parted()?;
         Ok((built(&kept, width)?, unfit))
+    }
+
+    /// The upload with types of its own for those that a field, an alias or an array uses in UTF-8: in a book the mark is the type's, in an
+    /// upload it is mostly the field's.
+    fn marked(&self) -> Cow<'_, Upload> {
+        let said = |e: &UploadEntry| e.is_utf_8() && !e.type_name.is_empty();
+        if !self.entries.iter().any(|e| said(e) || e.items.iter().any(said)) {
+            return Cow::Borrowed(self);
+        }
+        let known: HashMap<&str, &UploadEntry> = self.entries.iter().map(|e| (&e.name[..], e)).collect();
+        let (mut out, mut made, mut names) = (self.clone(), Vec::new(), HashSet::new());
+        let mut mark = |entry: &mut UploadEntry| {
+            let ways = string_of(&known, &entry.type_name).unwrap_or_default();
+            if said(entry) && !ways.is_empty() {
+                entry.type_name += UTF_8;
+                made.extend(
+                    ways.into_iter()
+                        .filter(|way| names.insert(way.at))
+                        .map(UploadEntry::in_utf_8),
+                );
+            }
+        };
+        for entry in &mut out.entries {
+            mark(entry);
+            entry.items.iter_mut().for_each(&mut mark);
+        }
+        out.entries.extend(made);
+        Cow::Owned(out)
     }
 
     /// The entries that fit and the others.
@@ -146,6 +196,25 @@ impl Upload {
         }
         (kept, unfit)
     }
+}
+
+/// The aliases and arrays from a name on, up to the STRING that they are of; none if they are of something else, or of one that is marked.
+fn string_of<'u>(known: &HashMap<&str, &'u UploadEntry>, name: &str) -> Option<Vec<&'u UploadEntry>> {
+    let (mut ways, mut at) = (Vec::new(), *known.get(name)?);
+    for _ in 0..MOST_HOPS {
+        ways.push(at);
+        if at.type_name.is_empty() {
+            return (at.id == type_id::STRING && !at.is_utf_8()).then_some(ways);
+        }
+        if at.is_utf_8()
+            || !at.items.is_empty()
+            || at.flags.has(UploadFlags::PLC_POINTER_TYPE | UploadFlags::REFERENCE_TO)
+        {
+            return None;
+        }
+        at = known.get(&at.type_name[..])?;
+    }
+    None
 }
 
 /// A builder with a flag, if that is due.
