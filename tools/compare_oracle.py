@@ -32,15 +32,13 @@ import time
 from random import Random
 
 from answers import oracle
-from document_02 import UNDECLARED, completed, plain as plain_tape
+from document_02 import UNDECLARED, completed, has_times, plain as plain_tape
 from tape_form import formed, spoiled
 
 REQUESTS = ("cat", "alias", "indir", "rmw", "missing", "fields", "read")
 WRITES = ("writedoc", "write")
 PLAN = "plan"
 REALS = (4, 5)
-# The types that document 02 (change request 7) reads and writes by their names, which the original doesn't know.
-TIMES = {b"TIME", b"LTIME", b"TOD", b"TIME_OF_DAY", b"DATE", b"DT", b"DATE_AND_TIME", b"LDATE", b"LDT", b"LTOD"}
 COUNTED = "a count of time by its type's name"
 
 
@@ -59,11 +57,6 @@ def reason(request, theirs, ours):
     if request == "read" and ours == "err 14":
         return "level 65"
     return None
-
-
-def has_times(made):
-    """Whether a type of the book has one of those names."""
-    return any((t.name if isinstance(t.name, bytes) else t.name.encode()) in TIMES for t in made.book.types)
 
 
 class Comparison:
@@ -89,7 +82,7 @@ class Comparison:
         if theirs == ours:
             self.compared[request] += 1
             return
-        why = reason(request, theirs, ours) or (COUNTED if request == "read" and has_times(made) else None)
+        why = reason(request, theirs, ours) or (COUNTED if request == "read" and has_times(data) else None)
         if why:
             self.skipped[request, why] += 1
             return
@@ -137,7 +130,7 @@ class Comparison:
         """What of document 01 makes a write's answer another than the original's, or None."""
         if raw.startswith("panic") or any(math.prod(t.dims) >= 2**32 for t in made.book.types):
             return "product of 2^64 or more"
-        if has_times(made):
+        if has_times(data):
             return COUNTED
         if request == "write":
             by_document = self.original.ask("writedoc", made.width, data, made.root, image, plain_tape(tape), text).split(" raw=")[0]

@@ -15,6 +15,8 @@ from case_file import BOOK, READ, WRITE, CaseFile, packed, u16, u32
 from tape_form import formed
 
 BLOCK, RECORD = 512, 24
+# The types that are read and written by their names (change request 7), which the original doesn't know.
+TIMES = {b"TIME", b"LTIME", b"TOD", b"TIME_OF_DAY", b"DATE", b"DT", b"DATE_AND_TIME", b"LDATE", b"LDT", b"LTOD"}
 ARRAY, MAP, KEY, TEXT = 1, 3, 4, 11
 WSTRING = 31
 # Ends and keys declare no type.
@@ -53,6 +55,11 @@ class Types:
         while self.is_alias(n):
             n = self.named(n)
         return n
+
+
+def has_times(book):
+    """Whether a type of the book has one of those names."""
+    return any(book[at] == 1 and book[at + 54:at + 54 + book[at + 52]] in TIMES for at in range(0, len(book) - BLOCK + 1, BLOCK))
 
 
 def ended(wide, part):
