@@ -5,6 +5,7 @@ use mathlib.Core.List.{List}
 use Prim.Native.Nat.{ℕ, _+_, _≤_}
 use lib.Dec.{leb}
 use Rattle.enc_number.specs.Answer.{refusalOf}
+use Rattle.enc_number.specs.Refusals as refusal
 use Rattle.type_book.specs.Book.{isType}
 use Rattle.type_category.specs.Category.{categoryOf}
 use Rattle.resolve_field_types.specs.Fields.{resolveField, fieldNumbers}
@@ -31,7 +32,7 @@ pub record GivenElement (c : Ctx) (d t e : ℕ) (plan : List ℕ) : Type 0 where
 -- what a field is in `len` bytes, by what resolving it came to: its type and its bytes, 10 if it passes their end, 7 with its block, or 8
 unfoldable pub memberPart : Ctx → ℕ → FieldAnswer → Part
 memberPart c len (answer.Field f) =
-    cond (leb (f .offset + f .size) len) (part.Value (typedOf c (f .named) (f .resolved)) (f .offset) (f .offset + f .size)) (part.Stop 10 0)
+    cond (leb (f .offset + f .size) len) (part.Value (typedOf c (f .named) (f .resolved)) (f .offset) (f .offset + f .size)) (part.Stop refusal.wrongSize 0)
 memberPart c len (answer.Lacks b) = part.Stop (refusalOf (fieldNumbers (answer.Lacks b))) b
 memberPart c len answer.TooLong = part.Stop (refusalOf (fieldNumbers answer.TooLong)) 0
 

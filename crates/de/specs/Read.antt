@@ -2,6 +2,7 @@
 use mathlib.Core.List.{List}
 use Prim.Native.Nat.{ℕ}
 use lib.ListN.{take}
+use Rattle.enc_number.specs.Refusals as refusal
 use Rattle.type_book_check.specs.Check.{checkRoot, atRoot}
 use Rattle.type_book_check.specs.Given.{Given, lackingRoot, checkGiven, atGiven}
 use Rattle.resolvers.specs.Resolve.{resolveAlias, resolvedNumbers}
@@ -28,4 +29,4 @@ readTrace buffer len width n mem = atRoot (λ k. refuse k 0) (λ t. rootTrace (c
 -- the same for a root however it is given: a name that the book lacks is 7 with the number of a lacking root. `readTrace` is its instance for a number
 unfoldable pub givenTrace : List ℕ → ℕ → ℕ → Given → List ℕ → Trace
 givenTrace buffer len width root mem =
-    atGiven (λ k. refuse k 0) (refuse 7 lackingRoot) (λ t. rootTrace (ctx (take len buffer) width) t mem) (checkGiven buffer len root)
+    atGiven (λ k. refuse k 0) (refuse refusal.notFound lackingRoot) (λ t. rootTrace (ctx (take len buffer) width) t mem) (checkGiven buffer len root)

@@ -6,6 +6,7 @@ use Prim.Native.Nat.{ℕ, zero, suc, _+_}
 use lib.ListN.{length, getD}
 use lib.Dec.{leb, eqb}
 use Rattle.enc_number.specs.Answer.{refusalOf, valuesOf}
+use Rattle.enc_number.specs.Refusals as refusal
 use Rattle.type_book.specs.Book.{sizeOf, fieldsOf, countOf, typeNameOf}
 use Rattle.type_provider.specs.Find.{find}
 use Rattle.type_provider.specs.declared.Found.{Found}
@@ -65,7 +66,7 @@ checked check.TooLong t = refuseBy (checkNumbers check.TooLong)
 -- a field's value in the bytes of its struct: 10 if it passes their end
 unfoldable pub fieldValue : Child → Ctx → List ℕ → FieldAnswer → Trace
 fieldValue child c mem (answer.Field f) =
-    cond (leb (f .offset + f .size) (length mem)) (child (whole (typedOf c (f .named) (f .resolved))) (cut (f .offset) (f .size) mem)) (refuse 10 0)
+    cond (leb (f .offset + f .size) (length mem)) (child (whole (typedOf c (f .named) (f .resolved))) (cut (f .offset) (f .size) mem)) (refuse refusal.wrongSize 0)
 fieldValue child c mem (answer.Lacks b) = refuseBy (fieldNumbers (answer.Lacks b))
 fieldValue child c mem answer.TooLong = refuseBy (fieldNumbers answer.TooLong)
 
@@ -87,7 +88,7 @@ membersOf child c x mem =
 -- 10 unless the bytes are as many as the type says; all fields are resolved before the map record
 unfoldable pub mapOf : Child → Ctx → Typed → List ℕ → Trace
 mapOf child c x mem =
-    cond (eqb (length mem) (sizeOf (c .book) (x .resolved))) (checked (fieldsCheck (c .book) (c .width) (x .resolved)) (membersOf child c x mem)) (refuse 10 0)
+    cond (eqb (length mem) (sizeOf (c .book) (x .resolved))) (checked (fieldsCheck (c .book) (c .width) (x .resolved)) (membersOf child c x mem)) (refuse refusal.wrongSize 0)
 
 -- ---- an array
 
@@ -110,7 +111,7 @@ dimensionOf child c n d t e mem = checked (elementCheck (c .book) (c .width) d t
 -- dimension declares the array as it was named
 unfoldable pub elementBy : Child → Ctx → Typed → ℕ → List ℕ → Resolved → Trace
 elementBy child c x n mem (resolved.Base e) =
-    cond (eqb (arrayBytes (c .book) (x .resolved) e) (length mem)) (dimensionOf child c (x .named) 0 (x .resolved) (typedOf c n e) mem) (refuse 10 0)
+    cond (eqb (arrayBytes (c .book) (x .resolved) e) (length mem)) (dimensionOf child c (x .named) 0 (x .resolved) (typedOf c n e) mem) (refuse refusal.wrongSize 0)
 elementBy child c x n mem (resolved.Lacks b) = refuseBy (resolvedNumbers (resolved.Lacks b))
 elementBy child c x n mem resolved.TooLong = refuseBy (resolvedNumbers resolved.TooLong)
 
@@ -124,7 +125,7 @@ unfoldable pub arrayOf : Child → Ctx → Typed → List ℕ → Trace
 arrayOf child c x mem =
     cond (eqb (length mem) (sizeOf (c .book) (x .resolved)))
     (arrayBy child c x mem (find (c .book) (typeNameOf (c .book) (x .resolved))))
-    (refuse 10 0)
+    (refuse refusal.wrongSize 0)
 
 -- ---- a value
 
@@ -141,5 +142,5 @@ itemWalk child c (further d t e) mem = dimensionOf child c t d t e mem
 
 -- `left` is the number of levels left: with none, 14
 unfoldable pub walk : Ctx → ℕ → Child
-walk c zero i mem = refuse 14 0
+walk c zero i mem = refuse refusal.tooDeep 0
 walk c (suc left) i mem = itemWalk (walk c left) c i mem

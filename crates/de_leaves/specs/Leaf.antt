@@ -5,6 +5,7 @@ use Prim.Native.Nat.{ℕ, zero, suc, _+_}
 use lib.ListN.{length, getD}
 use lib.Dec.{eqb}
 use Rattle.enc_number.specs.Answer.{refusalOf, truthNumber}
+use Rattle.enc_number.specs.Refusals as refusal
 use Rattle.type_id.specs.TypeId.{idOf}
 use Rattle.enc_integer.specs.Integer.{integerNumbers, integerReadNumbers, readInteger}
 use Rattle.enc_float.specs.Float.{realNumbers, realReadNumbers, readReal}
@@ -81,7 +82,7 @@ kindOfLeaf category.Interface = kind.Pointer
 
 -- a bool is one byte, and anything but 0 is true
 unfoldable pub boolLeaf : List ℕ → LeafValue
-boolLeaf mem = cond (eqb (length mem) 1) (leaf.Bool (not (eqb (getD mem 0 0) 0))) (leaf.Refused 10)
+boolLeaf mem = cond (eqb (length mem) 1) (leaf.Bool (not (eqb (getD mem 0 0) 0))) (leaf.Refused refusal.wrongSize)
 
 -- a real as the value of a leaf: a NaN keeps its bit pattern
 abbrev pub realLeaf : Real → LeafValue
@@ -118,7 +119,7 @@ unfoldable pub pointerLeaf : ℕ → List ℕ → LeafValue
 pointerLeaf width mem =
     cond (eqb width 2) (integerLeaf (readInteger UInt16 mem))
     (cond (eqb width 4) (integerLeaf (readInteger UInt32 mem))
-    (cond (eqb width 8) (integerLeaf (readInteger UInt64 mem)) (leaf.Refused 13)))
+    (cond (eqb width 8) (integerLeaf (readInteger UInt64 mem)) (leaf.Refused refusal.wrongWidth)))
 
 -- id 31 is a WSTRING, in UTF-16; else it is a STRING, in UTF-8 where the type's own block is marked so, else in Windows-1252
 unfoldable pub decoderOf : List ℕ → ℕ → Decoder
@@ -126,7 +127,7 @@ decoderOf book t = cond (eqb (typeIdOf book t) 31) decoder.Utf16 (cond (flagOf b
 
 -- 10 unless the bytes are as many as the type says; then the text's decoder and its end
 unfoldable pub textLeaf : List ℕ → ℕ → List ℕ → LeafValue
-textLeaf book t mem = cond (eqb (length mem) (sizeOf book t)) (leaf.Text (decoderOf book t) (endBy (decoderOf book t) mem)) (leaf.Refused 10)
+textLeaf book t mem = cond (eqb (length mem) (sizeOf book t)) (leaf.Text (decoderOf book t) (endBy (decoderOf book t) mem)) (leaf.Refused refusal.wrongSize)
 
 -- the first of the k entries from block n on whose value is these bytes
 unfoldable pub entryFrom : List ℕ → List ℕ → ℕ → ℕ → Found
@@ -135,7 +136,7 @@ entryFrom book mem n (suc k) = cond (sameName (valueOf book n) mem) (At n) (entr
 
 -- bytes that no entry has: the integer reader's refusal, else 12
 unfoldable pub unlisted : IntegerRead → LeafValue
-unlisted (read.Value v) = leaf.Refused 12
+unlisted (read.Value v) = leaf.Refused refusal.noEntry
 unlisted read.Size = leaf.Refused (refusalOf (integerReadNumbers read.Size))
 unlisted read.Unsupported = leaf.Refused (refusalOf (integerReadNumbers read.Unsupported))
 
@@ -149,7 +150,7 @@ unfoldable pub enumLeaf : List ℕ → ℕ → List ℕ → LeafValue
 enumLeaf book t mem =
     cond (eqb (length mem) (sizeOf book t))
     (entryOr (entryFrom book mem (t + 1 + fieldsOf book t) (entriesOf book t)) (unlisted (readInteger (idOf (typeIdOf book t)) mem)))
-    (leaf.Refused 10)
+    (leaf.Refused refusal.wrongSize)
 
 -- the value of resolved type t in some bytes, by how it is read; what is no leaf is 11
 unfoldable pub kindLeaf : List ℕ → ℕ → ℕ → List ℕ → LeafKind → LeafValue
@@ -158,7 +159,7 @@ kindLeaf book width t mem kind.Text = textLeaf book t mem
 kindLeaf book width t mem kind.Enum = enumLeaf book t mem
 kindLeaf book width t mem kind.Pointer = pointerLeaf width mem
 kindLeaf book width t mem kind.Unit = leaf.Unit
-kindLeaf book width t mem kind.None = leaf.Refused 11
+kindLeaf book width t mem kind.None = leaf.Refused refusal.unreadable
 
 -- the value of resolved type t, of a category, in some bytes: a count of time is an unsigned number of its width, whatever the type's id and size
 unfoldable pub leafBy : List ℕ → ℕ → ℕ → AdsTypeCategory → List ℕ → LeafValue

@@ -5,6 +5,7 @@ use mathlib.Core.List.{List, [], _∷_}
 use Prim.Native.Nat.{ℕ, _/_}
 use lib.ListN.{length, replicate}
 use lib.Dec.{eqb}
+use Rattle.enc_number.specs.Refusals as refusal
 use Rattle.enc_utf_8.specs.Buffer.{splice}
 use Rattle.de_output.specs.declared.Step.{Step}
 use Rattle.de_output.specs.declared.Step.the-variants.{Next, Stop}
@@ -16,12 +17,12 @@ use Rattle.de_output.specs.Trace.{Trace, tapeBytes, textBytes, eventsOf,
 -- or another refusal
 unfoldable pub readNumbers : ReadAnswer → List ℕ
 readNumbers (Done n m) = 0 ∷ n ∷ m ∷ []
-readNumbers (NotFound b) = 7 ∷ b ∷ []
+readNumbers (NotFound b) = refusal.notFound ∷ b ∷ []
 readNumbers (Refused n) = n ∷ []
 
 -- a refusal as an answer: 7 carries its block
 abbrev pub readRefusal : ℕ → ℕ → ReadAnswer
-readRefusal n b = cond (eqb n 7) (NotFound b) (Refused n)
+readRefusal n b = cond (eqb n refusal.notFound) (NotFound b) (Refused n)
 
 -- the number of records and of text bytes, or the refusal
 abbrev pub answerOf : Step → ReadAnswer

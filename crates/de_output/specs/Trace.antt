@@ -5,6 +5,7 @@ use mathlib.Core.Bool.{Bool, cond, _&&_}
 use mathlib.Core.List.{List, [], _∷_, _++_}
 use Prim.Native.Nat.{ℕ, _+_}
 use lib.ListN.{length}
+use Rattle.enc_number.specs.Refusals as refusal
 use Rattle.enc_utf_8.specs.Buffer.{splice, fitsIn}
 use Rattle.tape.specs.Record.{recordBytes}
 use Rattle.tape.specs.declared.record.Record.{Record}
@@ -68,7 +69,7 @@ fits es at from tapeRoom textRoom = fitsIn (tapeBytes from es) at tapeRoom && fi
 
 -- the answer of a trace at two buffers: 15 if what it emits does not fit, else where it ends
 unfoldable pub stepOf : Trace → ℕ → ℕ → ℕ → ℕ → Step
-stepOf t tapeRoom textRoom at from = cond (fits (eventsOf t) at from tapeRoom textRoom) (endOf t at from) (Stop 15 0)
+stepOf t tapeRoom textRoom at from = cond (fits (eventsOf t) at from tapeRoom textRoom) (endOf t at from) (Stop refusal.noRoom 0)
 
 -- the events that are put on the tape and into the text: from the first on, up to one that does not fit
 unfoldable pub fitting : List Event → ℕ → ℕ → ℕ → ℕ → List Event

@@ -17,6 +17,7 @@ use Rattle.enc_float.specs.declared.RealWrite.{RealWrite}
 use Rattle.enc_float.specs.declared.RealWrite.the-variants as write
 use Rattle.enc_number.specs.Answer.{truthNumber}
 use Rattle.enc_number.specs.Le.{leValue, leBytes}
+use Rattle.enc_number.specs.Refusals as refusal
 
 -- the width in bytes of the id of a real, and 0 of every other; the 10 bytes of Real80 are not read
 abbrev pub realWidth : AdsTypeId → ℕ
@@ -82,13 +83,13 @@ realNumbers (NanDouble n) = 10 ∷ n ∷ []
 -- document 01's number and values of a read's answer
 unfoldable pub realReadNumbers : RealRead → List ℕ
 realReadNumbers (read.Value v) = 0 ∷ realNumbers v
-realReadNumbers read.Size = 10 ∷ []
-realReadNumbers read.Unsupported = 11 ∷ []
+realReadNumbers read.Size = refusal.wrongSize ∷ []
+realReadNumbers read.Unsupported = refusal.unreadable ∷ []
 
 -- document 01's number of a write's answer
 unfoldable pub realWriteNumbers : RealWrite → List ℕ
 realWriteNumbers write.Done = 0 ∷ []
-realWriteNumbers write.Size = 10 ∷ []
+realWriteNumbers write.Size = refusal.wrongSize ∷ []
 
 -- a read: the id is tested first, then the size
 unfoldable pub readReal : AdsTypeId → List ℕ → RealRead

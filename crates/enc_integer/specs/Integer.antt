@@ -14,6 +14,7 @@ use Rattle.enc_integer.specs.declared.IntegerRead.the-variants as read
 use Rattle.enc_integer.specs.declared.IntegerWrite.{IntegerWrite}
 use Rattle.enc_integer.specs.declared.IntegerWrite.the-variants as write
 use Rattle.enc_number.specs.Le.{leValue, leBytes}
+use Rattle.enc_number.specs.Refusals as refusal
 use Rattle.type_id.specs.TypeId.{idWidth, idSigned}
 
 -- an integer's numbers: 7 for a signed and 8 for an unsigned one (the tape's kinds), the width in bytes, the 64 bits that it holds
@@ -24,15 +25,15 @@ integerNumbers (Unsigned w n) = 8 ∷ w ∷ n ∷ []
 -- document 01's number and values of a read's answer
 unfoldable pub integerReadNumbers : IntegerRead → List ℕ
 integerReadNumbers (read.Value v) = 0 ∷ integerNumbers v
-integerReadNumbers read.Size = 10 ∷ []
-integerReadNumbers read.Unsupported = 11 ∷ []
+integerReadNumbers read.Size = refusal.wrongSize ∷ []
+integerReadNumbers read.Unsupported = refusal.unreadable ∷ []
 
 -- document 01's number of a write's answer
 unfoldable pub integerWriteNumbers : IntegerWrite → List ℕ
 integerWriteNumbers write.Done = 0 ∷ []
-integerWriteNumbers write.OutOfRange = 19 ∷ []
-integerWriteNumbers write.Size = 10 ∷ []
-integerWriteNumbers write.Unsupported = 17 ∷ []
+integerWriteNumbers write.OutOfRange = refusal.outOfRange ∷ []
+integerWriteNumbers write.Size = refusal.wrongSize ∷ []
+integerWriteNumbers write.Unsupported = refusal.wrongType ∷ []
 
 -- two's complement: the integer that a number of w bytes stands for
 unfoldable pub twosComplement : ℕ → ℕ → ℤ

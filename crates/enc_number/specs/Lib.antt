@@ -1,2 +1,3 @@
 pub mod Le
 pub mod Answer
+pub mod Refusals

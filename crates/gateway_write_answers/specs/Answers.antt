@@ -6,11 +6,14 @@ use Prim.Native.Nat.{ℕ}
 use lib.Dec.{eqb}
 use Rattle.ser.specs.Write.{Outcome, went, refused}
 use Rattle.enc_number.specs.Answer.{refusalOf}
+use Rattle.enc_number.specs.Refusals as refusal
 use Rattle.ser.specs.Call.{writeNumbers, answerOf}
 
 -- the numbers of a write's refusals
 abbrev pub refusals : List ℕ
-refusals = 1 ∷ 2 ∷ 3 ∷ 4 ∷ 5 ∷ 7 ∷ 8 ∷ 10 ∷ 13 ∷ 16 ∷ 17 ∷ 18 ∷ 19 ∷ []
+refusals =
+    refusal.wrongLength ∷ refusal.wrongSum ∷ refusal.wrongForm ∷ refusal.doubledName ∷ refusal.wrongRoot ∷ refusal.notFound ∷ refusal.chainTooLong
+    ∷ refusal.wrongSize ∷ refusal.wrongWidth ∷ refusal.wrongTape ∷ refusal.wrongType ∷ refusal.noSuchName ∷ refusal.outOfRange ∷ []
 
 -- whether a number is among some
 unfoldable pub among : ℕ → List ℕ → Bool

@@ -3,6 +3,7 @@ use mathlib.Core.Bool.{false, cond}
 use mathlib.Core.List.{List, [], _∷_}
 use Prim.Native.Nat.{ℕ, zero, suc, _+_, _-_}
 use lib.Dec.{eqb, ltb}
+use Rattle.enc_number.specs.Refusals as refusal
 use Rattle.type_book.specs.Book.{blocks, isType, fieldsOf, typeNameOf}
 use Rattle.type_provider.specs.declared.Found.{Found}
 use Rattle.type_provider.specs.declared.Found.the-variants.{At, Nothing}
@@ -39,7 +40,7 @@ thenOn (room s) go = room s
 
 -- the controller's type block n is appended; what our book knows stays as it is (4), only 15 ends the adding
 unfoldable pub appendOf : List ℕ → ℕ → Ours → Adding
-appendOf c n s = cond (eqb (appendRefusal (s .buffer) (s .len) (definitionOf c n)) 15) (room s) (on (next c (add n) s))
+appendOf c n s = cond (eqb (appendRefusal (s .buffer) (s .len) (definitionOf c n)) refusal.noRoom) (room s) (on (next c (add n) s))
 
 -- by what the look-up of block b's type name in the controller's book found
 unfoldable pub fetchBy : List ℕ → ℕ → Ours → Found → Adding

@@ -7,6 +7,7 @@ use Prim.Native.Nat.{ℕ}
 use lib.ListN.{take}
 use lib.Dec.{eqb}
 use Rattle.enc_number.specs.Answer.{refusalOf}
+use Rattle.enc_number.specs.Refusals as refusal
 use Rattle.type_book_check.specs.Check.{checkBook, bookNumbers, checkRoot, rootNumbers}
 use Rattle.type_cache.specs.Append.{orNext}
 use Rattle.resolve_walk.specs.Scratch.{scratchFits, zeroed}
@@ -21,14 +22,14 @@ use Rattle.plan_save.specs.Rounds.{Decision, decided, lacking, refused, 
 abbrev pub planNumbers : Plan → List ℕ
 planNumbers (plan.Yes len) = 0 ∷ 1 ∷ len ∷ []
 planNumbers (plan.No len) = 0 ∷ 0 ∷ len ∷ []
-planNumbers (plan.NotFound b len) = 7 ∷ b ∷ len ∷ []
+planNumbers (plan.NotFound b len) = refusal.notFound ∷ b ∷ len ∷ []
 planNumbers (plan.Refused n len) = n ∷ len ∷ []
 
 -- the same numbers of an outcome
 unfoldable pub outcomeNumbers : Decision → List ℕ
 outcomeNumbers (decided true s) = 0 ∷ 1 ∷ (s .len) ∷ []
 outcomeNumbers (decided false s) = 0 ∷ 0 ∷ (s .len) ∷ []
-outcomeNumbers (lacking b s) = 7 ∷ b ∷ (s .len) ∷ []
+outcomeNumbers (lacking b s) = refusal.notFound ∷ b ∷ (s .len) ∷ []
 outcomeNumbers (refused n s) = n ∷ (s .len) ∷ []
 
 -- our buffer at the end
@@ -40,7 +41,7 @@ outcomeOurs (refused n s) = s
 -- 1 to 5 of our book and the root, 1 to 4 of the controller's book, 6 of the scratch; 0 if there is none
 unfoldable pub planRefusal : List ℕ → ℕ → List ℕ → ℕ → ℕ → List ℕ → ℕ
 planRefusal buffer len controller theirs root sc =
-    orNext (refusalOf (rootNumbers (checkRoot buffer len root))) (orNext (refusalOf (bookNumbers (checkBook controller theirs))) (cond (scratchFits sc) 0 6))
+    orNext (refusalOf (rootNumbers (checkRoot buffer len root))) (orNext (refusalOf (bookNumbers (checkBook controller theirs))) (cond (scratchFits sc) 0 refusal.tooFewLent))
 
 -- the outcome: the refusal, our buffer as it was, or that of the rounds
 unfoldable pub planOf : ℕ → List ℕ → ℕ → List ℕ → ℕ → ℕ → ℕ → Decision

@@ -5,6 +5,7 @@ use mathlib.Core.List.{List, [], _∷_}
 use Prim.Native.Nat.{ℕ, zero, suc}
 use lib.Dec.{eqb, ltb}
 use Rattle.enc_number.specs.Answer.{refusalOf}
+use Rattle.enc_number.specs.Refusals as refusal
 use Rattle.type_book.specs.Book.{blocks}
 use Rattle.resolvers.specs.declared.Resolved.the-variants.{TooLong}
 use Rattle.resolvers.specs.Resolve.{resolvedNumbers}
@@ -33,7 +34,7 @@ ruled (rmw.Refused n) s = refused n s
 unfoldable pub nextRound : (Ours → Decision) → Adding → Decision
 nextRound go (on s) = go s
 nextRound go (lacks b s) = lacking b s
-nextRound go (room s) = refused 15 s
+nextRound go (room s) = refused refusal.noRoom s
 
 -- an ask that is whole: none is listed, and read-modify-write answers; or the listed types are added, then what the types from block i on are
 -- made of, and another ask follows
@@ -43,7 +44,7 @@ closing go c width i w s (b ∷ bs) = nextRound go (addAll c width i (b ∷ bs) 
 
 -- an ask that is not whole: 9 for a name too many, else the number of a chain that is too long
 abbrev pub notWhole : Walk → ℕ
-notWhole w = cond (eqb (count w) 4097) 9 (refusalOf (resolvedNumbers TooLong))
+notWhole w = cond (eqb (count w) 4097) refusal.tooManyNames (refusalOf (resolvedNumbers TooLong))
 
 -- one round, by its ask
 unfoldable pub roundOf : (Ours → Decision) → List ℕ → ℕ → ℕ → Walk → Ours → Decision
@@ -61,4 +62,4 @@ roundsThen go c width root (suc k) s = roundOf (roundsThen go c width root k) c 
 
 -- at most k rounds, and 15 where they run out: eighteen never do (`plan-few`)
 abbrev pub planFrom : List ℕ → ℕ → ℕ → ℕ → Ours → Decision
-planFrom c width root k = roundsThen (refused 15) c width root k
+planFrom c width root k = roundsThen (refused refusal.noRoom) c width root k

@@ -4,6 +4,7 @@ use mathlib.Core.Bool.{true}
 use mathlib.Core.List.{List, [], _∷_}
 use Prim.Native.Nat.{ℕ, zero, suc, _+_, _*_, _<_}
 use lib.ListN.{length, getD, set}
+use Rattle.enc_number.specs.Refusals as refusal
 use Rattle.type_book.specs.Book.{isType, fieldsOf}
 use Rattle.type_category.specs.Category.{categoryOf}
 use Rattle.type_category.specs.declared.type_category.AdsTypeCategory.{AdsTypeCategory}
@@ -30,8 +31,8 @@ planEntryOf x = planEntryBy (x .named) (x .resolved) (x .category)
 -- type name is not found, or 8
 unfoldable pub plannedNumbers : Planned → List ℕ
 plannedNumbers (planned.Field x) = 0 ∷ x .offset ∷ x .size ∷ x .named ∷ x .resolved ∷ categoryNumber (x .category) ∷ []
-plannedNumbers (planned.Lacks b) = 7 ∷ b ∷ []
-plannedNumbers planned.TooLong = 8 ∷ []
+plannedNumbers (planned.Lacks b) = refusal.notFound ∷ b ∷ []
+plannedNumbers planned.TooLong = refusal.chainTooLong ∷ []
 
 -- what a field came to, with the category of its type
 unfoldable pub plannedOf : List ℕ → ℕ → FieldAnswer → Planned

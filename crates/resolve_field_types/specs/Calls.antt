@@ -6,6 +6,7 @@ use Prim.Native.Nat.{ℕ, zero, suc, _+_, _/_, min}
 use lib.ListN.{length, take, drop}
 use lib.Dec.{leb}
 use Rattle.enc_number.specs.Answer.{refusalOf}
+use Rattle.enc_number.specs.Refusals as refusal
 use Rattle.type_book.specs.Book.{fieldsOf}
 use Rattle.type_book_check.specs.Check.{checkRoot, atRoot}
 use Rattle.type_book_check.specs.Given.{Given, lackingRoot, checkGiven, atGiven}
@@ -20,7 +21,7 @@ use Rattle.resolve_field_types.specs.Fields.{checkNumbers, resolveField,
 -- document 01's number and value of an answer: 0 and the number of fields, 7 and the block whose type name is not found, or another refusal
 unfoldable pub fieldsNumbers : FieldsAnswer → List ℕ
 fieldsNumbers (fields.Done n) = 0 ∷ n ∷ []
-fieldsNumbers (fields.NotFound b) = 7 ∷ b ∷ []
+fieldsNumbers (fields.NotFound b) = refusal.notFound ∷ b ∷ []
 fieldsNumbers (fields.Refused n) = n ∷ []
 
 -- how many of n records fit, where there is room for that many
@@ -29,7 +30,7 @@ recordsThatFit n room = min n room
 
 -- after the fields whose records fit: 15 if another record is due
 unfoldable pub fieldsEnd : ℕ → ℕ → FieldsCheck → FieldsAnswer
-fieldsEnd n room check.Fine = cond (leb n room) (fields.Done n) (fields.Refused 15)
+fieldsEnd n room check.Fine = cond (leb n room) (fields.Done n) (fields.Refused refusal.noRoom)
 fieldsEnd n room (check.Lacks c) = fields.NotFound c
 fieldsEnd n room check.TooLong = fields.Refused (refusalOf (checkNumbers check.TooLong))
 

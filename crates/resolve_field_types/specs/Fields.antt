@@ -3,6 +3,7 @@ use mathlib.Core.Path.{_≡_}
 use mathlib.Core.Bool.{true}
 use mathlib.Core.List.{List, [], _∷_}
 use Prim.Native.Nat.{ℕ, zero, suc, _+_}
+use Rattle.enc_number.specs.Refusals as refusal
 use Rattle.type_provider.specs.declared.Found.{Found}
 use Rattle.type_provider.specs.declared.Found.the-variants.{At, Nothing}
 use Rattle.type_book.specs.Book.{isType, offsetOf, sizeOf, fieldsOf, typeNameOf}
@@ -22,14 +23,14 @@ use Rattle.resolve_field_types.specs.declared.FieldsCheck.the-variants a
 -- name is not found, or 8
 unfoldable pub fieldNumbers : FieldAnswer → List ℕ
 fieldNumbers (answer.Field x) = 0 ∷ x .offset ∷ x .size ∷ x .named ∷ x .resolved ∷ x .field ∷ []
-fieldNumbers (answer.Lacks b) = 7 ∷ b ∷ []
-fieldNumbers answer.TooLong = 8 ∷ []
+fieldNumbers (answer.Lacks b) = refusal.notFound ∷ b ∷ []
+fieldNumbers answer.TooLong = refusal.chainTooLong ∷ []
 
 -- of the first refusal of several fields, 0 where there is none
 unfoldable pub checkNumbers : FieldsCheck → List ℕ
 checkNumbers check.Fine = 0 ∷ []
-checkNumbers (check.Lacks b) = 7 ∷ b ∷ []
-checkNumbers check.TooLong = 8 ∷ []
+checkNumbers (check.Lacks b) = refusal.notFound ∷ b ∷ []
+checkNumbers check.TooLong = refusal.chainTooLong ∷ []
 
 -- ---- one field
 

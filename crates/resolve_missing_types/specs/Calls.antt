@@ -6,6 +6,7 @@ use mathlib.Core.List.{List, [], _∷_, _++_}
 use Prim.Native.Nat.{ℕ}
 use lib.ListN.{length, take, drop}
 use Rattle.enc_number.specs.Answer.{truthNumber}
+use Rattle.enc_number.specs.Refusals as refusal
 use Rattle.type_index.specs.Index.{indexFits}
 use Rattle.type_book_check.specs.Check.{checkRoot, atRoot}
 use Rattle.resolve_walk.specs.Walk.{walkOf}
@@ -28,7 +29,7 @@ missingFits index sc list = indexFits index && (scratchFits sc && listFits list)
 unfoldable pub missingAnswer : Bool → List ℕ → ℕ → ℕ → Missing
 missingAnswer true book width t =
     missing.Listed (length (listed (walkOf book width t))) (whole (walkOf book width t)) (count (walkOf book width t))
-missingAnswer false book width t = missing.Refused 6
+missingAnswer false book width t = missing.Refused refusal.tooFewLent
 
 -- the blocks listed, and after them the list as it was
 unfoldable pub missingList : Bool → List ℕ → ℕ → ℕ → List ℕ → List ℕ

@@ -4,6 +4,7 @@ use mathlib.Core.Bool.{Bool, true, false, cond}
 use mathlib.Core.List.{List, _∷_}
 use Prim.Native.Nat.{ℕ}
 use lib.ListN.{take, drop}
+use Rattle.enc_number.specs.Refusals as refusal
 use Rattle.type_book_check.specs.Given.{Given, lackingRoot, checkGiven, atGiven}
 use Rattle.resolve_walk.specs.Scratch.{zeroed}
 use Rattle.resolve_missing_types.specs.declared.Missing.{Missing}
@@ -13,7 +14,7 @@ use Rattle.resolve_missing_types.specs.Calls.{missingNumbers, missingFit
 -- of a name that a valid book lacks: the single number that stands for it, whole, one name met; 6 where what is lent doesn't fit
 unfoldable pub lackingAnswer : Bool → Missing
 lackingAnswer true = missing.Listed 1 true 1
-lackingAnswer false = missing.Refused 6
+lackingAnswer false = missing.Refused refusal.tooFewLent
 
 -- that number, and after it the list as it was
 unfoldable pub lackingList : Bool → List ℕ → List ℕ

@@ -6,6 +6,7 @@ use mathlib.Core.List.{List, [], _∷_}
 use Prim.Native.Nat.{ℕ}
 use lib.ListN.{take}
 use Rattle.enc_number.specs.Answer.{truthNumber}
+use Rattle.enc_number.specs.Refusals as refusal
 use Rattle.type_index.specs.Index.{indexFits}
 use Rattle.type_book_check.specs.Check.{checkRoot, atRoot}
 use Rattle.resolve_walk.specs.Walk.{walkOf}
@@ -18,7 +19,7 @@ use Rattle.resolve_read_modify_write.specs.Reads.{rmwOf}
 unfoldable pub rmwNumbers : Rmw → List ℕ
 rmwNumbers rmw.Yes = 0 ∷ truthNumber true ∷ []
 rmwNumbers rmw.No = 0 ∷ truthNumber false ∷ []
-rmwNumbers (rmw.NotFound b) = 7 ∷ b ∷ []
+rmwNumbers (rmw.NotFound b) = refusal.notFound ∷ b ∷ []
 rmwNumbers (rmw.Refused n) = n ∷ []
 
 -- 6: index and scratch are long enough
@@ -28,7 +29,7 @@ rmwFits index sc = indexFits index && scratchFits sc
 -- the answer for type block t of a valid book, where what is lent fits or not
 unfoldable pub rmwAnswer : Bool → List ℕ → ℕ → ℕ → Rmw
 rmwAnswer true book width t = rmwOf book width (walkOf book width t)
-rmwAnswer false book width t = rmw.Refused 6
+rmwAnswer false book width t = rmw.Refused refusal.tooFewLent
 
 -- what is answered, and what the scratch holds then, for type block t of a valid book
 pub record RmwIn (fits : Bool) (book : List ℕ) (width t : ℕ) (sc : List ℕ) (r : Rmw) (sc′ : List ℕ) : Type 0 where

@@ -4,6 +4,7 @@ use mathlib.Core.Bool.{Bool, true, false, cond}
 use mathlib.Core.List.{List}
 use Prim.Native.Nat.{ℕ}
 use lib.ListN.{take}
+use Rattle.enc_number.specs.Refusals as refusal
 use Rattle.type_book_check.specs.Given.{Given, lackingRoot, checkGiven, atGiven}
 use Rattle.resolve_walk.specs.Scratch.{zeroed}
 use Rattle.resolve_read_modify_write.specs.declared.Rmw.{Rmw}
@@ -13,7 +14,7 @@ use Rattle.resolve_read_modify_write.specs.Calls.{rmwNumbers, rmwFits, r
 -- of a name that a valid book lacks: 7 with the number that stands for it, after 6
 unfoldable pub lackingRmw : Bool → Rmw
 lackingRmw true = rmw.NotFound lackingRoot
-lackingRmw false = rmw.Refused 6
+lackingRmw false = rmw.Refused refusal.tooFewLent
 
 -- what is answered for a name that a valid book lacks, and what the scratch holds then
 pub record LackingIn (fits : Bool) (sc : List ℕ) (r : Rmw) (sc′ : List ℕ) : Type 0 where

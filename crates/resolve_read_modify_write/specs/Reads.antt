@@ -3,6 +3,7 @@ use mathlib.Core.Bool.{Bool, true, false, cond}
 use mathlib.Core.List.{List}
 use Prim.Native.Nat.{ℕ}
 use Rattle.enc_number.specs.Answer.{refusalOf}
+use Rattle.enc_number.specs.Refusals as refusal
 use Rattle.type_category.specs.declared.type_category.AdsTypeCategory.{AdsTypeCategory}
 use Rattle.type_category.specs.declared.type_category.AdsTypeCategory.the-variants as category
 use Rattle.type_category.specs.Category.{categoryOf}
@@ -34,7 +35,7 @@ keepsState category.Interface = false
 -- read-modify-write: the first event that answers
 unfoldable pub rmwOf : List ℕ → ℕ → Walk → Rmw
 rmwOf book width over = rmw.No
-rmwOf book width (full b x) = rmw.Refused 9
+rmwOf book width (full b x) = rmw.Refused refusal.tooManyNames
 rmwOf book width (met b x (Base t) w) = cond (keepsState (categoryOf book width t)) rmw.Yes (rmwOf book width w)
 rmwOf book width (met b x (Lacks c) w) = rmw.NotFound c
 rmwOf book width (met b x TooLong w) = rmw.Refused (refusalOf (resolvedNumbers TooLong))

@@ -4,6 +4,7 @@ use mathlib.Core.List.{List, [], _∷_}
 use Prim.Native.Nat.{ℕ}
 use lib.ListN.{take}
 use Rattle.enc_number.specs.Answer.{refusalOf}
+use Rattle.enc_number.specs.Refusals as refusal
 use Rattle.type_book_check.specs.Check.{checkRoot, atRoot}
 use Rattle.type_book_check.specs.Given.{Given, lackingRoot, checkGiven, atGiven}
 use Rattle.resolvers.specs.declared.Resolved.{Resolved}
@@ -15,7 +16,7 @@ use Rattle.resolvers.specs.Resolve.{resolvedNumbers, resolveType}
 -- document 01's number and value of an answer: 0 and the block, 7 and the block whose type name is not found, or another refusal
 unfoldable pub resolutionNumbers : Resolution → List ℕ
 resolutionNumbers (Block b) = 0 ∷ b ∷ []
-resolutionNumbers (NotFound b) = 7 ∷ b ∷ []
+resolutionNumbers (NotFound b) = refusal.notFound ∷ b ∷ []
 resolutionNumbers (Refused n) = n ∷ []
 
 -- ---- resolve_alias, resolve_indirection

@@ -3,6 +3,7 @@ use mathlib.Core.Path.{_≡_}
 use mathlib.Core.Bool.{Bool, true, false, cond}
 use mathlib.Core.List.{List, [], _∷_}
 use Prim.Native.Nat.{ℕ, zero, suc}
+use Rattle.enc_number.specs.Refusals as refusal
 use Rattle.type_provider.specs.declared.Found.{Found}
 use Rattle.type_provider.specs.declared.Found.the-variants.{At, Nothing}
 use Rattle.type_book.specs.Book.{isType, typeNameOf}
@@ -16,8 +17,8 @@ use Rattle.resolvers.specs.declared.Resolved.the-variants.{Base, Lacks, 
 -- document 01's number and value of what a chain comes to: 0 and the block, 7 and the block whose type name is not found, or 8
 unfoldable pub resolvedNumbers : Resolved → List ℕ
 resolvedNumbers (Base u) = 0 ∷ u ∷ []
-resolvedNumbers (Lacks c) = 7 ∷ c ∷ []
-resolvedNumbers TooLong = 8 ∷ []
+resolvedNumbers (Lacks c) = refusal.notFound ∷ c ∷ []
+resolvedNumbers TooLong = refusal.chainTooLong ∷ []
 
 -- ---- chains
 

@@ -6,6 +6,7 @@ use mathlib.Core.List.{List}
 use Prim.Native.Nat.{ℕ, _+_}
 use lib.ListN.{length}
 use lib.Dec.{leb}
+use Rattle.enc_number.specs.Refusals as refusal
 use Rattle.type_book.specs.Book.{isType, countOf}
 use Rattle.type_book_check.specs.Check.{ValidBook}
 use Rattle.type_category.specs.Category.{categoryOf}
@@ -48,7 +49,7 @@ unfoldable pub keyedValue : Child → List ℕ → Keyed → Outcome
 keyedValue child bytes (keyed.Field f next) =
     cond (leb (f .offset + f .size) (length bytes))
     (placed (f .offset) (f .size) bytes (child (whole (f .resolved)) next (cut (f .offset) (f .size) bytes)))
-    (refused 10 0 bytes)
+    (refused refusal.wrongSize 0 bytes)
 keyedValue child bytes (keyed.Stop n b) = refused n b bytes
 
 -- what is known of a field that a key found

@@ -6,6 +6,7 @@ use mathlib.Core.List.{List}
 use Prim.Native.Nat.{ℕ, _*_, _^_, _≤_, _<_}
 use lib.ListN.{length, take}
 use Rattle.enc_number.specs.Le.{Bytes}
+use Rattle.enc_number.specs.Refusals as refusal
 use Rattle.tape_form.specs.Form.{formed}
 use Rattle.de_output.specs.declared.ReadAnswer.{ReadAnswer}
 use Rattle.de_output.specs.declared.ReadAnswer.the-variants as reading
@@ -31,7 +32,7 @@ BytesOutside =
 -- a write that is accepted ends at place n of the tape, and one that is refused is not refused with 16
 abbrev pub endsBy : ℕ → Outcome → Type 0
 endsBy n (went at bytes) = at .at ≡ n
-endsBy n (refused k b bytes) = k ≡ 16 → ⊥
+endsBy n (refused k b bytes) = k ≡ refusal.wrongTape → ⊥
 
 -- the same, as a record
 pub record EndsAt (n : ℕ) (o : Outcome) : Type 0 where
@@ -44,7 +45,7 @@ FormedEnds = (c : Ctx) (t : ℕ) (image : List ℕ) → formed (c .book) (c .tap
 -- with an output as long as the image, a checked book's write is refused with 16 exactly where the tape is not well formed
 abbrev pub SixteenIsForm : Type 0
 SixteenIsForm =
-    (c : Ctx) (n : ℕ) (image : List ℕ) → (answerOf (bookWrite c n (length image) image) ≡ Refused 16) ↔ (formed (c .book) (c .tape) (c .text) ≡ false)
+    (c : Ctx) (n : ℕ) (image : List ℕ) → (answerOf (bookWrite c n (length image) image) ≡ Refused refusal.wrongTape) ↔ (formed (c .book) (c .tape) (c .text) ≡ false)
 
 -- what an accepted read of any bytes leaves, k records on the tape and m bytes in the text buffer, is a well-formed tape of the book, with any
 -- first part of the text buffer that has these m bytes

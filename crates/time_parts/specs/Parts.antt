@@ -3,6 +3,7 @@ use mathlib.Core.Bool.{Bool, cond, _&&_}
 use mathlib.Core.List.{List, [], _∷_}
 use Prim.Native.Nat.{ℕ, _+_, _*_, _/_, _%_}
 use lib.Dec.{eqb, leb, ltb}
+use Rattle.enc_number.specs.Refusals as refusal
 use Rattle.time_calendar.specs.declared.Date.{Date}
 use Rattle.time_calendar.specs.Calendar.{namesDate, dayNumber, dateOf}
 use Rattle.time_types.specs.declared.TimeType.{TimeType}
@@ -19,12 +20,12 @@ use Rattle.time_parts.specs.declared.CountAnswer.the-variants as count
 -- document 02's number and values of the parts: 0, then the seven of them, or 24
 unfoldable pub partsNumbers : PartsAnswer → List ℕ
 partsNumbers (parts.Told p) = 0 ∷ p .year ∷ p .month ∷ p .day ∷ p .hour ∷ p .minute ∷ p .second ∷ p .nanosecond ∷ []
-partsNumbers parts.Refused = 24 ∷ []
+partsNumbers parts.Refused = refusal.noMoment ∷ []
 
 -- document 02's number and value of a count: 0, then the count, or 24
 unfoldable pub countNumbers : CountAnswer → List ℕ
 countNumbers (count.Told n) = 0 ∷ n ∷ []
-countNumbers count.Refused = 24 ∷ []
+countNumbers count.Refused = refusal.noMoment ∷ []
 
 -- ---- from a count to its parts
 

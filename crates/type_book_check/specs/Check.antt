@@ -6,6 +6,7 @@ use Prim.Native.Nat.{ℕ, zero, suc, _+_, _/_, _%_}
 use lib.ListN.{length, take}
 use lib.Dec.{eqb, leb, ltb}
 use Rattle.enc_number.specs.Answer.{refusalOf}
+use Rattle.enc_number.specs.Refusals as refusal
 use Rattle.type_book.specs.Book.{blocks, blockOf, isType, fieldsOf, entriesOf}
 use Rattle.type_block_form.specs.Form.{sumRight, typeForm, fieldForm, entryForm}
 use Rattle.type_doubles.specs.Doubles.{allFrom, distinct}
@@ -59,10 +60,10 @@ checkBook buffer len = cond (sizeRight (length buffer) len) (checkBlocks (take l
 -- document 01's number of a book's check, 0 for a book that is not refused
 unfoldable pub bookNumbers : BookCheck → List ℕ
 bookNumbers Valid = 0 ∷ []
-bookNumbers Size = 1 ∷ []
-bookNumbers Sum = 2 ∷ []
-bookNumbers Form = 3 ∷ []
-bookNumbers Doubled = 4 ∷ []
+bookNumbers Size = refusal.wrongLength ∷ []
+bookNumbers Sum = refusal.wrongSum ∷ []
+bookNumbers Form = refusal.wrongForm ∷ []
+bookNumbers Doubled = refusal.doubledName ∷ []
 
 -- document 01's term: a valid book passes 1 to 4
 abbrev pub ValidBook : List ℕ → Type 0
@@ -75,7 +76,7 @@ rootNumbers (Refused n) = n ∷ []
 
 -- 5: the root is the number of a type block
 unfoldable pub rootOf : List ℕ → ℕ → RootCheck
-rootOf book root = cond (ltb root (blocks book) && isType book root) (Root root) (Refused 5)
+rootOf book root = cond (ltb root (blocks book) && isType book root) (Root root) (Refused refusal.wrongRoot)
 
 -- 1 to 4 before 5
 unfoldable pub checkRoot : List ℕ → ℕ → ℕ → RootCheck

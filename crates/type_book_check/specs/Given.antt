@@ -6,6 +6,7 @@ use Prim.Native.Nat.{ℕ}
 use lib.ListN.{length, take}
 use lib.Dec.{eqb, leb}
 use Rattle.enc_number.specs.Answer.{refusalOf}
+use Rattle.enc_number.specs.Refusals as refusal
 use Rattle.type_provider.specs.Find.{find}
 use Rattle.type_provider.specs.declared.Found.{Found}
 use Rattle.type_provider.specs.declared.Found.the-variants as found
@@ -28,7 +29,7 @@ lackingRoot = 4294967295
 -- the paper's number and value of what a root stands for: 0 and its block, 7 and the number of a lacking root, or another refusal
 unfoldable pub givenNumbers : GivenRoot → List ℕ
 givenNumbers (Block n) = 0 ∷ n ∷ []
-givenNumbers Lacking = 7 ∷ lackingRoot ∷ []
+givenNumbers Lacking = refusal.notFound ∷ lackingRoot ∷ []
 givenNumbers (Refused n) = n ∷ []
 
 -- 23 otherwise: a root's name has 0 to 200 bytes, each 20h to 7Eh
@@ -48,7 +49,7 @@ foundRoot found.Nothing = Lacking
 -- what a root stands for in a valid book: 5 for a number that is no type block's, 23 in its place for a name that is not of the form
 unfoldable pub givenRoot : List ℕ → Given → GivenRoot
 givenRoot book (number n) = numberedRoot (rootOf book n)
-givenRoot book (name bytes) = cond (isRootName bytes) (foundRoot (find book bytes)) (Refused 23)
+givenRoot book (name bytes) = cond (isRootName bytes) (foundRoot (find book bytes)) (Refused refusal.wrongRootName)
 
 -- what a root stands for in the book that fills the first `len` bytes of a buffer: 1 to 4 before 5 or 23
 unfoldable pub checkGiven : List ℕ → ℕ → Given → GivenRoot

@@ -7,6 +7,7 @@ use Prim.Native.Nat.{ℕ, zero, suc, _+_, _/_}
 use lib.ListN.{length, take, drop}
 use lib.Dec.{eqb, leb}
 use Rattle.enc_number.specs.Answer.{refusalOf}
+use Rattle.enc_number.specs.Refusals as refusal
 use Rattle.type_book.specs.Book.{blocks, fieldsOf, entriesOf, nameOf}
 use Rattle.type_provider.specs.Find.{find}
 use Rattle.type_provider.specs.declared.Found.{Found}
@@ -61,8 +62,8 @@ unfoldable pub appendRefusal : List ℕ → ℕ → List ℕ → ℕ
 appendRefusal buffer len addition =
     orNext (refusalOf (bookNumbers (checkBook buffer len)))
     (orNext (additionRefusal addition)
-    (cond (isKnown (take len buffer) (nameOf addition 0)) 4
-    (cond (hasRoom (length buffer) len (length addition)) 0 15)))
+    (cond (isKnown (take len buffer) (nameOf addition 0)) refusal.doubledName
+    (cond (hasRoom (length buffer) len (length addition)) 0 refusal.noRoom)))
 
 -- the book, the addition after it, and the rest of the buffer as before
 abbrev pub joined : List ℕ → ℕ → List ℕ → List ℕ

@@ -7,6 +7,7 @@ use Prim.Native.Nat.{ℕ}
 use lib.ListN.{length, take}
 use lib.Dec.{eqb}
 use Rattle.enc_number.specs.Answer.{refusalOf}
+use Rattle.enc_number.specs.Refusals as refusal
 use Rattle.type_book_check.specs.Check.{checkBook, bookNumbers}
 use Rattle.type_index.specs.Index.{indexFits, namesIndex}
 use Rattle.type_index_build.specs.declared.Built.{Built}
@@ -19,7 +20,7 @@ builtNumbers (built.Refused n) = n ∷ []
 
 -- the answer for a valid book: 6 where the index has fewer than 16,384 numbers
 unfoldable pub builtIn : List ℕ → Built
-builtIn index = cond (indexFits index) built.Done (built.Refused 6)
+builtIn index = cond (indexFits index) built.Done (built.Refused refusal.tooFewLent)
 
 -- the answer: 1 to 4 of the book first
 unfoldable pub buildCall : List ℕ → ℕ → List ℕ → Built

@@ -3,6 +3,7 @@ use mathlib.Core.Path.{_≡_}
 use mathlib.Core.Bool.{true, cond}
 use mathlib.Core.List.{List, [], _∷_}
 use Prim.Native.Nat.{ℕ, zero, suc, _+_, _<_, min}
+use Rattle.enc_number.specs.Refusals as refusal
 use Rattle.type_book.specs.Book.{blocks, isType, nameOf, isNamed}
 use Rattle.type_provider.specs.declared.Found.{Found}
 use Rattle.type_provider.specs.declared.Found.the-variants.{At, Nothing}
@@ -10,7 +11,7 @@ use Rattle.type_provider.specs.declared.Found.the-variants.{At, Nothing}
 -- document 01's number and values of a look-up's answer: 0 and the block, or 7
 unfoldable pub foundNumbers : Found → List ℕ
 foundNumbers (At n) = 0 ∷ n ∷ []
-foundNumbers Nothing = 7 ∷ []
+foundNumbers Nothing = refusal.notFound ∷ []
 
 -- the number of blocks that a look-up searches: 65,536 at most, since a longer book is refused (1) before any look-up
 abbrev pub searched : List ℕ → ℕ

@@ -4,6 +4,7 @@ use mathlib.Core.List.{List}
 use Prim.Native.Nat.{ℕ, _+_, _/_, _%_, _^_}
 use lib.ListN.{length}
 use lib.Dec.{eqb}
+use Rattle.enc_number.specs.Refusals as refusal
 use Rattle.type_id.specs.declared.AdsTypeId.{AdsTypeId}
 use Rattle.type_id.specs.declared.AdsTypeId.the-variants as id
 use Rattle.type_id.specs.TypeId.{idOf, numberOf}
@@ -18,8 +19,8 @@ use Rattle.type_category.specs.Number.{categoryNumber}
 -- document 01's number of an answer; 0 where nothing is refused
 abbrev pub validityRefusal : Validity → ℕ
 validityRefusal Valid = 0
-validityRefusal TypeMismatch = 17
-validityRefusal SizeMismatch = 10
+validityRefusal TypeMismatch = refusal.wrongType
+validityRefusal SizeMismatch = refusal.wrongSize
 
 -- 1 for a type id that document 01 does not name, 0 for a named one
 abbrev pub unknownOf : AdsTypeId → ℕ
@@ -56,17 +57,17 @@ indirect = 2 ^ categoryNumber Pointer + 2 ^ categoryNumber Reference + 2 ^ categ
 
 -- 17 unless block n has the expected type id
 unfoldable pub typeIdRefusal : List ℕ → ℕ → AdsTypeId → ℕ
-typeIdRefusal book n expected = cond (sameId (idOf (typeIdOf book n)) expected) 0 17
+typeIdRefusal book n expected = cond (sameId (idOf (typeIdOf book n)) expected) 0 refusal.wrongType
 
 -- of a pointer, reference or interface 10 unless an integer of `size` bytes is as wide as a pointer; else as by the type id
 unfoldable pub integerRefusal : List ℕ → ℕ → AdsTypeId → ℕ → ℕ → ℕ
 integerRefusal book n expected width size =
-    cond (isIn (categoryOf book width n) indirect) (cond (eqb width size) 0 10) (typeIdRefusal book n expected)
+    cond (isIn (categoryOf book width n) indirect) (cond (eqb width size) 0 refusal.wrongSize) (typeIdRefusal book n expected)
 
 -- 17 unless the category of block n is in the expected set
 unfoldable pub categoryRefusal : List ℕ → ℕ → ℕ → ℕ → ℕ
-categoryRefusal book n expected width = cond (isIn (categoryOf book width n) expected) 0 17
+categoryRefusal book n expected width = cond (isIn (categoryOf book width n) expected) 0 refusal.wrongType
 
 -- 10 unless there are exactly as many bytes as expected
 unfoldable pub sizeRefusal : List ℕ → ℕ → ℕ
-sizeRefusal bytes expected = cond (eqb (length bytes) expected) 0 10
+sizeRefusal bytes expected = cond (eqb (length bytes) expected) 0 refusal.wrongSize
