@@ -14,7 +14,6 @@ ghost use Rattle.gateway_codes.specs.Numbers.{foundNumber};
 ghost use Rattle.enc_number.specs.Answer.{refusalOf, truthNumber};
 ghost use Rattle.gateway.specs.Calls.{BuildGiven};
 ghost use Rattle.gateway.specs.Numbers.{WroteAs, FoundAs};
-use type_index::Trust;
 
 pub mod appending;
 pub mod book;
@@ -72,7 +71,7 @@ pub extern "C" fn gateway_find(book: &[u8], name: &[u8]) -> u32
 pub extern "C" fn gateway_find_by(book: &[u8], index: &[u32], name: &[u8]) -> u32
     ensures { λ r. ⌜ FoundAs (now (book .entry)) (now (name .entry)) r ⌝ }
 {
-    gateway_codes::found(type_index::find_by(book, index, Trust::Unknown, name))
+    gateway_codes::found(type_index::find_by(book, index, name))
 }
 
 // Document 01's number: 0 where the index was built, for the two walks, else 1 to 4 of the book, or 6.

@@ -17,7 +17,7 @@ use type_book::block::BLOCK;
 use type_cache::Appended;
 use type_category::type_category::AdsTypeCategory;
 use type_index::Trust;
-use type_index::find_by;
+use type_index::find_in;
 use type_provider::Found;
 
 // The blocks of a book at most.
@@ -56,7 +56,7 @@ fn find_theirs(book: &[u8], controller: &[u8], index: &[u32], b: u32) -> Found
     requires { ⌜ ValidBook (now controller) ⌝ }
     ensures { λ r. ⌜ r ≡ find (now (controller .entry)) (typeNameOf (now (book .entry)) b) ⌝ }
 {
-    find_by(controller, index, Trust::Unknown, block::type_name(book, b))
+    find_in(controller, index, Trust::Unknown, block::type_name(book, b))
 }
 
 // Adds the type that block b of our book names from the controller's book. A name that our book knows by now is none to add.

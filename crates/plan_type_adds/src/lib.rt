@@ -17,7 +17,7 @@ use type_cache::Appended;
 use type_cache::copy;
 use type_cache::has_room;
 use type_index::Trust;
-use type_index::find_by;
+use type_index::find_in;
 use type_provider::Found;
 use type_provider::searched;
 
@@ -44,7 +44,7 @@ fn mark_block(book: &[u8], controller: &[u8], index: &[u32], known: &mut [u8], i
     if !block::is_type(book, i) {
         return;
     }
-    let found = find_by(controller, index, Trust::Unknown, block::name(book, i));
+    let found = find_in(controller, index, Trust::Unknown, block::name(book, i));
     let Found::At(n) = found else {
         return;
     };

@@ -189,8 +189,8 @@ fn not_led(book: &[u8], trust: Trust, name: &[u8]) -> Found
     }
 }
 
-// The type block of that name, whatever the index holds.
-pub fn find_by(book: &[u8], index: &[u32], trust: Trust, name: &[u8]) -> Found
+// The type block of that name, whatever the index holds, by what is known of the index.
+pub fn find_in(book: &[u8], index: &[u32], trust: Trust, name: &[u8]) -> Found
     requires { ⌜ Trusted (now book) (now index) trust ⌝ }
     ensures { λ r. ⌜ FoundBy (now (book .entry)) (now (name .entry)) r ⌝ }
 {
@@ -201,6 +201,13 @@ pub fn find_by(book: &[u8], index: &[u32], trust: Trust, name: &[u8]) -> Found
     Found::At(n)
 }
 
+// The same where nothing is known of the index.
+pub fn find_by(book: &[u8], index: &[u32], name: &[u8]) -> Found
+    ensures { λ r. ⌜ FoundBy (now (book .entry)) (now (name .entry)) r ⌝ }
+{
+    find_in(book, index, Trust::Unknown, name)
+}
+
 // The type that block b's type name finds, whatever the index holds: by the block's hint, else by the name.
 pub fn type_of(book: &[u8], index: &[u32], trust: Trust, b: u32) -> Found
     requires { ⌜ Trusted (now book) (now index) trust ⌝ }
@@ -209,7 +216,7 @@ pub fn type_of(book: &[u8], index: &[u32], trust: Trust, b: u32) -> Found
     let name = block::type_name(book, b);
     let found = believe(book, name, hint_of(book, index, b));
     let Found::At(t) = found else {
-        return find_by(book, index, trust, name);
+        return find_in(book, index, trust, name);
     };
     Found::At(t)
 }

@@ -1,12 +1,11 @@
 -- `gateway_find_by` meets its contract. Assumes nothing.
-use Rattle.type_index.proofs.Trusts.{unknown-trusted}
 use Rattle.gateway.proofs.Numbers.{found-number}
 use borrow.Author.Needs.{needs}
 use Rattle.gateway.proofs.gateway_find_by.Statement.{statement}
 use Rattle.gateway.proofs.gateway_find_by.Tie as tie
 
 find-by-requires : tie.Need-find-by-requires
-find-by-requires c κs = search unknown-trusted
+find-by-requires c κs = search needs
 
 found-requires : tie.Need-found-requires
 found-requires c κs = search needs

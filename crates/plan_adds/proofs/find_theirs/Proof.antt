@@ -9,12 +9,12 @@ type-name-requires : tie.Need-type-name-requires
 type-name-requires c κs = search needs
 
 -- src/lib.rt:58:5
-find-by-requires : tie.Need-find-by-requires
-find-by-requires c κs = search unknown-trusted
+find-in-requires : tie.Need-find-in-requires
+find-in-requires c κs = search unknown-trusted
 
 -- src/lib.rt:54:1
 returns : tie.Need-returns
 returns c = search theirs-is
 
 pub find-theirs-spec : {M : Type 1} → statement M
-find-theirs-spec = tie.close (tie.spec type-name-requires find-by-requires returns)
+find-theirs-spec = tie.close (tie.spec type-name-requires find-in-requires returns)

@@ -17,8 +17,8 @@ name-requires : tie.Need-name-requires
 name-requires c κs = search needs
 
 -- src/lib.rt:46:9
-find-by-requires : tie.Need-find-by-requires
-find-by-requires c κs = search unknown-trusted
+find-in-requires : tie.Need-find-in-requires
+find-in-requires c κs = search unknown-trusted
 
 -- src/lib.rt:47:19
 enum-known-found : tie.Need-enum-known-found
@@ -55,7 +55,7 @@ mark-block-spec =
     is-type-requires
     returns
     name-requires
-    find-by-requires
+    find-in-requires
     enum-known-found
     enum-told
     returns-2

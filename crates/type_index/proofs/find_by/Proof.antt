@@ -1,28 +1,14 @@
 -- `find_by` meets its contract. Assumes nothing.
-use Rattle.type_index.proofs.Trusts.{by-probe, by-trust}
+use Rattle.type_index.proofs.Trusts.{unknown-trusted}
 use borrow.Author.Needs.{needs}
 use Rattle.type_index.proofs.find_by.Statement.{statement}
 use Rattle.type_index.proofs.find_by.Tie as tie
 
-probe-requires : tie.Need-probe-requires
-probe-requires c κs = search needs
-
-enum-known-found : tie.Need-enum-known-found
-enum-known-found c = search needs
-
-enum-told : tie.Need-enum-told
-enum-told c = search needs
-
-not-led-requires : tie.Need-not-led-requires
-not-led-requires c κs = search needs
+find-in-requires : tie.Need-find-in-requires
+find-in-requires c κs = search unknown-trusted
 
 returns : tie.Need-returns
-returns c = search (by-probe, by-trust)
-
-returns-2 : tie.Need-returns-2
-returns-2 c = search (by-probe, by-trust)
+returns c = search needs
 
 pub find-by-spec : {M : Type 1} → statement M
-find-by-spec =
-    tie.close
-    (tie.spec probe-requires enum-known-found enum-told not-led-requires returns returns-2)
+find-by-spec = tie.close (tie.spec find-in-requires returns)

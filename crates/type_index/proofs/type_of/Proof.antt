@@ -19,8 +19,8 @@ enum-known-found c = search needs
 enum-told : tie.Need-enum-told
 enum-told c = search needs
 
-find-by-requires : tie.Need-find-by-requires
-find-by-requires c κs = search needs
+find-in-requires : tie.Need-find-in-requires
+find-in-requires c κs = search needs
 
 returns : tie.Need-returns
 returns c = search (of-hint, of-name)
@@ -37,6 +37,6 @@ type-of-spec =
     believe-requires
     enum-known-found
     enum-told
-    find-by-requires
+    find-in-requires
     returns
     returns-2)
