@@ -1,6 +1,6 @@
 -- The names of types that were met, by the marks of their hashes. No contract of a public function cites this. Assumes nothing.
 use mathlib.Core.Path.{_≡_}
-use mathlib.Core.Bool.{Bool, true}
+use mathlib.Core.Bool.{Bool, true, false}
 use mathlib.Core.List.{List}
 use Prim.Native.Nat.{ℕ, _+_, _<_}
 use Rattle.type_book.specs.Book.{isType, nameOf}
@@ -11,7 +11,7 @@ use Rattle.type_doubles.specs.Doubles.{isFirst}
 pub record MarkedTo (book marks : List ℕ) (n : ℕ) : Type 0 where
   pub all : (m : ℕ) → m < n → isType book m ≡ true → isMarked marks (hashOf (nameOf book m)) ≡ true
 
--- block n is compared, and marked
-pub record FirstIs (book : List ℕ) (n : ℕ) (r : Bool) (marks′ : List ℕ) : Type 0 where
-  pub is : r ≡ isFirst book n
+-- block n is marked, if it is a type block; where it is not said to be met before, no block before it has its name
+pub record MetIs (book : List ℕ) (n : ℕ) (r : Bool) (marks′ : List ℕ) : Type 0 where
+  pub new : r ≡ false → isFirst book n ≡ true
   pub marked : MarkedTo book marks′ (n + 1)
