@@ -5,6 +5,7 @@ ghost use Prim.Native.Nat.{_≤_};
 ghost use lib.ListN.{length, take};
 ghost use Rattle.type_book.specs.Book.{typeNameOf};
 ghost use Rattle.type_provider.specs.Find.{find};
+ghost use Rattle.type_index.specs.Trust.{Trusted};
 ghost use Rattle.type_book_check.specs.Check.{ValidBook};
 ghost use Rattle.plan_adds.specs.Adds.{ours, addListed, dueType, dueOf, sweep as sweepOf, addAll};
 ghost use Rattle.plan_adds.specs.State.{Ready, FetchedIs, AddedIs, SweptIs, SweepIs};
@@ -49,14 +50,21 @@ struct Swept {
     due: u32,
 }
 
+// How the adds of a round are done: the width, the block from which types are swept, and what is known of the index of the controller's book.
+pub struct AddBy {
+    pub width: u8,
+    pub from: u32,
+    pub trust: Trust,
+}
+
 // ---- adding
 
 // The controller's type that block b of our book names.
-fn find_theirs(book: &[u8], controller: &[u8], index: &[u32], b: u32) -> Found
-    requires { ⌜ ValidBook (now controller) ⌝ }
+fn find_theirs(book: &[u8], controller: &[u8], index: &[u32], trust: Trust, b: u32) -> Found
+    requires { ⌜ ValidBook (now controller) × Trusted (now controller) (now index) trust ⌝ }
     ensures { λ r. ⌜ r ≡ find (now (controller .entry)) (typeNameOf (now (book .entry)) b) ⌝ }
 {
-    find_in(controller, index, Trust::Unknown, block::type_name(book, b))
+    find_in(controller, index, trust, block::type_name(book, b))
 }
 
 // Adds the type that block b of our book names from the controller's book. A name that our book knows by now is none to add.
@@ -65,13 +73,14 @@ fn fetch(
     len: usize,
     controller: &[u8],
     index: &[u32],
+    trust: Trust,
     known: &mut [u8],
     b: u32,
 ) -> Fetched
-    requires { ⌜ ValidBook (now controller) × Ready (now controller) (now buffer) len (now known) ⌝ }
+    requires { ⌜ ValidBook (now controller) × Trusted (now controller) (now index) trust × Ready (now controller) (now buffer) len (now known) ⌝ }
     ensures { λ r. ⌜ FetchedIs (now (controller .entry)) b (now (buffer .entry)) len r (now (buffer .exit)) (now (known .exit)) ⌝ }
 {
-    let found = find_theirs(&buffer[..len], controller, index, b);
+    let found = find_theirs(&buffer[..len], controller, index, trust, b);
     let Found::At(n) = found else {
         return Fetched::Lacks;
     };
@@ -93,18 +102,19 @@ fn add_listed(
     len: usize,
     controller: &[u8],
     index: &[u32],
+    trust: Trust,
     known: &mut [u8],
     list: &[u32],
     n: usize,
 ) -> Added
-    requires { ⌜ ValidBook (now controller) × Ready (now controller) (now buffer) len (now known) × (n ≤ length (now list)) ⌝ }
+    requires { ⌜ ValidBook (now controller) × Trusted (now controller) (now index) trust × Ready (now controller) (now buffer) len (now known) × (n ≤ length (now list)) ⌝ }
     ensures { λ r. ⌜ AddedIs (addListed (now (controller .entry)) (take n (now (list .entry))) (ours (now (buffer .entry)) len)) (now (controller .entry)) (now (buffer .entry)) len r (now (buffer .exit)) (now (known .exit)) ⌝ }
 {
     let mut at = len;
     let mut i = 0;
     while i < n {
         let b = list[i];
-        let fetched = fetch(buffer, at, controller, index, known, b);
+        let fetched = fetch(buffer, at, controller, index, trust, known, b);
         match fetched {
             Fetched::More(l) => {
                 at = l;
@@ -158,19 +168,20 @@ fn sweep_block(
     len: usize,
     controller: &[u8],
     index: &[u32],
+    by: AddBy,
     known: &mut [u8],
-    width: u8,
     i: u32,
     due: u32,
 ) -> Swept
-    requires { ⌜ ValidBook (now controller) × Ready (now controller) (now buffer) len (now known) ⌝ }
-    ensures { λ r. ⌜ SweptIs (now (controller .entry)) width i due (now (buffer .entry)) len r (now (buffer .exit)) (now (known .exit)) ⌝ }
+    requires { ⌜ ValidBook (now controller) × Trusted (now controller) (now index) (by .trust) × Ready (now controller) (now buffer) len (now known) ⌝ }
+    ensures { λ r. ⌜ SweptIs (now (controller .entry)) (by .width) i due (now (buffer .entry)) len r (now (buffer .exit)) (now (known .exit)) ⌝ }
 {
-    let here = due_at(&buffer[..len], width, i, due);
+    let here = due_at(&buffer[..len], by.width, i, due);
     match here {
         Due::Rest(k) => Swept { len, due: k },
         Due::Names(k) => {
-            let fetched = fetch(buffer, len, controller, index, known, i);
+            let trust = by.trust;
+            let fetched = fetch(buffer, len, controller, index, trust, known, i);
             match fetched {
                 Fetched::More(l) => Swept { len: l, due: k },
                 Fetched::Lacks => Swept { len, due: k },
@@ -180,27 +191,26 @@ fn sweep_block(
     }
 }
 
-// Sweeps the blocks from block `from` to the end of our book, which grows meanwhile, and answers its length then.
+// Sweeps the blocks from block `by.from` to the end of our book, which grows meanwhile, and answers its length then.
 fn sweep(
     buffer: &mut [u8],
     len: usize,
     controller: &[u8],
     index: &[u32],
+    by: AddBy,
     known: &mut [u8],
-    width: u8,
-    from: u32,
 ) -> usize
-    requires { ⌜ ValidBook (now controller) × Ready (now controller) (now buffer) len (now known) ⌝ }
-    ensures { λ r. ⌜ SweepIs (sweepOf (now (controller .entry)) width from (ours (now (buffer .entry)) len)) (now (controller .entry)) (now (buffer .entry)) len r (now (buffer .exit)) (now (known .exit)) ⌝ }
+    requires { ⌜ ValidBook (now controller) × Trusted (now controller) (now index) (by .trust) × Ready (now controller) (now buffer) len (now known) ⌝ }
+    ensures { λ r. ⌜ SweepIs (sweepOf (now (controller .entry)) (by .width) (by .from) (ours (now (buffer .entry)) len)) (now (controller .entry)) (now (buffer .entry)) len r (now (buffer .exit)) (now (known .exit)) ⌝ }
 {
     let mut at = len;
-    let mut i = from;
+    let mut i = by.from;
     let mut due: u32 = 0;
     while i < MAX_BLOCKS {
         if at / BLOCK <= i as usize {
             return at;
         }
-        let swept = sweep_block(buffer, at, controller, index, known, width, i, due);
+        let swept = sweep_block(buffer, at, controller, index, by, known, i, due);
         at = swept.len;
         due = swept.due;
         i += 1;
@@ -208,24 +218,24 @@ fn sweep(
     at
 }
 
-// Adds the types of the first n listed blocks, and then what the types from block `from` on are made of.
+// Adds the types of the first n listed blocks, and then what the types from block `by.from` on are made of.
 pub fn add_all(
     buffer: &mut [u8],
     len: usize,
     controller: &[u8],
     index: &[u32],
+    by: AddBy,
     known: &mut [u8],
-    width: u8,
     list: &[u32],
     n: usize,
-    from: u32,
 ) -> Added
-    requires { ⌜ ValidBook (now controller) × Ready (now controller) (now buffer) len (now known) × (n ≤ length (now list)) ⌝ }
-    ensures { λ r. ⌜ AddedIs (addAll (now (controller .entry)) width from (take n (now (list .entry))) (ours (now (buffer .entry)) len)) (now (controller .entry)) (now (buffer .entry)) len r (now (buffer .exit)) (now (known .exit)) ⌝ }
+    requires { ⌜ ValidBook (now controller) × Trusted (now controller) (now index) (by .trust) × Ready (now controller) (now buffer) len (now known) × (n ≤ length (now list)) ⌝ }
+    ensures { λ r. ⌜ AddedIs (addAll (now (controller .entry)) (by .width) (by .from) (take n (now (list .entry))) (ours (now (buffer .entry)) len)) (now (controller .entry)) (now (buffer .entry)) len r (now (buffer .exit)) (now (known .exit)) ⌝ }
 {
-    let added = add_listed(buffer, len, controller, index, known, list, n);
+    let trust = by.trust;
+    let added = add_listed(buffer, len, controller, index, trust, known, list, n);
     match added {
-        Added::More(l) => Added::More(sweep(buffer, l, controller, index, known, width, from)),
+        Added::More(l) => Added::More(sweep(buffer, l, controller, index, by, known)),
         Added::NotFound(b, l) => Added::NotFound(b, l),
         Added::Full(l) => Added::Full(l),
     }

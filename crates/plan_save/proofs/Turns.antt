@@ -5,7 +5,8 @@ use mathlib.Core.List.{List, [], _∷_}
 use Prim.Native.Nat.{ℕ, zero, suc, _-_, _/_, _≤_, _<_}
 use native.Mathlib.Omega.{arith}
 use borrow.Author.Tests.{lt-ltb, le-ltb}
-use lib.ListN.{length, take, length-take}
+use borrow.Rule.Slice.PartMut.{putMid, same-len-mid, take-put}
+use lib.ListN.{length, take, drop, length-take}
 use lib.Seq.{length-take-le}
 use Rattle.type_cache.proofs.Appends.{refused-cut}
 use Rattle.type_book.specs.Book.{blocks, isType}
@@ -13,6 +14,10 @@ use Rattle.type_book_check.proofs.Numbers.{valid-number}
 use Rattle.type_book_check.specs.declared.BookCheck.the-variants.{Valid}
 use Rattle.type_book_check.specs.Check.{checkBook, ValidBook}
 use Rattle.type_book_check.proofs.Valid.{valid-book, valid-size}
+use Rattle.type_index.specs.declared.Trust.{Trust}
+use Rattle.type_index.specs.declared.Trust.the-variants as trust
+use Rattle.type_index.specs.Trust.{trustThen, Trusted}
+use Rattle.type_index.proofs.Trusts.{unknown-trusted, then-trusted}
 use Rattle.plan_type_adds.specs.Knows.{Knows}
 use Rattle.resolve_walk.specs.Walk.{Walk, walkOf}
 use Rattle.resolve_walk.specs.Reads.{listed, whole}
@@ -29,13 +34,17 @@ use Rattle.plan_save.specs.declared.Asked.the-variants.{Lists, NotWhole}
 use Rattle.plan_save.specs.declared.Round.{Round}
 use Rattle.plan_save.specs.declared.Round.the-variants.{Again, Is}
 use Rattle.plan_save.specs.Rounds.{Decision, ruled, nextRound, closing, notWhole, roundOf, sweptFrom, roundsThen, planFrom}
-use Rattle.plan_save.specs.State.{planSaid, roundSaid, Follows, RoundIs, AskSaid, AskedIs, DecidedIs, AfterAdds, AddedRound, PlannedIs}
+use Rattle.plan_save.specs.State.{halfOf, Prepared, planSaid, roundSaid, Follows, RoundIs, AskSaid, AskedIs, DecidedIs, AfterAdds, AddedRound, PlannedIs}
 
 pub ready-book : (c buffer : List ℕ) (len : ℕ) (known : List ℕ) → Ready c buffer len known → ValidBook (take len buffer)
 ready-book c buffer len known o = valid-book buffer len (o .valid)
 
-pub ready-of : (c buffer : List ℕ) (len : ℕ) (known : List ℕ) → checkBook buffer len ≡ Valid → Knows c (take len buffer) known → Ready c buffer len known
-ready-of c buffer len known v k = record { valid = v; knows = k }
+module _ (c buffer : List ℕ) (len : ℕ) (t : Trust) (hints known : List ℕ) (o : Prepared c (take len buffer) t hints known) where
+  pub prepared-ready : checkBook buffer len ≡ Valid → Ready c buffer len known
+  prepared-ready v = record { valid = v; knows = o .knows }
+
+  pub prepared-trusted : Trusted c (halfOf hints) t
+  prepared-trusted = o .trusted
 
 -- the half of an index, and a book in its buffer
 pub half-cut : (l : List ℕ) → length l / 2 ≡ length (take (length l / 2) l)
@@ -43,6 +52,19 @@ half-cut l = sym (length-take-le (length l / 2) l (omega arith))
 
 pub half-of : (l m : List ℕ) → length m ≡ length l → length l / 2 ≡ length (take (length l / 2) m)
 half-of l m e = sym (length-take-le (length l / 2) m (omega arith))
+
+-- what is said of the controller's half: where it is held against the book, and where the other half is made anew
+pub half-held : (c l m : List ℕ) → length m ≡ length l → (t : Trust) → t ≡ trustThen c (take (length l / 2) m) trust.Unknown → Trusted c (take (length l / 2) m) t
+half-held c l m e t h = then-trusted c _ trust.Unknown t h (unknown-trusted c _)
+
+pub prepared : (c book l m known : List ℕ) → length m ≡ length l → (t : Trust) → t ≡ trustThen c (take (length l / 2) m) trust.Unknown → Knows c book known
+    → Prepared c book t m known
+prepared c book l m known e t h k = record { knows = k; trusted = rw e (half-held c l m e t h) }
+
+pub half-kept : (c l part : List ℕ) → length part ≡ length (take (length l - length l / 2) (drop (length l / 2) l)) → (t : Trust) → Trusted c (halfOf l) t
+    → Trusted c (halfOf (putMid (length l / 2) (length l - length l / 2) l part)) t
+half-kept c l part e t h =
+    rw (same-len-mid (length l / 2) (length l - length l / 2) l part e, take-put (length l / 2) (length l - length l / 2) l part (omega arith)) h
 
 pub book-cut : (buffer : List ℕ) (len : ℕ) → checkBook buffer len ≡ Valid → len ≡ length (take len buffer)
 book-cut buffer len v = refused-cut buffer len buffer (checkBook buffer len) refl 0 (valid-number _ v) refl
@@ -73,22 +95,23 @@ module _ (c : List ℕ) (width root : ℕ) (buffer : List ℕ) (len from : ℕ) 
   abbrev w : Walk
   w = walkOf (take len buffer) width root
 
-  pub round-not-whole : (k : ℕ) → a ≡ NotWhole k → (known : List ℕ) → RoundIs c width root buffer len from (Is (plan.Refused k len)) buffer known
+  pub round-not-whole : (k : ℕ) → a ≡ NotWhole k → (known hints : List ℕ) (t : Trust) → Trusted c (halfOf hints) t
+      → RoundIs c width root buffer len from (Is (plan.Refused k len)) buffer known hints t
   unfolding roundSaid planSaid roundOf
-  round-not-whole k e known =
+  round-not-whole k e known hints t h =
       let q = not-whole w a list o k e in
-      record { is = λ go. rw (q .0, q .1); follows = tt }
+      record { is = λ go. rw (q .0, q .1); follows = tt; trusted = h }
 
   module _ (n : ℕ) (e : a ≡ Lists n) where
     q : (whole w ≡ true) × (n ≡ length (listed w)) × (take n list ≡ listed w)
     q = lists w a list o n e
 
-    pub round-none : n ≡ 0 → (p : Plan) → DecidedIs (rmwAnswer true (take len buffer) width root) len p → (known : List ℕ)
-        → RoundIs c width root buffer len from (Is p) buffer known
+    pub round-none : n ≡ 0 → (p : Plan) → DecidedIs (rmwAnswer true (take len buffer) width root) len p → (known hints : List ℕ) (t : Trust) → Trusted c (halfOf hints) t
+        → RoundIs c width root buffer len from (Is p) buffer known hints t
     unfolding roundSaid roundOf closing rmwAnswer
-    round-none z p d known =
+    round-none z p d known hints t h =
         let y : listed w ≡ [] = none-long (listed w) (sym (q .1) ∙ z) in
-        record { is = λ go. d .is buffer ∙ sym (rw (q .0, y)); follows = tt }
+        record { is = λ go. d .is buffer ∙ sym (rw (q .0, y)); follows = tt; trusted = h }
 
     module _ (z : n ≡ 0 → ⊥) (h : isType (take len buffer) root ≡ true) (r : Round) (after known : List ℕ)
         (g : AddedRound c width from (take n list) buffer len r after known) where
@@ -102,8 +125,8 @@ module _ (c : List ℕ) (width root : ℕ) (buffer : List ℕ) (len from : ℕ) 
       goes-on go =
           g .is go ∙ ap (λ (l : List ℕ). nextRound go (addAll c width from l (ours buffer len))) (q .2) ∙ sym (rw (q .0) (some (listed w) (q .1) go))
 
-      pub round-adds : RoundIs c width root buffer len from r after known
-      round-adds = record { is = goes-on; follows = g .follows root h }
+      pub round-adds : (hints : List ℕ) (t : Trust) → Trusted c (halfOf hints) t → RoundIs c width root buffer len from r after known hints t
+      round-adds hints t k = record { is = goes-on; follows = g .follows root h; trusted = k }
 
 -- the adds of a round
 module _ (c : List ℕ) (width from : ℕ) (bs buffer : List ℕ) (len : ℕ) (d : Added) (after known : List ℕ)
@@ -130,38 +153,43 @@ module _ (book : List ℕ) (left : ℕ) where
   pub from-fits : ValidBook book → (k : ℕ) → k ≡ blocks book → k < 4294967296
   from-fits v k e = omega (arith, valid-size book v .few)
 
-pub record RoundsTo (o : Decision) (c : List ℕ) (width root : ℕ) (buffer : List ℕ) (at : ℕ) (known : List ℕ) (left : ℕ) : Type 0 where
+pub record RoundsTo (o : Decision) (c : List ℕ) (width root : ℕ) (buffer : List ℕ) (at : ℕ) (known : List ℕ) (left : ℕ) (hints : List ℕ) (t : Trust) : Type 0 where
   pub rest : o ≡ planFrom c width root left (ours buffer at)
   pub ready : Ready c buffer at known
   pub holds : isType (take at buffer) root ≡ true
+  pub trusted : Trusted c (halfOf hints) t
 
 pub rounds-start : (c : List ℕ) (width root : ℕ) (buffer : List ℕ) (len : ℕ) (known : List ℕ) → Ready c buffer len known → isType (take len buffer) root ≡ true
-    → RoundsTo (planFrom c width root 18 (ours buffer len)) c width root buffer len known 18
-rounds-start c width root buffer len known o h = record { rest = refl; ready = o; holds = h }
+    → (hints : List ℕ) (t : Trust) → Trusted c (halfOf hints) t
+    → RoundsTo (planFrom c width root 18 (ours buffer len)) c width root buffer len known 18 hints t
+rounds-start c width root buffer len known o h hints t k = record { rest = refl; ready = o; holds = h; trusted = k }
 
 module _ (o : Decision) (c : List ℕ) (width root : ℕ) (buffer : List ℕ) (at : ℕ) (known : List ℕ) (left : ℕ)
-    (inv : RoundsTo o c width root buffer at known left) where
+    (hints : List ℕ) (t : Trust) (inv : RoundsTo o c width root buffer at known left hints t) where
   pub rounds-ready : Ready c buffer at known
   rounds-ready = inv .ready
 
   pub rounds-holds : isType (take at buffer) root ≡ true
   rounds-holds = inv .holds
 
+  pub rounds-trusted : Trusted c (halfOf hints) t
+  rounds-trusted = inv .trusted
+
   pub rounds-end : left ≤ 0 → PlannedIs o (plan.Refused 15 at) buffer
   unfolding roundsThen planSaid
   rounds-end h = let q : left ≡ 0 = omega arith in record { is = sym (inv .rest ∙ rw q) }
 
-  module _ (l : 0 < left) (from : ℕ) (ef : from ≡ sweptFrom (left - 1) (take at buffer)) (r : Round) (after known′ : List ℕ)
-      (g : RoundIs c width root buffer at from r after known′) where
+  module _ (l : 0 < left) (from : ℕ) (ef : from ≡ sweptFrom (left - 1) (take at buffer)) (r : Round) (after known′ hints′ : List ℕ)
+      (g : RoundIs c width root buffer at from r after known′ hints′ t) where
     goes : o ≡ roundSaid (planFrom c width root (left - 1)) r after
     unfolding roundsThen
     goes = let q : left ≡ suc (left - 1) = omega arith in inv .rest ∙ ap (λ (k : ℕ). planFrom c width root k (ours buffer at)) q ∙ rw (← ef) (sym (g .is (planFrom c width root (left - 1))))
 
-    pub rounds-again : (k : ℕ) → r ≡ Again k → RoundsTo o c width root after k known′ (left - 1)
+    pub rounds-again : (k : ℕ) → r ≡ Again k → RoundsTo o c width root after k known′ (left - 1) hints′ t
     unfolding roundSaid
     rounds-again k e =
         let f : Follows c root (Again k) after known′ = rw e at (g .follows) in
-        record { rest = goes ∙ rw e; ready = f .0; holds = f .1 }
+        record { rest = goes ∙ rw e; ready = f .0; holds = f .1; trusted = g .trusted }
 
     pub rounds-is : (p : Plan) → r ≡ Is p → PlannedIs o p after
     unfolding roundSaid

@@ -3,13 +3,16 @@
 use mathlib.Core.Path.{_≡_}
 use mathlib.Core.Bool.{true, false}
 use mathlib.Core.List.{List}
-use Prim.Native.Nat.{ℕ}
+use Prim.Native.Nat.{ℕ, _/_}
 use lib.ListN.{length, take}
 use Rattle.type_book.specs.Book.{isType}
+use Rattle.type_index.specs.declared.Trust.{Trust}
+use Rattle.type_index.specs.Trust.{Trusted}
 use Rattle.resolve_walk.specs.Scratch.{zeroed}
 use Rattle.resolve_read_modify_write.specs.declared.Rmw.{Rmw}
 use Rattle.resolve_walk.specs.Walk.{Walk, walkOf}
 use Rattle.resolve_walk.specs.Reads.{listed, whole}
+use Rattle.plan_type_adds.specs.Knows.{Knows}
 use Rattle.closure.specs.Calls.{Ours}
 use Rattle.plan_adds.specs.declared.Added.{Added}
 use Rattle.plan_save.specs.declared.Plan.{Plan}
@@ -21,6 +24,15 @@ use Rattle.plan_save.specs.declared.Round.the-variants as round
 use Rattle.plan_save.specs.Rounds.{Decision, decided, lacking, refused, ruled, nextRound, notWhole, roundOf}
 use Rattle.plan_adds.specs.Adds.{ours, addAll}
 use Rattle.plan_adds.specs.State.{Ready, addedLength, addedSaid}
+
+-- the half of a lent index that is of the controller's book
+abbrev pub halfOf : List ℕ → List ℕ
+halfOf index = take (length index / 2) index
+
+-- before the first round: the marks say which of the controller's types our book knows, and what is said of the controller's half is so
+pub record Prepared (c book : List ℕ) (t : Trust) (hints known : List ℕ) : Type 0 where
+  pub knows : Knows c book known
+  pub trusted : Trusted c (halfOf hints) t
 
 -- an answer with our buffer
 unfoldable pub planSaid : Plan → List ℕ → Decision
@@ -39,10 +51,12 @@ abbrev pub Follows : List ℕ → ℕ → Round → List ℕ → List ℕ → Ty
 Follows c root (round.Again l) after known = Ready c after l known × (isType (take l after) root ≡ true)
 Follows c root (round.Is p) after known = Unit {0}
 
--- the promise of a round: what is said of it, whatever the rounds after it do, and what holds where one follows
-pub record RoundIs (c : List ℕ) (width root : ℕ) (buffer : List ℕ) (len from : ℕ) (r : Round) (after known : List ℕ) : Type 0 where
+-- the promise of a round: what is said of it, whatever the rounds after it do, what holds where one follows, and that what was said of the
+-- controller's half of the index still is so
+pub record RoundIs (c : List ℕ) (width root : ℕ) (buffer : List ℕ) (len from : ℕ) (r : Round) (after known hints : List ℕ) (t : Trust) : Type 0 where
   pub is : (go : Ours → Decision) → roundSaid go r after ≡ roundOf go c width from (walkOf (take len buffer) width root) (ours buffer len)
   pub follows : Follows c root r after known
+  pub trusted : Trusted c (halfOf hints) t
 
 -- what is said of an ask
 abbrev pub AskSaid : Walk → Asked → List ℕ → Type 0

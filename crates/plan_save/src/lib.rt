@@ -9,15 +9,16 @@ ghost use Rattle.enc_number.specs.Answer.{refusalOf};
 ghost use Rattle.type_book_check.specs.declared.BookCheck.the-variants.{Valid};
 ghost use Rattle.type_book_check.specs.Check.{ValidBook, checkBook, bookNumbers, checkRoot};
 ghost use Rattle.type_book_check.specs.declared.RootCheck.the-variants.{Root};
-ghost use Rattle.plan_type_adds.specs.Knows.{Knows};
+ghost use Rattle.type_index.specs.Trust.{Trusted};
 ghost use Rattle.resolve_walk.specs.Walk.{walkOf};
 ghost use Rattle.resolve_read_modify_write.specs.Calls.{rmwAnswer};
 ghost use Rattle.plan_save.specs.Rounds.{sweptFrom, planFrom};
 ghost use Rattle.plan_adds.specs.Adds.{ours};
 ghost use Rattle.plan_adds.specs.State.{Ready};
 ghost use Rattle.plan_save.specs.Call.{planRefusal, PlanIs};
-ghost use Rattle.plan_save.specs.State.{AskedIs, DecidedIs, AfterAdds, AddedRound, RoundIs, PlannedIs, PlannedIn};
+ghost use Rattle.plan_save.specs.State.{halfOf, Prepared, AskedIs, DecidedIs, AfterAdds, AddedRound, RoundIs, PlannedIs, PlannedIn};
 use enc_zeros::clear_numbers;
+use plan_adds::AddBy;
 use plan_adds::Added;
 use plan_adds::add_all;
 use plan_type_adds::mark_known;
@@ -29,7 +30,9 @@ use type_book_check::RootCheck;
 use type_book_check::check_book;
 use type_book_check::check_root;
 use type_book_check::refusal_of;
+use type_index::Trust;
 use type_index::fill_names;
+use type_index::hold_against;
 
 // The rounds at most, so also the asks. They suffice, whatever the books hold (the law `plan-few` of plan_decides).
 const ROUNDS: u32 = 18;
@@ -128,27 +131,16 @@ fn add_round(
     len: usize,
     controller: &[u8],
     index: &[u32],
+    by: AddBy,
     known: &mut [u8],
-    width: u8,
     list: &[u32],
     n: usize,
-    from: u32,
 ) -> Round
-    requires { ⌜ ValidBook (now controller) × Ready (now controller) (now buffer) len (now known) × (n ≤ length (now list)) ⌝ }
-    ensures { λ r. ⌜ AddedRound (now (controller .entry)) width from (take n (now (list .entry))) (now (buffer .entry)) len r (now (buffer .exit)) (now (known .exit)) ⌝ }
+    requires { ⌜ ValidBook (now controller) × Trusted (now controller) (halfOf (now index)) (by .trust) × Ready (now controller) (now buffer) len (now known) × (n ≤ length (now list)) ⌝ }
+    ensures { λ r. ⌜ AddedRound (now (controller .entry)) (by .width) (by .from) (take n (now (list .entry))) (now (buffer .entry)) len r (now (buffer .exit)) (now (known .exit)) ⌝ }
 {
     let half = index.len() / 2;
-    after_adds(add_all(
-        buffer,
-        len,
-        controller,
-        &index[..half],
-        known,
-        width,
-        list,
-        n,
-        from,
-    ))
+    after_adds(add_all(buffer, len, controller, &index[..half], by, known, list, n))
 }
 
 // One ask, and what follows from it, with a sweep from a block on if it lists any. The first half of the index is of the controller's book,
@@ -158,21 +150,20 @@ fn one_round(
     len: usize,
     controller: &[u8],
     index: &mut [u32],
+    by: AddBy,
     known: &mut [u8],
-    width: u8,
     root: u32,
     scratch: &mut [u32],
     list: &mut [u32],
-    from: u32,
 ) -> Round
-    requires { ⌜ ValidBook (now controller) × Ready (now controller) (now buffer) len (now known) × (isType (take len (now buffer)) root ≡ true) × (8192 ≤ length (now scratch)) × (4096 ≤ length (now list)) ⌝ }
-    ensures { λ r. ⌜ RoundIs (now (controller .entry)) width root (now (buffer .entry)) len from r (now (buffer .exit)) (now (known .exit)) ⌝ }
+    requires { ⌜ ValidBook (now controller) × Trusted (now controller) (halfOf (now index)) (by .trust) × Ready (now controller) (now buffer) len (now known) × (isType (take len (now buffer)) root ≡ true) × (8192 ≤ length (now scratch)) × (4096 ≤ length (now list)) ⌝ }
+    ensures { λ r. ⌜ RoundIs (now (controller .entry)) (by .width) root (now (buffer .entry)) len (by .from) r (now (buffer .exit)) (now (known .exit)) (now (index .exit)) (by .trust) ⌝ }
 {
     let half = index.len() / 2;
     let asked = ask(
         &buffer[..len],
         &mut index[half..],
-        width,
+        by.width,
         root,
         scratch,
         list,
@@ -181,9 +172,16 @@ fn one_round(
         Asked::NotWhole(k) => Round::Is(Plan::Refused(k, len)),
         Asked::Lists(n) => {
             if n == 0 {
-                return Round::Is(decide(&buffer[..len], &index[half..], width, root, scratch, len));
+                return Round::Is(decide(
+                    &buffer[..len],
+                    &index[half..],
+                    by.width,
+                    root,
+                    scratch,
+                    len,
+                ));
             }
-            add_round(buffer, len, controller, index, known, width, list, n, from)
+            add_round(buffer, len, controller, index, by, known, list, n)
         }
     }
 }
@@ -206,30 +204,31 @@ fn plan_rounds(
     len: usize,
     controller: &[u8],
     index: &mut [u32],
+    trust: Trust,
     known: &mut [u8],
     width: u8,
     root: u32,
     scratch: &mut [u32],
-    list: &mut [u32],
 ) -> Plan
-    requires { ⌜ ValidBook (now controller) × Ready (now controller) (now buffer) len (now known) × (isType (take len (now buffer)) root ≡ true) × (8192 ≤ length (now scratch)) × (4096 ≤ length (now list)) ⌝ }
+    requires { ⌜ ValidBook (now controller) × Trusted (now controller) (halfOf (now index)) trust × Ready (now controller) (now buffer) len (now known) × (isType (take len (now buffer)) root ≡ true) × (8192 ≤ length (now scratch)) ⌝ }
     ensures { λ r. ⌜ PlannedIs (planFrom (now (controller .entry)) width root 18 (ours (now (buffer .entry)) len)) r (now (buffer .exit)) ⌝ }
 {
+    let mut list = [0u32; 4096];
     let mut at = len;
     let mut left = ROUNDS;
     while left > 0 {
         let from = swept_from(&buffer[..at], left);
+        let by = AddBy { width, from, trust };
         let here = one_round(
             buffer,
             at,
             controller,
             index,
+            by,
             known,
-            width,
             root,
             scratch,
-            list,
-            from,
+            &mut list,
         );
         match here {
             Round::Again(l) => {
@@ -246,14 +245,17 @@ fn plan_rounds(
 
 // ---- the call
 
-// Makes the index of the controller's book, and marks which of its types our book knows.
-fn prepare(book: &[u8], controller: &[u8], index: &mut [u32], known: &mut [u8])
+// Makes the index of the controller's book in the first half, and marks which of its types our book knows. The index is held against that
+// book once, so that no name which the book lacks costs a search of it.
+fn prepare(book: &[u8], controller: &[u8], index: &mut [u32], known: &mut [u8]) -> Trust
     requires { ⌜ ValidBook (now controller) × (length (now known) ≡ 65536) ⌝ }
-    ensures { λ _. ⌜ Knows (now (controller .entry)) (now (book .entry)) (now (known .exit)) ⌝ }
+    ensures { λ r. ⌜ Prepared (now (controller .entry)) (now (book .entry)) r (now (index .exit)) (now (known .exit)) ⌝ }
 {
     let half = index.len() / 2;
     fill_names(controller, &mut index[..half]);
-    mark_known(book, controller, &index[..half], known);
+    let trust = hold_against(controller, &index[..half], Trust::Unknown);
+    mark_known(book, controller, &index[..half], trust, known);
+    trust
 }
 
 // The plan where both books, the root and the scratch were checked.
@@ -270,18 +272,17 @@ fn plan_in(
     ensures { λ r. ⌜ PlannedIs (planFrom (now (controller .entry)) width root 18 (ours (now (buffer .entry)) len)) r (now (buffer .exit)) ⌝ }
 {
     let mut known = [0u8; 65536];
-    let mut list = [0u32; 4096];
-    prepare(&buffer[..len], controller, index, &mut known);
+    let trust = prepare(&buffer[..len], controller, index, &mut known);
     plan_rounds(
         buffer,
         len,
         controller,
         index,
+        trust,
         &mut known,
         width,
         root,
         scratch,
-        &mut list,
     )
 }
 

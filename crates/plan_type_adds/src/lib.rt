@@ -8,6 +8,7 @@ ghost use Rattle.type_book.specs.Book.{isType};
 ghost use Rattle.type_provider.specs.Find.{searched as searchedOf};
 ghost use Rattle.type_book_check.specs.declared.BookCheck.the-variants.{Valid};
 ghost use Rattle.type_book_check.specs.Check.{ValidBook, checkBook};
+ghost use Rattle.type_index.specs.Trust.{Trusted};
 ghost use Rattle.type_cache.specs.Same.{definitionOf};
 ghost use Rattle.plan_type_adds.specs.Knows.{hasMark, MarkedBy, Knows, AppendedIn};
 use enc_zeros::clear_bytes;
@@ -37,30 +38,31 @@ fn is_marked(known: &[u8], n: u32) -> bool
 }
 
 // Marks the controller's type that has the name of block i of our book, if block i is a type block and there is one.
-fn mark_block(book: &[u8], controller: &[u8], index: &[u32], known: &mut [u8], i: u32)
-    requires { ⌜ ValidBook (now controller) × (length (now known) ≡ 65536) ⌝ }
+fn mark_block(book: &[u8], controller: &[u8], index: &[u32], trust: Trust, known: &mut [u8], i: u32)
+    requires { ⌜ ValidBook (now controller) × Trusted (now controller) (now index) trust × (length (now known) ≡ 65536) ⌝ }
     ensures { λ _. ⌜ MarkedBy (now (controller .entry)) (now (book .entry)) i (now (known .entry)) (now (known .exit)) ⌝ }
 {
     if !block::is_type(book, i) {
         return;
     }
-    let found = find_in(controller, index, Trust::Unknown, block::name(book, i));
+    let found = find_in(controller, index, trust, block::name(book, i));
     let Found::At(n) = found else {
         return;
     };
     known[n as usize] = 1;
 }
 
-// Marks each of the controller's types whose name our book knows. The index is one of the controller's book.
-pub fn mark_known(book: &[u8], controller: &[u8], index: &[u32], known: &mut [u8])
-    requires { ⌜ ValidBook (now controller) × (length (now known) ≡ 65536) ⌝ }
+// Marks each of the controller's types whose name our book knows. The index is one of the controller's book; once it was held against that
+// book, a name of ours that the controller's book lacks costs no search of it.
+pub fn mark_known(book: &[u8], controller: &[u8], index: &[u32], trust: Trust, known: &mut [u8])
+    requires { ⌜ ValidBook (now controller) × Trusted (now controller) (now index) trust × (length (now known) ≡ 65536) ⌝ }
     ensures { λ _. ⌜ Knows (now (controller .entry)) (now (book .entry)) (now (known .exit)) ⌝ }
 {
     clear_bytes(known);
     let n = searched(book);
     let mut i: u32 = 0;
     while i < n {
-        mark_block(book, controller, index, known, i);
+        mark_block(book, controller, index, trust, known, i);
         i += 1;
     }
 }

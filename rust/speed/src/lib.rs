@@ -50,6 +50,16 @@ pub fn alternating(pairs: usize) -> (Vec<u8>, Vec<u8>) {
     (book(&ours), book(&all))
 }
 
+/// The root of a controller's book of 4,096 types, with 4,096 types of ours that the controller's book lacks and the root doesn't need: our
+/// book and the controller's.
+pub fn known_to_us_alone() -> (Vec<u8>, Vec<u8>) {
+    let all = reached();
+    let alone: Vec<Type> = (0..TYPES)
+        .map(|n| Type::new(&format!("ST_Ours{n}")).id(2).size(2))
+        .collect();
+    ([&all[..5 * 512], &book(&alone)].concat(), all)
+}
+
 /// The leaves of the reads: name, id, size.
 pub const LEAVES: [(&str, u32, u32); 8] = [
     ("INT", 2, 2),

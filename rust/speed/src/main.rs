@@ -149,6 +149,13 @@ fn plans() {
         &all[..5 * 512],
         &all,
     );
+    let (ours, all) = speed::known_to_us_alone();
+    plan(
+        "the same, with 4,096 types of ours that the controller's book lacks",
+        15,
+        &ours,
+        &all,
+    );
     let (ours, all) = speed::alternating(2_000);
     plan("types of ours alternate with lacking ones, 2,000 times", 1, &ours, &all);
 }

@@ -9,59 +9,45 @@ use Rattle.plan_adds.proofs.sweep.Reads as sweep-reads
 
 ruleset exits = (all-lacks, all-full, all-swept)
 
--- src/lib.rt:225:9
 add-listed-requires : tie.Need-add-listed-requires
 add-listed-requires c κs = search needs
 
--- src/lib.rt:227:21
 enum-known-added : tie.Need-enum-known-added
 enum-known-added c = search needs
 
--- src/lib.rt:227:39
 sweep-requires : tie.Need-sweep-requires
-sweep-requires c κs = (search needs, search all-ready)
+sweep-requires c κs = (search needs, search needs, search all-ready)
 
--- src/lib.rt:228:25
 enum-known-added-2 : tie.Need-enum-known-added-2
 enum-known-added-2 c = search needs
 
--- src/lib.rt:229:21
 enum-known-added-3 : tie.Need-enum-known-added-3
 enum-known-added-3 c = search needs
 
--- src/lib.rt:211:1
 same-length : tie.Need-same-length
 same-length c = search needs
 
--- src/lib.rt:211:1
 same-length-2 : tie.Need-same-length-2
 same-length-2 c = search needs
 
--- src/lib.rt:211:1
 returns : tie.Need-returns
 returns c = search exits
 
--- src/lib.rt:211:1
 same-length-3 : tie.Need-same-length-3
 same-length-3 c = search needs
 
--- src/lib.rt:211:1
 same-length-4 : tie.Need-same-length-4
 same-length-4 c = search needs
 
--- src/lib.rt:211:1
 returns-2 : tie.Need-returns-2
 returns-2 c = search exits
 
--- src/lib.rt:211:1
 same-length-5 : tie.Need-same-length-5
 same-length-5 c = search needs
 
--- src/lib.rt:211:1
 same-length-6 : tie.Need-same-length-6
 same-length-6 c = search needs
 
--- src/lib.rt:211:1
 returns-3 : tie.Need-returns-3
 returns-3 c = search exits
 

@@ -10,86 +10,67 @@ use Rattle.plan_adds.proofs.add_listed.Tie as tie
 ruleset exits = (adds-end, adds-lacks, adds-full)
 
 abbrev Inv-loop : tie.InvT-loop
-Inv-loop buffer₀ len controller index known₀ list n at₀ i₀ buffer known at i =
+Inv-loop buffer₀ len controller index trust known₀ list n at₀ i₀ buffer known at i =
     AddsTo (addListed controller (take n list) (ours buffer₀ len)) controller list buffer₀ len n i buffer at known × (i ≤ n) × (length buffer ≡ length buffer₀) × (length known ≡ length known₀)
 
 abbrev μ-loop : tie.MeasureT-loop
-μ-loop buffer₀ len controller index known₀ list n at₀ i₀ buffer known at i =
+μ-loop buffer₀ len controller index trust known₀ list n at₀ i₀ buffer known at i =
     n - i
 
--- src/lib.rt:104:5
 loop-holds : tie.Need-loop-holds Inv-loop μ-loop
 loop-holds c = (search adds-start, search needs, search needs, search needs)
 
--- src/lib.rt:105:17
 mul-b : tie.Need-mul-b Inv-loop μ-loop
 mul-b c = search needs
 
--- src/lib.rt:105:17
 shared-slice-read-b : tie.Need-shared-slice-read-b Inv-loop μ-loop
 shared-slice-read-b c = search needs
 
--- src/lib.rt:106:13
 fetch-requires : tie.Need-fetch-requires Inv-loop μ-loop
-fetch-requires c κs = (search needs, search adds-ready)
+fetch-requires c κs = (search needs, search needs, search adds-ready)
 
--- src/lib.rt:108:27
 enum-known-fetched : tie.Need-enum-known-fetched Inv-loop μ-loop
 enum-known-fetched c = search needs
 
--- src/lib.rt:112:17
 enum-told : tie.Need-enum-told Inv-loop μ-loop
 enum-told c = search needs
 
--- src/lib.rt:112:17
 same-length : tie.Need-same-length Inv-loop μ-loop
 same-length c = search needs
 
--- src/lib.rt:112:17
 same-length-2 : tie.Need-same-length-2 Inv-loop μ-loop
 same-length-2 c = search needs
 
--- src/lib.rt:112:17
 returns : tie.Need-returns Inv-loop μ-loop
 returns c = search exits
 
--- src/lib.rt:115:17
 enum-told-2 : tie.Need-enum-told-2 Inv-loop μ-loop
 enum-told-2 c = search needs
 
--- src/lib.rt:115:17
 same-length-3 : tie.Need-same-length-3 Inv-loop μ-loop
 same-length-3 c = search needs
 
--- src/lib.rt:115:17
 same-length-4 : tie.Need-same-length-4 Inv-loop μ-loop
 same-length-4 c = search needs
 
--- src/lib.rt:115:17
 returns-2 : tie.Need-returns-2 Inv-loop μ-loop
 returns-2 c = search exits
 
--- src/lib.rt:118:9
 add-i : tie.Need-add-i Inv-loop μ-loop
 add-i c = search needs
 
--- src/lib.rt:104:5
 loop-less : tie.Need-loop-less Inv-loop μ-loop
 loop-less c = search needs
 
--- src/lib.rt:104:5
 loop-again : tie.Need-loop-again Inv-loop μ-loop
 loop-again c = (search adds-again, search needs, search needs, search needs)
 
--- src/lib.rt:90:1
 same-length-5 : tie.Need-same-length-5 Inv-loop μ-loop
 same-length-5 c = search needs
 
--- src/lib.rt:90:1
 same-length-6 : tie.Need-same-length-6 Inv-loop μ-loop
 same-length-6 c = search needs
 
--- src/lib.rt:90:1
 returns-3 : tie.Need-returns-3 Inv-loop μ-loop
 returns-3 c = search exits
 

@@ -1,18 +1,14 @@
-use Rattle.type_index.proofs.Trusts.{unknown-trusted}
 use Rattle.plan_adds.proofs.Fetches.{theirs-is}
 use borrow.Author.Needs.{needs}
 use Rattle.plan_adds.proofs.find_theirs.Statement.{statement}
 use Rattle.plan_adds.proofs.find_theirs.Tie as tie
 
--- src/lib.rt:58:32
 type-name-requires : tie.Need-type-name-requires
 type-name-requires c κs = search needs
 
--- src/lib.rt:58:5
 find-in-requires : tie.Need-find-in-requires
-find-in-requires c κs = search unknown-trusted
+find-in-requires c κs = search needs
 
--- src/lib.rt:54:1
 returns : tie.Need-returns
 returns c = search theirs-is
 

@@ -13,58 +13,46 @@ use Rattle.plan_adds.proofs.sweep_block.Reads as sweep-block-reads
 ruleset exits = (sweeps-end, sweeps-stop)
 
 abbrev Inv-loop : tie.InvT-loop
-Inv-loop buffer₀ len controller index known₀ width from at₀ i₀ due₀ buffer known at i due =
-    SweepsTo (sweep controller width from (ours buffer₀ len)) controller width buffer₀ len i due buffer at known × (length buffer ≡ length buffer₀) × (length known ≡ length known₀)
+Inv-loop buffer₀ len controller index by known₀ at₀ i₀ due₀ buffer known at i due =
+    SweepsTo (sweep controller (by .width) (by .from) (ours buffer₀ len)) controller (by .width) buffer₀ len i due buffer at known × (length buffer ≡ length buffer₀) × (length known ≡ length known₀)
 
 abbrev μ-loop : tie.MeasureT-loop
-μ-loop buffer₀ len controller index known₀ width from at₀ i₀ due₀ buffer known at i due =
+μ-loop buffer₀ len controller index by known₀ at₀ i₀ due₀ buffer known at i due =
     65536 - i
 
--- src/lib.rt:198:5
 loop-holds : tie.Need-loop-holds Inv-loop μ-loop
 loop-holds c = (search sweeps-start, search needs, search needs)
 
--- src/lib.rt:199:26
 cast-if1 : tie.Need-cast-if1 Inv-loop μ-loop
 cast-if1 c = search needs
 
--- src/lib.rt:200:13
 same-length : tie.Need-same-length Inv-loop μ-loop
 same-length c = search needs
 
--- src/lib.rt:200:13
 same-length-2 : tie.Need-same-length-2 Inv-loop μ-loop
 same-length-2 c = search needs
 
--- src/lib.rt:200:13
 returns : tie.Need-returns Inv-loop μ-loop
 returns c = search exits
 
--- src/lib.rt:202:13
 sweep-block-requires : tie.Need-sweep-block-requires Inv-loop μ-loop
-sweep-block-requires c κs = (search needs, search sweeps-ready)
+sweep-block-requires c κs = (search needs, search needs, search sweeps-ready)
 
--- src/lib.rt:205:9
 add-i : tie.Need-add-i Inv-loop μ-loop
 add-i c = search needs
 
--- src/lib.rt:198:5
 loop-less : tie.Need-loop-less Inv-loop μ-loop
 loop-less c = search needs
 
--- src/lib.rt:198:5
 loop-again : tie.Need-loop-again Inv-loop μ-loop
 loop-again c = (search sweeps-again, search needs, search needs)
 
--- src/lib.rt:183:1
 same-length-3 : tie.Need-same-length-3 Inv-loop μ-loop
 same-length-3 c = search needs
 
--- src/lib.rt:183:1
 same-length-4 : tie.Need-same-length-4 Inv-loop μ-loop
 same-length-4 c = search needs
 
--- src/lib.rt:183:1
 returns-2 : tie.Need-returns-2 Inv-loop μ-loop
 returns-2 c = search exits
 

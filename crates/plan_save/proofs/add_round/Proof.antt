@@ -1,4 +1,4 @@
-use Rattle.plan_save.proofs.Turns.{half-cut, half-of, adds-are}
+use Rattle.plan_save.proofs.Turns.{half-cut, adds-are}
 use borrow.Author.Needs.{needs}
 use Rattle.plan_save.proofs.add_round.Statement.{statement}
 use Rattle.plan_save.proofs.add_round.Tie as tie
@@ -9,7 +9,7 @@ use Rattle.plan_save.proofs.after_adds.Reads as after-adds-reads
 
 -- src/lib.rt:147:9
 slice-aggregate-add-all : tie.Need-slice-aggregate-add-all
-slice-aggregate-add-all c = search (half-cut, half-of)
+slice-aggregate-add-all c = search half-cut
 
 -- src/lib.rt:143:16
 add-all-requires : tie.Need-add-all-requires

@@ -1,5 +1,5 @@
 use Rattle.plan_adds.proofs.Fetches.{ready-cut, ready-fits}
-use Rattle.plan_save.proofs.Turns.{ready-book, lists-fit, round-not-whole, round-none, round-adds}
+use Rattle.plan_save.proofs.Turns.{ready-book, lists-fit, half-kept, round-not-whole, round-none, round-adds}
 use borrow.Author.Needs.{needs}
 use Rattle.plan_save.proofs.one_round.Statement.{statement}
 use Rattle.plan_save.proofs.one_round.Tie as tie
@@ -9,137 +9,104 @@ use Rattle.plan_save.proofs.add_round.Reads as add-round-reads
 use Rattle.plan_save.proofs.ask.Reads as ask-reads
 use Rattle.plan_save.proofs.decide.Reads as decide-reads
 
-ruleset exits = (round-not-whole, round-none, round-adds)
+ruleset exits = (half-kept, round-not-whole, round-none, round-adds)
 
--- src/lib.rt:174:9
 slice-reshare-prefix-ask : tie.Need-slice-reshare-prefix-ask
 slice-reshare-prefix-ask c = search ready-fits
 
--- src/lib.rt:174:9
 slice-aggregate-ask : tie.Need-slice-aggregate-ask
 slice-aggregate-ask c = search ready-cut
 
--- src/lib.rt:175:9
 mul-ask : tie.Need-mul-ask
 mul-ask c = search needs
 
--- src/lib.rt:175:9
 sub-ask : tie.Need-sub-ask
 sub-ask c = search needs
 
--- src/lib.rt:175:9
 part-ask-start : tie.Need-part-ask-start
 part-ask-start c = search needs
 
--- src/lib.rt:175:9
 part-ask-end : tie.Need-part-ask-end
 part-ask-end c = search needs
 
--- src/lib.rt:173:9
 ask-requires : tie.Need-ask-requires
 ask-requires c κs = (search ready-book, search needs, search needs, search needs)
 
--- src/lib.rt:182:25
 enum-known-asked : tie.Need-enum-known-asked
 enum-known-asked c = search needs
 
--- src/lib.rt:183:22
 enum-known-asked-2 : tie.Need-enum-known-asked-2
 enum-known-asked-2 c = search needs
 
--- src/lib.rt:185:41
 slice-reshare-prefix-decide : tie.Need-slice-reshare-prefix-decide
 slice-reshare-prefix-decide c = search ready-fits
 
--- src/lib.rt:185:41
 slice-aggregate-decide : tie.Need-slice-aggregate-decide
 slice-aggregate-decide c = search ready-cut
 
--- src/lib.rt:185:57
 mul-decide : tie.Need-mul-decide
 mul-decide c = search needs
 
--- src/lib.rt:185:57
 sub-decide : tie.Need-sub-decide
 sub-decide c = search needs
 
--- src/lib.rt:185:57
 part-decide-start : tie.Need-part-decide-start
 part-decide-start c = search needs
 
--- src/lib.rt:185:57
 part-decide-end : tie.Need-part-decide-end
 part-decide-end c = search needs
 
--- src/lib.rt:185:34
 decide-requires : tie.Need-decide-requires
 decide-requires c κs = (search ready-book, search needs, search needs)
 
--- src/lib.rt:185:17
 same-length : tie.Need-same-length
 same-length c = search needs
 
--- src/lib.rt:185:17
 same-length-2 : tie.Need-same-length-2
 same-length-2 c = search needs
 
--- src/lib.rt:185:17
 same-length-3 : tie.Need-same-length-3
 same-length-3 c = search needs
 
--- src/lib.rt:185:17
 same-length-4 : tie.Need-same-length-4
 same-length-4 c = search needs
 
--- src/lib.rt:185:17
 returns : tie.Need-returns
 returns c = search exits
 
--- src/lib.rt:187:13
 add-round-requires : tie.Need-add-round-requires
-add-round-requires c κs = (search needs, search needs, search (lists-fit, needs))
+add-round-requires c κs = (search needs, search half-kept, search needs, search (lists-fit, needs))
 
--- src/lib.rt:157:1
 same-length-5 : tie.Need-same-length-5
 same-length-5 c = search needs
 
--- src/lib.rt:157:1
 same-length-6 : tie.Need-same-length-6
 same-length-6 c = search needs
 
--- src/lib.rt:157:1
 same-length-7 : tie.Need-same-length-7
 same-length-7 c = search needs
 
--- src/lib.rt:157:1
 same-length-8 : tie.Need-same-length-8
 same-length-8 c = search needs
 
--- src/lib.rt:157:1
 returns-2 : tie.Need-returns-2
 returns-2 c = search exits
 
--- src/lib.rt:157:1
 same-length-9 : tie.Need-same-length-9
 same-length-9 c = search needs
 
--- src/lib.rt:157:1
 same-length-10 : tie.Need-same-length-10
 same-length-10 c = search needs
 
--- src/lib.rt:157:1
 same-length-11 : tie.Need-same-length-11
 same-length-11 c = search needs
 
--- src/lib.rt:157:1
 same-length-12 : tie.Need-same-length-12
 same-length-12 c = search needs
 
--- src/lib.rt:157:1
 same-length-13 : tie.Need-same-length-13
 same-length-13 c = search needs
 
--- src/lib.rt:157:1
 returns-3 : tie.Need-returns-3
 returns-3 c = search exits
 

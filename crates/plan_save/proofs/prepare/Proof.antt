@@ -1,43 +1,43 @@
-use Rattle.plan_save.proofs.Turns.{half-cut, half-of}
+use Rattle.plan_save.proofs.Turns.{half-cut, half-of, half-held, prepared}
 use borrow.Author.Needs.{needs}
 use Rattle.plan_save.proofs.prepare.Statement.{statement}
 use Rattle.plan_save.proofs.prepare.Tie as tie
 
--- src/lib.rt:215:28
 slice-relend-prefix-fill-names : tie.Need-slice-relend-prefix-fill-names
 slice-relend-prefix-fill-names c = search needs
 
--- src/lib.rt:215:28
 slice-aggregate-fill-names : tie.Need-slice-aggregate-fill-names
-slice-aggregate-fill-names c = search (half-cut, half-of)
+slice-aggregate-fill-names c = search half-cut
 
--- src/lib.rt:215:5
 fill-names-requires : tie.Need-fill-names-requires
 fill-names-requires c κs = search needs
 
--- src/lib.rt:216:34
+slice-reshare-prefix-hold-against : tie.Need-slice-reshare-prefix-hold-against
+slice-reshare-prefix-hold-against c = search needs
+
+slice-aggregate-hold-against : tie.Need-slice-aggregate-hold-against
+slice-aggregate-hold-against c = search half-of
+
+hold-against-requires : tie.Need-hold-against-requires
+hold-against-requires c κs = search needs
+
 slice-reshare-prefix-mark-known : tie.Need-slice-reshare-prefix-mark-known
 slice-reshare-prefix-mark-known c = search needs
 
--- src/lib.rt:216:34
 slice-aggregate-mark-known : tie.Need-slice-aggregate-mark-known
-slice-aggregate-mark-known c = search (half-cut, half-of)
+slice-aggregate-mark-known c = search half-of
 
--- src/lib.rt:216:5
 mark-known-requires : tie.Need-mark-known-requires
-mark-known-requires c κs = search needs
+mark-known-requires c κs = (search needs, search half-held, search needs)
 
--- src/lib.rt:210:1
 same-length : tie.Need-same-length
 same-length c = search needs
 
--- src/lib.rt:210:1
 same-length-2 : tie.Need-same-length-2
 same-length-2 c = search needs
 
--- src/lib.rt:210:1
 returns : tie.Need-returns
-returns c = search needs
+returns c = search prepared
 
 pub prepare-spec : {M : Type 1} → statement M
 prepare-spec =
@@ -46,6 +46,9 @@ prepare-spec =
     slice-relend-prefix-fill-names
     slice-aggregate-fill-names
     fill-names-requires
+    slice-reshare-prefix-hold-against
+    slice-aggregate-hold-against
+    hold-against-requires
     slice-reshare-prefix-mark-known
     slice-aggregate-mark-known
     mark-known-requires

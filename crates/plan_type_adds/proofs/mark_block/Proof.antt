@@ -1,50 +1,38 @@
-use Rattle.type_index.proofs.Trusts.{unknown-trusted}
 use Rattle.plan_type_adds.proofs.Knowing.{mark-other, mark-lacks, mark-below, mark-at}
 use borrow.Author.Needs.{needs}
 use Rattle.plan_type_adds.proofs.mark_block.Statement.{statement}
 use Rattle.plan_type_adds.proofs.mark_block.Tie as tie
 
--- src/lib.rt:43:9
 is-type-requires : tie.Need-is-type-requires
 is-type-requires c κs = search needs
 
--- src/lib.rt:44:9
 returns : tie.Need-returns
 returns c = search mark-other
 
--- src/lib.rt:46:44
 name-requires : tie.Need-name-requires
 name-requires c κs = search needs
 
--- src/lib.rt:46:9
 find-in-requires : tie.Need-find-in-requires
-find-in-requires c κs = search unknown-trusted
+find-in-requires c κs = search needs
 
--- src/lib.rt:47:19
 enum-known-found : tie.Need-enum-known-found
 enum-known-found c = search needs
 
--- src/lib.rt:48:9
 enum-told : tie.Need-enum-told
 enum-told c = search needs
 
--- src/lib.rt:48:9
 returns-2 : tie.Need-returns-2
 returns-2 c = search mark-lacks
 
--- src/lib.rt:50:11
 cast-known : tie.Need-cast-known
 cast-known c = search needs
 
--- src/lib.rt:50:5
 slice-write-known : tie.Need-slice-write-known
 slice-write-known c = search mark-below
 
--- src/lib.rt:39:1
 same-length : tie.Need-same-length
 same-length c = search needs
 
--- src/lib.rt:39:1
 returns-3 : tie.Need-returns-3
 returns-3 c = search mark-at
 
