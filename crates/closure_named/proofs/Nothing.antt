@@ -48,7 +48,7 @@ module _ (c : List ℕ) (width : ℕ) (name : List ℕ) (w : Theirs c width name
         more tt (fetched-at is (next c (bytes m) s) (each-rest g) (sound-next c width t name w (bytes m) is s (each-first g) o)
         (found-next c width t name w (bytes m) is s (each-first g) o name t e) (each-rest f))
 
-    listing-at : (is : List Call) (s : Ours) → Each c (Lent c) s is → Sound c t name s → find (bookOf s) name ≡ At t
+    pub listing-at : (is : List Call) (s : Ours) → Each c (Lent c) s is → Sound c t name s → find (bookOf s) name ≡ At t
         → asksListing c width t is s ≡ namedListing c width name is s
     unfolding asksListing namedListing
     listing-at [] s g o e = refl
@@ -205,7 +205,7 @@ module _ (c : List ℕ) (width : ℕ) (name : List ℕ) (w : Theirs c width name
 -- ---- the theorem
 
 -- a name that a valid book defines is of the form
-name-formed : (book : List ℕ) → ValidBook book → (x : List ℕ) → Defined book x → isRootName x ≡ true
+pub name-formed : (book : List ℕ) → ValidBook book → (x : List ℕ) → Defined book x → isRootName x ≡ true
 unfolding isRootName
 name-formed book v x d =
     let n : ℕ = d .at in

@@ -115,7 +115,7 @@ fn fitting(n: u32, room: usize) -> u32
 
 // What resolving the fields of type block t answers, with room for that many records. A record that does not fit is refused
 // before its field is looked up.
-fn fields_answer(book: &[u8], index: &[u32], width: u8, t: u32, room: usize) -> FieldsAnswer
+pub fn fields_answer(book: &[u8], index: &[u32], width: u8, t: u32, room: usize) -> FieldsAnswer
     requires { ⌜ ValidBook (now book) × (isType (now book) t ≡ true) ⌝ }
     ensures { λ r. ⌜ r ≡ fieldsAnswer (now (book .entry)) width t room ⌝ }
 {
