@@ -8,7 +8,7 @@ use borrow.Author.Tests.{eqb-true, eqb-false, not-true, not-false}
 use lib.Dec.{eqb}
 use lib.ListN.{length, getD, take, drop, set, length-set, length-drop}
 use Rattle.type_book.specs.Book.{blocks, isType, fieldsOf, entriesOf, nameOf}
-use Rattle.type_provider.specs.Find.{find}
+use Rattle.type_provider.specs.Find.{find, isFound}
 use Rattle.type_provider.specs.declared.Found.{Found}
 use Rattle.type_provider.specs.declared.Found.the-variants.{At, Nothing}
 use Rattle.type_book_check.specs.declared.BookCheck.the-variants.{Valid}
@@ -16,7 +16,7 @@ use Rattle.type_book_check.specs.Check.{checkBook, ValidBook}
 use Rattle.type_book_check.proofs.Valid.{valid-type, valid-size, valid-below, valid-own}
 use Rattle.type_book_check.proofs.Numbers.{valid-number}
 use Rattle.type_cache.specs.declared.Appended.the-variants.{Done, Refused}
-use Rattle.type_cache.specs.Append.{isFound, isKnown, hasRoom, appendRefusal, CopyIs, AppendIs, appendBuffer}
+use Rattle.type_cache.specs.Append.{isKnown, hasRoom, appendRefusal, CopyIs, AppendIs, appendBuffer}
 use Rattle.type_cache.specs.Same.{blocksOf, definitionOf}
 use Rattle.type_cache.proofs.Appends.{refused-known, refused-none, refused-room, append-refused, append-done, append-fits, unknown, room-fits}
 use Rattle.type_cache.proofs.Definitions.{same-sym, same-type}
@@ -40,11 +40,9 @@ at-same : (m n : ℕ) → At m ≡ At n → m ≡ n
 at-same m n e = cc
 
 known-of : (f : Found) (k : ℕ) → f ≡ At k → isFound f ≡ true
-unfolding isFound
 known-of f k e = rw e
 
 known-none : (f : Found) → f ≡ Nothing → isFound f ≡ false
-unfolding isFound
 known-none f e = rw e
 
 module _ (c : List ℕ) (w : ValidBook c) (n : ℕ) (t : isType c n ≡ true) (buffer : List ℕ) (len : ℕ) (b : checkBook buffer len ≡ Valid)

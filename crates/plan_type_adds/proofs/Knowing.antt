@@ -10,14 +10,14 @@ use lib.Seq.{getD-set-same, getD-set-other}
 use lib.Dec.{eqb}
 use Rattle.type_book.specs.Book.{blocks, isType, nameOf, isNamed}
 use Rattle.type_provider.proofs.Numbers.{found-is, found-says}
-use Rattle.type_provider.specs.Find.{searched, findFrom, find}
+use Rattle.type_provider.specs.Find.{searched, findFrom, find, isFound}
 use Rattle.type_provider.specs.declared.Found.{Found}
 use Rattle.type_provider.specs.declared.Found.the-variants.{At, Nothing}
 use Rattle.type_provider.proofs.Finds.{named-kind, named-name, named-own}
 use Rattle.type_index.specs.Index.{FoundBy}
 use Rattle.type_book_check.specs.Check.{ValidBook}
 use Rattle.type_book_check.proofs.Valid.{valid-own, valid-unique, valid-size, valid-below}
-use Rattle.type_cache.specs.Append.{isFound, isKnown}
+use Rattle.type_cache.specs.Append.{isKnown}
 use Rattle.plan_type_adds.specs.Knows.{hasMark, Knows, MarkedBy}
 
 -- ---- one mark
@@ -121,7 +121,7 @@ module _ (c book known : List ℕ) (i n : ℕ) (inv : KnowsTo c book known i n) 
   knows-long = inv .long
 
   pub knows-again : (l : i < n) (known′ : List ℕ) → MarkedBy c book i known known′ → KnowsTo c book known′ (i + 1) n
-  unfolding findFrom isFound
+  unfolding findFrom
   knows-again l known′ k =
       record {
         long = k .long ∙ inv .long;
@@ -139,7 +139,7 @@ module _ (c book known : List ℕ) (i n : ℕ) (inv : KnowsTo c book known i n) 
       turn m false e = let q : n - i ≡ suc (n - (i + 1)) = omega arith in rw (q, e)
 
   pub knows-end : n ≤ i → Knows c book known
-  unfolding findFrom isFound
+  unfolding findFrom
   knows-end l =
       record {
         long = inv .long;

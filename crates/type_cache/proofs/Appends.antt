@@ -11,13 +11,13 @@ use lib.Seq.{length-take-le, take-length, paste, paste-zero, paste-suc}
 use lib.Dec.{eqb, leb}
 use Rattle.enc_number.specs.Answer.{refusalOf}
 use Rattle.type_book.specs.Book.{blocks, fieldsOf, entriesOf, nameOf}
-use Rattle.type_provider.specs.Find.{find}
+use Rattle.type_provider.specs.Find.{find, isFound}
 use Rattle.type_provider.specs.declared.Found.{Found}
 use Rattle.type_provider.specs.declared.Found.the-variants.{At, Nothing}
 use Rattle.type_book_check.specs.Check.{checkBook, bookNumbers}
 use Rattle.type_book_check.specs.declared.BookCheck.{BookCheck}
 use Rattle.type_book_check.specs.declared.BookCheck.the-variants.{Valid, Size, Sum, Form, Doubled}
-use Rattle.type_cache.specs.Append.{isOneType, additionCheck, additionRefusal, isFound, isKnown, hasRoom, orNext, appendRefusal, joined, CopyIs, appendCall, appendBuffer, AppendIs}
+use Rattle.type_cache.specs.Append.{isOneType, additionCheck, additionRefusal, isKnown, hasRoom, orNext, appendRefusal, joined, CopyIs, appendCall, appendBuffer, AppendIs}
 use Rattle.type_cache.specs.declared.Appended.the-variants.{Done, Refused}
 use Rattle.type_book_check.proofs.Numbers.{zero-valid}
 use Rattle.type_cache.proofs.Checked.{and-left, and-right, book-fits}
@@ -80,15 +80,12 @@ module _ (addition : List ℕ) (z : additionRefusal addition ≡ 0) where
 -- ---- a known name
 module _ (book name : List ℕ) (r : Found) (e : r ≡ find book name) where
   pub known-at : (n : ℕ) → r ≡ At n → true ≡ isKnown book name
-  unfolding isFound
   known-at n h = rw (← e, h)
 
   pub known-not : r ≡ Nothing → false ≡ isKnown book name
-  unfolding isFound
   known-not h = rw (← e, h)
 
 not-found : (r : Found) → isFound r ≡ false → r ≡ Nothing
-unfolding isFound
 not-found (At n) h = cc
 not-found Nothing h = refl
 

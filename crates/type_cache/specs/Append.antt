@@ -9,9 +9,7 @@ use lib.Dec.{eqb, leb}
 use Rattle.enc_number.specs.Answer.{refusalOf}
 use Rattle.enc_number.specs.Refusals as refusal
 use Rattle.type_book.specs.Book.{blocks, fieldsOf, entriesOf, nameOf}
-use Rattle.type_provider.specs.Find.{find}
-use Rattle.type_provider.specs.declared.Found.{Found}
-use Rattle.type_provider.specs.declared.Found.the-variants.{At, Nothing}
+use Rattle.type_provider.specs.Find.{find, isFound}
 use Rattle.type_book_check.specs.Check.{checkBook, bookNumbers}
 use Rattle.type_book_check.specs.declared.BookCheck.{BookCheck}
 use Rattle.type_book_check.specs.declared.BookCheck.the-variants.{Valid, Size, Sum, Form, Doubled}
@@ -38,11 +36,6 @@ additionCheck Doubled one = Form
 -- 1, 2 and 3 of the addition by itself, 0 if there is none
 abbrev pub additionRefusal : List ℕ → ℕ
 additionRefusal addition = refusalOf (bookNumbers (additionCheck (checkBook addition (length addition)) (isOneType addition)))
-
--- a look-up has found a type
-unfoldable pub isFound : Found → Bool
-isFound (At n) = true
-isFound Nothing = false
 
 -- 4: the book has a type of that name, whatever its definition
 abbrev pub isKnown : List ℕ → List ℕ → Bool

@@ -9,7 +9,7 @@ use mathlib.Core.Logic.{⊎-elim}
 use Rattle.type_provider.specs.declared.Found.{Found}
 use Rattle.type_provider.specs.declared.Found.the-variants.{At, Nothing}
 use Rattle.type_book.specs.Book.{isType, nameOf, typeNameOf}
-use Rattle.type_provider.specs.Find.{searched, find, foundNumbers, NamedBlock}
+use Rattle.type_provider.specs.Find.{searched, find, foundNumbers, NamedBlock, isFound}
 use Rattle.type_provider.proofs.Finds.{find-named, named-kind, named-name, unique-find}
 use Rattle.type_provider.proofs.Numbers.{found-is, found-says}
 use Rattle.type_block_form.proofs.Bytes.{and-left, and-right}
@@ -17,7 +17,7 @@ use Rattle.type_index.specs.declared.Trust.{Trust}
 use Rattle.type_index.specs.declared.Trust.the-variants as trust
 use Rattle.type_index.specs.Index.{FoundBy, ledTo, probeOf}
 use Rattle.type_index.specs.Parts.{Probed}
-use Rattle.type_index.specs.Trust.{isFound, leads, leadsFrom, holdsAll, trustThen, notLed, Trusted}
+use Rattle.type_index.specs.Trust.{leads, leadsFrom, holdsAll, trustThen, notLed, Trusted}
 use Rattle.type_index.proofs.Probes.{led-probed, probe-probed}
 
 -- ---- an index is held against the book

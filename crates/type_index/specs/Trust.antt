@@ -5,16 +5,11 @@ use mathlib.Core.List.{List}
 use Prim.Native.Nat.{ℕ, zero, suc, _+_}
 use Rattle.type_book.specs.Book.{isType, nameOf}
 use Rattle.type_provider.specs.declared.Found.{Found}
-use Rattle.type_provider.specs.declared.Found.the-variants.{At, Nothing}
-use Rattle.type_provider.specs.Find.{searched, find}
+use Rattle.type_provider.specs.declared.Found.the-variants.{Nothing}
+use Rattle.type_provider.specs.Find.{searched, find, isFound}
 use Rattle.type_index.specs.declared.Trust.{Trust}
 use Rattle.type_index.specs.declared.Trust.the-variants as trust
 use Rattle.type_index.specs.Index.{probeOf}
-
--- something is found
-abbrev pub isFound : Found → Bool
-isFound (At n) = true
-isFound Nothing = false
 
 -- block n is no type block, or the index leads somewhere by its name
 unfoldable pub leads : List ℕ → List ℕ → ℕ → Bool

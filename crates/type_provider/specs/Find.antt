@@ -1,6 +1,6 @@
 -- The look-up of a type by its name (`TypeProvider::get_type_info` of the Rust). Assumes nothing.
 use mathlib.Core.Path.{_≡_}
-use mathlib.Core.Bool.{true, cond}
+use mathlib.Core.Bool.{Bool, true, false, cond}
 use mathlib.Core.List.{List, [], _∷_}
 use Prim.Native.Nat.{ℕ, zero, suc, _+_, _<_, min}
 use Rattle.enc_number.specs.Refusals as refusal
@@ -25,6 +25,11 @@ findFrom book name i (suc k) = let later = findFrom book name (i + 1) k in cond 
 -- the first type block of that name
 unfoldable pub find : List ℕ → List ℕ → Found
 find book name = findFrom book name 0 (searched book)
+
+-- a look-up has found a type
+abbrev pub isFound : Found → Bool
+isFound (At n) = true
+isFound Nothing = false
 
 -- block n is a type block, and is searched
 pub record TypeBlock (book : List ℕ) (n : ℕ) : Type 0 where
