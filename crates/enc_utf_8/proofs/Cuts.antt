@@ -346,6 +346,17 @@ join (x ∷ xs) ys (state code seen needed lower upper) h =
     (join-reply (following code seen needed x) xs ys (wellFormed ys) (λ s. join xs ys s))
     (λ q. never q)) h
 
+-- the pass goes on over a part that is well-formed by itself
+pub passed-part : (text : List ℕ) (at n : ℕ) → Passed text at → at + n ≤ length text → wellFormed (take n (drop at text)) ≡ true → Passed text (at + n)
+passed-part text at n p h f =
+    record {
+      within = h;
+      cuts = λ m l k.
+          p .cuts m (omega arith) k
+          ∙ ap wellFormed (sym (rw (part-of at n m text (omega arith), drop-drop n at (take m text)) at (take-append-drop n (drop at (take m text)))))
+          ∙ join (take n (drop at text)) (drop (at + n) (take m text)) initial f;
+    }
+
 -- a well-formed beginning grows by what is well-formed after it
 pub valid-more : (text : List ℕ) (v e r : ℕ) → ValidTo text v → v ≤ e → e ≤ length text → ValidTo (take (e - v) (drop v text)) r → ValidTo text (v + r)
 valid-more text v e r k l m h =

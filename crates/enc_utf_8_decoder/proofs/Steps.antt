@@ -13,7 +13,7 @@ use Rattle.enc_utf_8.specs.declared.Char.{Char}
 use Rattle.enc_utf_8.specs.declared.Char.the-variants.{Code, Error, End}
 use Rattle.enc_utf_8.specs.Utf8.{State, state, initial, lowerOf, upperOf, leading, following, found, nextFrom, nextAt, trail, wellFormed, ValidTo}
 use Rattle.enc_utf_8.proofs.Cuts.{Passed, passed-code, passed-less, passed-to, passed-error, passed-none}
-use Rattle.enc_utf_8.proofs.Decodes.{next-past}
+use Rattle.enc_utf_8.proofs.Decodes.{next-past, next-one}
 use Rattle.enc_utf_8.proofs.Items.{next-code}
 use Rattle.enc_utf_8_decoder.specs.After.{placeAfter, fourFit}
 
@@ -296,3 +296,9 @@ module _ (text : List ℕ) (at : ℕ) (p : Passed text at) (r : ℕ) (e : r ≡ 
       by (Code c f) q z = absurd (let b = next-code text at (Code c f) (sym q) c f refl in omega (arith, b .past))
       by (Error f) q z = passed-error text at p (Error f) (sym q) l f refl
       by End q z = passed-none text at p End (sym q) refl
+
+-- ---- the exits of `after_any`
+
+pub any-ascii : (text : List ℕ) (at : ℕ) → at < length text → getD text at 0 < 0x80 → at + 1 ≡ placeAfter (nextAt text at) at
+unfolding placeAfter
+any-ascii text at h l = ap (λ (r : Char). placeAfter r at) (next-one text at h l)

@@ -5,10 +5,11 @@ ghost use Prim.Native.Nat.{_+_, _-_, _<_, _≤_};
 ghost use lib.ListN.{length, getD, take, drop};
 ghost use lib.Dec.{eqb, leb};
 ghost use Rattle.enc_ascii.specs.Ascii.{isAscii};
-ghost use Rattle.enc_utf_8_decoder.specs.After.{placeAfter, fourFit, AsciiHere};
+ghost use Rattle.enc_utf_8_decoder.specs.After.{placeAfter, fourFit, AsciiHere, FormedHere};
 ghost use Rattle.enc_utf_8.specs.Utf8.{lowerOf, upperOf, state, nextFrom, nextAt, wellFormed, ValidTo, trail};
 use enc_ascii::is_ascii;
 use enc_utf_8::Char;
+use enc_utf_8_rows::goes_through;
 
 // A byte as a number that six more bits can be added to.
 fn wide(x: u8) -> u32
@@ -263,15 +264,11 @@ fn ascii_part(text: &[u8], at: usize) -> bool
     is_ascii(&text[at..at + 16])
 }
 
-// How many bytes of ASCII begin at a place, told by a block: 64, 16 or none. Only multiples of 16 are tried, so that few bytes are looked at
-// twice.
+// How many bytes of ASCII begin at a place, told by a block: 64, 16 or none.
 fn ascii_bytes(text: &[u8], at: usize) -> usize
     requires { ⌜ at < length (now text) ⌝ }
     ensures { λ r. ⌜ AsciiHere (now (text .entry)) at r ⌝ }
 {
-    if at % 16 != 0 {
-        return 0;
-    }
     if ascii_block(text, at) {
         return 64;
     }
@@ -281,27 +278,90 @@ fn ascii_bytes(text: &[u8], at: usize) -> usize
     0
 }
 
-// How much of a text is UTF-8 from its start on: up to the first error. ASCII goes by blocks, as far as it can.
-pub fn valid_up_to(text: &[u8]) -> usize
+// The place before `at` where a byte stands there that can only follow others, else `at` itself.
+fn before_trail(text: &[u8], at: usize) -> usize
+    requires { ⌜ (0 < at) × (at < length (now text)) ⌝ }
+    ensures { λ r. ⌜ (r ≤ at) × (at ≤ r + 1) ⌝ }
+{
+    if is_trail(text[at]) {
+        return at - 1;
+    }
+    at
+}
+
+// The end of the block of 64 bytes at a place, moved back to where a code point begins, so that the automaton can end there.
+fn block_cut(text: &[u8], at: usize) -> usize
+    requires { ⌜ at < length (now text) ⌝ }
+    ensures { λ r. ⌜ (at < r) × (r ≤ length (now (text .entry))) ⌝ }
+{
+    if text.len() - at <= 64 {
+        return text.len();
+    }
+    let last = before_trail(text, at + 64);
+    let middle = before_trail(text, last);
+    before_trail(text, middle)
+}
+
+// How many bytes from `at` on are told to be UTF-8 at once: a block of ASCII, else all up to `end`, or none.
+fn formed_bytes(text: &[u8], at: usize, end: usize) -> usize
+    requires { ⌜ (at < end) × (end ≤ length (now text)) ⌝ }
+    ensures { λ r. ⌜ FormedHere (now (text .entry)) at r ⌝ }
+{
+    let ascii = ascii_bytes(text, at);
+    if ascii > 0 {
+        return ascii;
+    }
+    if goes_through(&text[at..end]) {
+        return end - at;
+    }
+    0
+}
+
+// The place after the code point at `at`, ASCII or not, or `at` where it is ill-formed.
+fn after_any(text: &[u8], at: usize) -> usize
+    requires { ⌜ at < length (now text) ⌝ }
+    ensures { λ r. ⌜ r ≡ placeAfter (nextAt (now (text .entry)) at) at ⌝ }
+{
+    if text[at] < 0x80 {
+        return at + 1;
+    }
+    after_code(text, at)
+}
+
+// How much of a text is UTF-8 from its start on: up to the first error. It goes by blocks, and code point by code point in a block with an error and in
+// the first `careful` bytes: where an error is likely, a block is not worth the trial.
+pub fn valid_carefully(text: &[u8], careful: usize) -> usize
     ensures { λ r. ⌜ ValidTo (now (text .entry)) r ⌝ }
     ensures whole { λ r. ⌜ wellFormed (now (text .entry)) ≡ eqb r (length (now (text .entry))) ⌝ }
 {
     let mut at = 0;
+    let mut until = careful;
     while at < text.len() {
-        let ascii = ascii_bytes(text, at);
-        if ascii > 0 {
-            at += ascii;
-        } else if text[at] < 0x80 {
-            at += 1;
-        } else {
-            let after = after_code(text, at);
+        if at < until {
+            let after = after_any(text, at);
             if after == at {
                 return at;
             }
             at = after;
+        } else {
+            let end = block_cut(text, at);
+            let formed = formed_bytes(text, at, end);
+            if formed > 0 {
+                at += formed;
+            } else {
+                until = end;
+            }
         }
     }
     at
+}
+
+// The same, by blocks from the start on.
+pub fn valid_up_to(text: &[u8]) -> usize
+    ensures { λ r. ⌜ ValidTo (now (text .entry)) r ⌝ }
+    ensures whole { λ r. ⌜ wellFormed (now (text .entry)) ≡ eqb r (length (now (text .entry))) ⌝ }
+{
+    valid_carefully(text, 0)
 }
 
 // Whether the whole text is UTF-8: no overlong form, no surrogate, no cut code point.

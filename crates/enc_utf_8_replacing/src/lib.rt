@@ -12,6 +12,7 @@ use enc_utf_8::Char;
 use enc_utf_8::Put;
 use enc_utf_8::Room;
 use enc_utf_8_decoder::next;
+use enc_utf_8_decoder::valid_carefully;
 use enc_utf_8_decoder::valid_up_to;
 use enc_utf_8_encoder::put;
 use enc_utf_8_encoder::utf8_len;
@@ -44,12 +45,12 @@ fn scalar_8(bytes: &[u8], at: usize) -> Here
     }
 }
 
-// The end of the well-formed part that begins at a place; the place itself where what begins there is ill-formed.
+// The end of the well-formed part that begins at a place; the place itself where what begins there is ill-formed. Where one error was, more are likely.
 fn formed_end(bytes: &[u8], at: usize) -> usize
     requires { ⌜ at ≤ length (now bytes) ⌝ }
     ensures { λ r. ⌜ Stretch (now (bytes .entry)) at r ⌝ }
 {
-    at + valid_up_to(&bytes[at..])
+    at + valid_carefully(&bytes[at..], 16)
 }
 
 // How many bytes the text of a well-formed part takes, or, where none begins at the place, that of one ill-formed part.

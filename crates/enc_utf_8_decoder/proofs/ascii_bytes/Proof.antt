@@ -9,31 +9,25 @@ use Rattle.enc_utf_8_decoder.proofs.ascii_part.Reads as ascii-part-read
 
 ruleset exits = (here-none, here-block, here-part)
 
--- src/lib.rt:273:9
-returns : tie.Need-returns
-returns c = search exits
-
 -- src/lib.rt:275:8
 ascii-block-requires : tie.Need-ascii-block-requires
 ascii-block-requires c κs = search needs
 
 -- src/lib.rt:276:9
-returns-2 : tie.Need-returns-2
-returns-2 c = search exits
+returns : tie.Need-returns
+returns c = search exits
 
 -- src/lib.rt:278:8
 ascii-part-requires : tie.Need-ascii-part-requires
 ascii-part-requires c κs = search needs
 
 -- src/lib.rt:279:9
+returns-2 : tie.Need-returns-2
+returns-2 c = search exits
+
+-- src/lib.rt:268:1
 returns-3 : tie.Need-returns-3
 returns-3 c = search exits
 
--- src/lib.rt:268:1
-returns-4 : tie.Need-returns-4
-returns-4 c = search exits
-
 pub ascii-bytes-spec : {M : Type 1} → statement M
-ascii-bytes-spec =
-    tie.close
-    (tie.spec returns ascii-block-requires returns-2 ascii-part-requires returns-3 returns-4)
+ascii-bytes-spec = tie.close (tie.spec ascii-block-requires returns ascii-part-requires returns-2 returns-3)

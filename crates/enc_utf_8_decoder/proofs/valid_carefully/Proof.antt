@@ -1,0 +1,76 @@
+-- `valid_carefully` meets its contract. The loop keeps: the text is UTF-8 up to `at`. What is left shrinks, or a block was tried. Assumes nothing.
+use borrow.Author.Needs.{needs}
+use Rattle.enc_utf_8.proofs.Cuts.{Passed, passed-start, passed-to, passed-all}
+use Rattle.enc_utf_8_decoder.proofs.Blocks.{leftFrom, left-code, left-block, left-tried, block-within, passed-block}
+use Rattle.enc_utf_8_decoder.proofs.Steps.{after-passed, after-less, after-none}
+use Rattle.enc_utf_8_decoder.proofs.valid_carefully.Statement.{statement}
+use Rattle.enc_utf_8_decoder.proofs.valid_carefully.Tie as tie
+
+ruleset exits = (passed-to, passed-all, after-none)
+
+abbrev Inv-loop : tie.InvT-loop
+Inv-loop text careful at₀ until₀ at until =
+    Passed text at
+
+abbrev μ-loop : tie.MeasureT-loop
+μ-loop text careful at₀ until₀ at until =
+    leftFrom text at until
+
+loop-holds : tie.Need-loop-holds Inv-loop μ-loop
+loop-holds c = search passed-start
+
+after-any-requires : tie.Need-after-any-requires Inv-loop μ-loop
+after-any-requires c κs = search needs
+
+returns : tie.Need-returns Inv-loop μ-loop
+returns c = search exits
+
+loop-less : tie.Need-loop-less Inv-loop μ-loop
+loop-less c = search (left-code, after-less)
+
+loop-again : tie.Need-loop-again Inv-loop μ-loop
+loop-again c = search after-passed
+
+block-cut-requires : tie.Need-block-cut-requires Inv-loop μ-loop
+block-cut-requires c κs = search needs
+
+formed-bytes-requires : tie.Need-formed-bytes-requires Inv-loop μ-loop
+formed-bytes-requires c κs = search needs
+
+add-at : tie.Need-add-at Inv-loop μ-loop
+add-at c = search (needs, block-within)
+
+loop-less-2 : tie.Need-loop-less-2 Inv-loop μ-loop
+loop-less-2 c = search (needs, left-block)
+
+loop-again-2 : tie.Need-loop-again-2 Inv-loop μ-loop
+loop-again-2 c = search passed-block
+
+loop-less-3 : tie.Need-loop-less-3 Inv-loop μ-loop
+loop-less-3 c = search (needs, left-tried)
+
+loop-again-3 : tie.Need-loop-again-3 Inv-loop μ-loop
+loop-again-3 c = search needs
+
+returns-2 : tie.Need-returns-2 Inv-loop μ-loop
+returns-2 c = search exits
+
+pub valid-carefully-spec : {M : Type 1} → statement M
+valid-carefully-spec =
+    tie.close
+    (tie.spec
+    Inv-loop
+    μ-loop
+    loop-holds
+    after-any-requires
+    returns
+    loop-less
+    loop-again
+    block-cut-requires
+    formed-bytes-requires
+    add-at
+    loop-less-2
+    loop-again-2
+    loop-less-3
+    loop-again-3
+    returns-2)

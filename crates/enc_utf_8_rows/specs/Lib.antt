@@ -1,0 +1,2 @@
+-- The rows of the automaton.
+pub mod Rows
