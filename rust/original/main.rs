@@ -1,11 +1,11 @@
-//! Times the port against the original Rust: both walks, plans of a save, reads by a visitor that accepts all, and writes of what was read. The book is checked (the
+//! Times the port against the original Rust: both walks, the walk with a lent index, plans of a save, reads by a visitor that accepts all, and writes of what was read. The book is checked (the
 //! port) and decoded into the library's own descriptions behind a HashMap (the original) beforehand; what that takes is
 //! printed beside.
 
 use serde::Serialize;
 use serde::de::{DeserializeSeed, Deserializer, EnumAccess, Error, MapAccess, SeqAccess, VariantAccess, Visitor};
 use serde::ser::{SerializeMap, SerializeSeq, Serializer};
-use speed::{head, keep, pair, shown, turns};
+use speed::{head, keep, line, pair, shown, turns};
 use std::fmt;
 use tcads_core::{
     AdsArrayInfo, AdsAttribute, AdsEnumInfo, AdsFieldInfo, AdsMethodInfo, AdsTypeFlags, AdsTypeId, AdsTypeInfo,
@@ -15,7 +15,7 @@ use tcads_serde::resolvers::{missing_types, requires_read_modify_write};
 use tcads_serde::ser::AdsSerializer;
 use tcads_serde::{AdsTypeCache, TypeProvider};
 use twin::block;
-use typebook::{Scratch, Tape, TypeBook, Value};
+use typebook::{Scratch, Tape, TypeBook, Value, calls};
 
 const WIDTH: u8 = 8;
 
@@ -277,7 +277,18 @@ fn walks() {
     pair(
         "missing_types, whole call with its checks",
         15,
-        || typebook::calls::missing_types(&bytes, bytes.len(), &index, WIDTH, 0, &mut numbers, &mut list, &mut [0; 3]),
+        || {
+            typebook::calls::missing_types(
+                &bytes,
+                bytes.len(),
+                &index,
+                WIDTH,
+                0,
+                &mut numbers,
+                &mut list,
+                &mut [0; 3],
+            )
+        },
         || missing_types(&original, &cache),
     );
     prepared(&bytes);
@@ -296,6 +307,45 @@ fn prepared(bytes: &[u8]) {
         7,
         || TypeBook::names_only(bytes, WIDTH),
         || cache(bytes),
+    );
+}
+
+/// `missing_types` with a lent index, the checks of the book apart (they are timed in the same turns and taken off) and the building of the
+/// index counted in, against the original's walk by its HashMap, which is made beforehand, and then with the making counted in too.
+fn lent(what: &str, rounds: usize, bytes: &[u8]) {
+    let (made, len) = (cache(bytes), bytes.len());
+    let original = root(&made, bytes);
+    let (mut scratch, mut list, mut values) = (vec![0; 8_192], vec![0; 4_096], [0; 3]);
+    let mut index = vec![0; calls::INDEX];
+    let mut listed = 0;
+    let t = turns(
+        rounds,
+        &mut [
+            &mut || {
+                assert_eq!(calls::build_index(bytes, len, &mut index), 0);
+                let (s, l) = (&mut scratch, &mut list);
+                assert_eq!(calls::missing_types(bytes, len, &index, WIDTH, 0, s, l, &mut values), 0);
+            },
+            &mut || (0..2).for_each(|_| keep(calls::check_book(bytes, len))),
+            &mut || listed = missing_types(&original, &made).len(),
+            &mut || keep(missing_types(&original, &cache(bytes))),
+        ],
+    );
+    assert_eq!(values[0] as usize, listed);
+    let port = t[0].saturating_sub(t[1]);
+    line(what, port, t[2]);
+    line("  the making of its HashMap counted in", port, t[3]);
+}
+
+fn indexes() {
+    head("missing_types, checks apart, building counted in", "original");
+    lent("4,096 types of four fields, all reached", 15, &speed::reached());
+    lent("4,096 fields of lacking names among 4,096 types", 15, &speed::lacking());
+    lent("4,000 of 20,000 types reached", 5, &speed::among_20_000());
+    lent(
+        "4,096 types of four fields, names of one hash",
+        3,
+        &speed::reached_by(twin::hostile::name),
     );
 }
 
@@ -591,15 +641,21 @@ fn long() {
     let mut output = memory.clone();
     let write = || keep(port.write_into(&memory, tape.bytes(), tape.text(), &mut output));
     let t = turns(5, &mut [&mut { write }]);
-    println!("\nwrite, a struct of 65,000 fields, all named in order: {}", shown(t[0]));
+    println!(
+        "\nwrite, a struct of 65,000 fields, all named in order: {}",
+        shown(t[0])
+    );
 }
 
-/// All tables, or those that are named: walks, struct, array, write-struct, write-array, write-million, write-long.
+/// All tables, or those that are named: walks, index, plan, struct, array, write-struct, write-array, write-million, write-long.
 fn main() {
     let named: Vec<String> = std::env::args().skip(1).collect();
     let wanted = |table: &str| named.is_empty() || named.iter().any(|n| n == table);
     if wanted("walks") {
         walks();
+    }
+    if wanted("index") {
+        indexes();
     }
     if wanted("plan") {
         plans();

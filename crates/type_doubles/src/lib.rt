@@ -69,12 +69,12 @@ fn all_compared(book: &[u8]) -> bool
     true
 }
 
-// By an order of the names, whose time does not go by their hashes.
-fn by_order(book: &[u8]) -> bool
+// By an order of the names, whose time does not go by their hashes. The marks are not needed any more and lend their room.
+fn by_order(book: &[u8], marks: &mut [u32]) -> bool
     requires { ⌜ blocksOf (now book) ≤ 65536 ⌝ }
     ensures { λ r. ⌜ r ≡ distinctIn (now (book .entry)) ⌝ }
 {
-    let order = type_order::decide(book);
+    let order = type_order::decide(book, marks);
     match order {
         Order::Distinct => true,
         Order::Doubled => false,
@@ -97,7 +97,7 @@ pub fn distinct(book: &[u8], marks: &mut [u32]) -> bool
             continue;
         }
         if left == 0 {
-            return by_order(book);
+            return by_order(book, marks);
         }
         if !is_alone(book, i) {
             return false;

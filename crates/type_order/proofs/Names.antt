@@ -4,7 +4,7 @@ use mathlib.Core.Bool.{Bool, true, false}
 use mathlib.Core.List.{List, []}
 use Prim.Native.Nat.{ℕ, suc, _+_, _-_, _*_, _/_, _≤_, _<_}
 use native.Mathlib.Omega.{arith}
-use lib.ListN.{length, getD, take, drop, length-drop, drop-of-length-le, List·getD-eq-default}
+use lib.ListN.{length, take, drop, length-drop, drop-of-length-le}
 use lib.Seq.{take-all}
 use lib.Dec.{ltb, eqb}
 use borrow.Author.Count.{below-more}
@@ -12,10 +12,6 @@ use borrow.Author.Tests.{ltb-true, ltb-false, eqb-true, eqb-false}
 use Rattle.enc_number.specs.Le.{leValue}
 use Rattle.type_book.specs.Book.{nameOf}
 use Rattle.type_order.specs.Names.{wordAt, SameTo, Less, LessIs, LessAt}
-
--- past the end a number is 0
-pub at-past : (numbers : List ℕ) (i : ℕ) → length numbers ≤ i → 0 ≡ getD numbers i 0
-at-past numbers i l = sym (List·getD-eq-default numbers 0 l)
 
 -- ---- a part of a name
 

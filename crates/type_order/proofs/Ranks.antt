@@ -2,9 +2,10 @@
 use mathlib.Core.Path.{_≡_, refl, sym, ap, _∙_}
 use mathlib.Core.Bool.{Bool, true, false, not}
 use mathlib.Core.List.{List}
-use Prim.Native.Nat.{ℕ, zero, suc, _+_, _-_, _≤_, _<_}
+use Prim.Native.Nat.{ℕ, zero, suc, _+_, _-_, _*_, _/_, _%_, _^_, _≤_, _<_}
 use native.Mathlib.Omega.{arith}
-use lib.ListN.{getD}
+use native.Mathlib.Nat.{zero-div}
+use lib.ListN.{length, getD, List·getD-eq-default}
 use lib.Dec.{ltb, eqb}
 use borrow.Author.Count.{below-more}
 use borrow.Author.Tests.{ltb-true, ltb-false, eqb-true, not-true, not-false}
@@ -12,8 +13,19 @@ use Rattle.type_book.specs.Book.{blocks, isType, nameOf, isNamed}
 use Rattle.type_provider.proofs.Finds.{named-kind, named-name}
 use Rattle.type_order.specs.declared.Order.the-variants.{Distinct, Doubled, Unknown}
 use Rattle.type_order.specs.Names.{Apart, Twice, Decided, Less, LessAt}
-use Rattle.type_order.specs.Ranks.{RisesTo, Listed, RankIs, RankedTo, RankedIs}
+use Rattle.type_order.specs.Ranks.{numberAt, RisesTo, Listed, RankIs, RankedTo, RankedIs}
 use Rattle.type_order.proofs.Names.{less-other, less-trans}
+
+-- ---- a number of an order
+
+module _ (numbers : List ℕ) (i : ℕ) where
+  pub at-is : getD numbers (i / 2) 0 / 2 ^ (16 * (i % 2)) % 65536 ≡ numberAt numbers i
+  unfolding numberAt
+  at-is = refl
+
+  pub at-past : length numbers ≤ i / 2 → 0 ≡ numberAt numbers i
+  unfolding numberAt
+  at-past l = sym (rw (List·getD-eq-default numbers 0 l, zero-div (2 ^ (16 * (i % 2)))))
 
 -- ---- names that rise
 
@@ -21,17 +33,17 @@ module _ (book order : List ℕ) where
   pub rises-one : RisesTo book order 1
   rises-one = record { first = omega arith; each = λ i l g. absurd (omega arith) }
 
-  pub rises-more : (i : ℕ) → RisesTo book order i → (a b : ℕ) → a ≡ getD order (i - 1) 0 → b ≡ getD order i 0 → (t : Bool) → LessAt book a b t → not t ≡ false → RisesTo book order (i + 1)
+  pub rises-more : (i : ℕ) → RisesTo book order i → (a b : ℕ) → a ≡ numberAt order (i - 1) → b ≡ numberAt order i → (t : Bool) → LessAt book a b t → not t ≡ false → RisesTo book order (i + 1)
   rises-more i r a b ea eb t l h =
-      let here : Less (nameOf book (getD order (i - 1) 0)) (nameOf book (getD order i 0)) = rw (← ea, ← eb) (l .is (not-false t h)) in
+      let here : Less (nameOf book (numberAt order (i - 1))) (nameOf book (numberAt order i)) = rw (← ea, ← eb) (l .is (not-false t h)) in
       record {
         first = omega arith;
-        each = λ j p g. below-more (λ k. 0 < k → Less (nameOf book (getD order (k - 1) 0)) (nameOf book (getD order k 0))) i (λ k x y. r .each k y x) (λ y. here) j g p;
+        each = λ j p g. below-more (λ k. 0 < k → Less (nameOf book (numberAt order (k - 1))) (nameOf book (numberAt order k))) i (λ k x y. r .each k y x) (λ y. here) j g p;
       }
 
   -- of two places the earlier one's name stands before the later one's
   module _ (r : ℕ) (rise : RisesTo book order r) where
-    rising : (d i : ℕ) → i + suc d < r → Less (nameOf book (getD order i 0)) (nameOf book (getD order (i + suc d) 0))
+    rising : (d i : ℕ) → i + suc d < r → Less (nameOf book (numberAt order i)) (nameOf book (numberAt order (i + suc d)))
     rising zero i l =
         let k : i + 1 - 1 ≡ i = omega arith in
         (rw k at (rise .each (i + 1) (omega arith) l))
@@ -39,7 +51,7 @@ module _ (book order : List ℕ) where
         let k : i + suc (suc d) - 1 ≡ i + suc d = omega arith in
         less-trans _ _ _ (rising d i (omega arith)) (rw k at (rise .each (i + suc (suc d)) (omega arith) l))
 
-    between : (i j : ℕ) → i < j → j < r → Less (nameOf book (getD order i 0)) (nameOf book (getD order j 0))
+    between : (i j : ℕ) → i < j → j < r → Less (nameOf book (numberAt order i)) (nameOf book (numberAt order j))
     between i j l g =
         let k : i + suc (j - i - 1) ≡ j = omega arith in
         (rw k at (rising (j - i - 1) i (rw k g)))
@@ -56,7 +68,7 @@ module _ (book order : List ℕ) (n : ℕ) where
     pub rank-never : RankIs book order n b false
     rank-never = record { is = λ e. absurd (let z : _≡_ {A = ℕ} 0 1 = cc in omega arith) }
 
-    pub rank-here : (r : ℕ) → r < n → (x : ℕ) → x ≡ getD order r 0 → RankIs book order n b (eqb x b)
+    pub rank-here : (r : ℕ) → r < n → (x : ℕ) → x ≡ numberAt order r → RankIs book order n b (eqb x b)
     rank-here r l x e = record { is = λ u v. record { rank = r; below = l; is = sym e ∙ eqb-true x b u } }
 
   pub ranked-none : RankedTo book order n 0

@@ -2,10 +2,9 @@
 // the names were made to have one hash. The sorting promises nothing. What it leaves is held against the book, and only that is believed.
 ghost use mathlib.Core.Path.{_≡_};
 ghost use Prim.Native.Nat.{_≤_, _<_};
-ghost use lib.ListN.{getD};
 ghost use Rattle.type_book.specs.Book.{blocks as blocksOf};
 ghost use Rattle.type_order.specs.Names.{wordAt, LessIs, LessAt, Decided};
-ghost use Rattle.type_order.specs.Ranks.{RisesTo, RankIs, RankedIs};
+ghost use Rattle.type_order.specs.Ranks.{numberAt, RisesTo, RankIs, RankedIs};
 use enc_number::le::le_value;
 use type_book::block;
 
@@ -17,8 +16,8 @@ pub enum Order {
     Unknown,
 }
 
-// The most blocks that a book has.
-const MOST: usize = 65536;
+// So many numbers of 32 bits hold one of 16 bits for each block that a book may have.
+const MOST: usize = 32768;
 
 // ---- an order of names
 
@@ -59,26 +58,47 @@ fn less(a: &[u8], b: &[u8]) -> bool
     false
 }
 
-fn less_at(book: &[u8], a: u16, b: u16) -> bool
+fn less_at(book: &[u8], a: u32, b: u32) -> bool
     ensures { λ r. ⌜ LessAt (now (book .entry)) a b r ⌝ }
 {
-    less(block::name(book, a as u32), block::name(book, b as u32))
+    less(block::name(book, a), block::name(book, b))
 }
 
-// ---- the sorting, which promises nothing: a number past the end is 0, and one that is put there is lost
+// ---- the sorting, which promises nothing: two numbers of 16 bits stand in each of 32, one past the end is 0, and one put there is lost
 
-fn at(numbers: &[u16], i: usize) -> u16
-    ensures { λ r. ⌜ r ≡ getD (now (numbers .entry)) i 0 ⌝ }
+fn at(numbers: &[u32], i: usize) -> u32
+    ensures { λ r. ⌜ (r ≡ numberAt (now (numbers .entry)) i) × (r < 65536) ⌝ }
 {
-    if i < numbers.len() {
-        return numbers[i];
+    let k = i / 2;
+    let half = (i % 2) as u32;
+    if k < numbers.len() {
+        return (numbers[k] >> (16 * half)) % 65536;
     }
     0
 }
 
-fn put(numbers: &mut [u16], i: usize, x: u16) {
-    if i < numbers.len() {
-        numbers[i] = x;
+fn with_lower(number: u32, x: u32) -> u32
+    requires { ⌜ x < 65536 ⌝ }
+{
+    number / 65536 * 65536 + x
+}
+
+fn with_upper(number: u32, x: u32) -> u32
+    requires { ⌜ x < 65536 ⌝ }
+{
+    number % 65536 + x * 65536
+}
+
+fn put(numbers: &mut [u32], i: usize, x: u32)
+    requires { ⌜ x < 65536 ⌝ }
+{
+    let k = i / 2;
+    if k < numbers.len() {
+        if i % 2 == 0 {
+            numbers[k] = with_lower(numbers[k], x);
+        } else {
+            numbers[k] = with_upper(numbers[k], x);
+        }
     }
 }
 
@@ -92,7 +112,7 @@ fn type_count(book: &[u8], n: u32) -> usize
 }
 
 // Lists the type blocks as they come, and counts them.
-fn list_types(book: &[u8], order: &mut [u16]) -> usize
+fn list_types(book: &[u8], order: &mut [u32]) -> usize
     requires { ⌜ blocksOf (now book) ≤ 65536 ⌝ }
     ensures { λ r. ⌜ r ≤ 65536 ⌝ }
 {
@@ -100,7 +120,7 @@ fn list_types(book: &[u8], order: &mut [u16]) -> usize
     let mut count = 0;
     let mut i: u32 = 0;
     while i < n {
-        put(order, count, i as u16);
+        put(order, count, i);
         count += type_count(book, i);
         i += 1;
     }
@@ -109,7 +129,7 @@ fn list_types(book: &[u8], order: &mut [u16]) -> usize
 
 // Whether the next number of a merge is that at i of the first run and not that at j of the second. Of equal names the first run's comes
 // first, so that types of one name stay in the order of their blocks.
-fn takes_first(book: &[u8], from: &[u16], i: usize, mid: usize, j: usize, end: usize) -> bool {
+fn takes_first(book: &[u8], from: &[u32], i: usize, mid: usize, j: usize, end: usize) -> bool {
     if i >= mid {
         return false;
     }
@@ -122,8 +142,8 @@ fn takes_first(book: &[u8], from: &[u16], i: usize, mid: usize, j: usize, end: u
 // Stores the next number of a merge at place k, and says how many were taken of the first run.
 fn merge_one(
     book: &[u8],
-    from: &[u16],
-    to: &mut [u16],
+    from: &[u32],
+    to: &mut [u32],
     i: usize,
     mid: usize,
     j: usize,
@@ -141,7 +161,7 @@ fn merge_one(
 }
 
 // Merges the runs from `start` to `mid` and from `mid` to `end`. What was not taken of the first run was taken of the second.
-fn merge(book: &[u8], from: &[u16], to: &mut [u16], start: usize, mid: usize, end: usize)
+fn merge(book: &[u8], from: &[u32], to: &mut [u32], start: usize, mid: usize, end: usize)
     requires { ⌜ (start ≤ 65536) × (mid ≤ 65536) × (end ≤ 65536) ⌝ }
 {
     let mut i = start;
@@ -162,7 +182,7 @@ fn least(a: usize, b: usize) -> usize
 }
 
 // Merges each two runs of so many numbers into one of twice as many.
-fn merge_runs(book: &[u8], from: &[u16], to: &mut [u16], n: usize, run: usize)
+fn merge_runs(book: &[u8], from: &[u32], to: &mut [u32], n: usize, run: usize)
     requires { ⌜ (n ≤ 65536) × (0 < run) × (run ≤ 131072) ⌝ }
 {
     let mut start = 0;
@@ -174,7 +194,7 @@ fn merge_runs(book: &[u8], from: &[u16], to: &mut [u16], n: usize, run: usize)
     }
 }
 
-fn sort(book: &[u8], order: &mut [u16], other: &mut [u16], n: usize)
+fn sort(book: &[u8], order: &mut [u32], other: &mut [u32], n: usize)
     requires { ⌜ n ≤ 65536 ⌝ }
 {
     let mut run = 1;
@@ -186,12 +206,12 @@ fn sort(book: &[u8], order: &mut [u16], other: &mut [u16], n: usize)
 }
 
 // Stores the rank of each listed block, for `has_rank` to look at.
-fn rank(order: &[u16], ranks: &mut [u16], n: usize)
+fn rank(order: &[u32], ranks: &mut [u32], n: usize)
     requires { ⌜ n ≤ 65536 ⌝ }
 {
     let mut i = 0;
     while i < n {
-        put(ranks, at(order, i) as usize, i as u16);
+        put(ranks, at(order, i) as usize, i as u32);
         i += 1;
     }
 }
@@ -199,7 +219,7 @@ fn rank(order: &[u16], ranks: &mut [u16], n: usize)
 // ---- what the sorting left, held against the book
 
 // How far the names rise: each name before place r stands before the next one.
-fn rises_to(book: &[u8], order: &[u16], n: usize) -> usize
+fn rises_to(book: &[u8], order: &[u32], n: usize) -> usize
     ensures { λ r. ⌜ RisesTo (now (book .entry)) (now (order .entry)) r ⌝ }
 {
     let mut i = 1;
@@ -213,7 +233,7 @@ fn rises_to(book: &[u8], order: &[u16], n: usize) -> usize
 }
 
 // A type block has a rank below n, at which it is listed.
-fn has_rank(book: &[u8], order: &[u16], ranks: &[u16], n: usize, b: u32) -> bool
+fn has_rank(book: &[u8], order: &[u32], ranks: &[u32], n: usize, b: u32) -> bool
     ensures { λ r. ⌜ RankIs (now (book .entry)) (now (order .entry)) n b r ⌝ }
 {
     if !block::is_type(book, b) {
@@ -223,10 +243,10 @@ fn has_rank(book: &[u8], order: &[u16], ranks: &[u16], n: usize, b: u32) -> bool
     if r >= n {
         return false;
     }
-    at(order, r) as u32 == b
+    at(order, r) == b
 }
 
-fn all_ranked(book: &[u8], order: &[u16], ranks: &[u16], n: usize) -> bool
+fn all_ranked(book: &[u8], order: &[u32], ranks: &[u32], n: usize) -> bool
     requires { ⌜ blocksOf (now book) ≤ 65536 ⌝ }
     ensures { λ r. ⌜ RankedIs (now (book .entry)) (now (order .entry)) n r ⌝ }
 {
@@ -260,7 +280,7 @@ fn not_rising(book: &[u8], a: u32, b: u32) -> Order
     Order::Unknown
 }
 
-fn decide_in(book: &[u8], order: &mut [u16], other: &mut [u16]) -> Order
+fn decide_in(book: &[u8], order: &mut [u32], other: &mut [u32]) -> Order
     requires { ⌜ blocksOf (now book) ≤ 65536 ⌝ }
     ensures { λ r. ⌜ Decided (now (book .entry)) r ⌝ }
 {
@@ -268,7 +288,7 @@ fn decide_in(book: &[u8], order: &mut [u16], other: &mut [u16]) -> Order
     sort(book, order, other, n);
     let r = rises_to(book, order, n);
     if r < n {
-        return not_rising(book, at(order, r - 1) as u32, at(order, r) as u32);
+        return not_rising(book, at(order, r - 1), at(order, r));
     }
     rank(order, other, n);
     if all_ranked(book, order, other, n) {
@@ -277,12 +297,12 @@ fn decide_in(book: &[u8], order: &mut [u16], other: &mut [u16]) -> Order
     Order::Unknown
 }
 
-// Whether the types of a book of at most 65,536 blocks have different names. It takes 256 KiB of stack.
-pub fn decide(book: &[u8]) -> Order
+// Whether the types of a book of at most 65,536 blocks have different names. The lent numbers are for its use: with fewer than 32,768 it
+// may find neither. It takes as many again on the stack, 128 KiB.
+pub fn decide(book: &[u8], lent: &mut [u32]) -> Order
     requires { ⌜ blocksOf (now book) ≤ 65536 ⌝ }
     ensures { λ r. ⌜ Decided (now (book .entry)) r ⌝ }
 {
-    let mut order = [0u16; MOST];
-    let mut other = [0u16; MOST];
-    decide_in(book, &mut order, &mut other)
+    let mut other = [0u32; MOST];
+    decide_in(book, lent, &mut other)
 }

@@ -13,6 +13,11 @@ fn name(n: usize) -> String {
 
 /// A book of 4,096 types of four fields each; the first, the root, reaches all.
 pub fn reached() -> Vec<u8> {
+    reached_by(name)
+}
+
+/// The same with types of other names.
+pub fn reached_by(name: fn(usize) -> String) -> Vec<u8> {
     let types: Vec<Type> = (0..TYPES)
         .map(|n| {
             (1..=4).fold(Type::new(&name(n)).size(16), |t, i| {

@@ -1,10 +1,11 @@
 //! Times the static library against the plain twin: walks, reads, writes, look-ups, checks, encodings.
 //!
-//!     cargo run --release --offline -p speed             # all; with the word plan, grow or index that part alone
+//!     cargo run --release --offline -p speed             # all; with the word plan, grow, index or hostile that part alone
 //!
 //! Medians of rounds in which the two sides take turns; above 1 the port is quicker. Nothing of the gate needs it.
 
 mod grow;
+mod hostile;
 
 use speed::{TYPES, head, keep, line, pair, turns};
 use twin::make::{Type, book};
@@ -366,6 +367,7 @@ fn main() {
     match std::env::args().nth(1).as_deref() {
         Some("plan") => return plans(),
         Some("index") => return indexes(),
+        Some("hostile") => return hostile::names(),
         Some("grow") => {
             grow::growing();
             return grow::one_type();
@@ -388,6 +390,7 @@ fn main() {
     one_text("a byte that is no UTF-8 stands before it", b"\xff");
     checks();
     look_ups();
+    hostile::names();
     head("texts of about 1 MB", "twin");
     texts("ASCII", &made(&["plain text of a recipe, ", "0123456789 "]));
     texts("Latin", &made(&["Gr\u{f6}\u{df}e 12 \u{20ac} ", "plain "]));

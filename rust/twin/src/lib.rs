@@ -8,6 +8,7 @@ pub mod block;
 pub mod calls;
 pub mod category;
 pub mod check;
+pub mod hostile;
 pub mod index;
 pub mod make;
 pub mod plan;

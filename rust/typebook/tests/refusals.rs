@@ -1,6 +1,7 @@
 //! Document 01's cases by hand: every refusal of the calls that are here (1 to 15; 16 to 19 are the writer's), its neighbours that
 //! aren't refused, and what the buffers hold afterwards.
 
+use twin::hostile;
 use twin::make::{Type, book, chain, deep, example, int, mend, wide};
 use typebook::{Refusal, TypeBook, Value, calls};
 
@@ -91,6 +92,27 @@ fn refusals_2_to_4_in_their_order() {
     many[12..20].fill(0xFF);
     mend(&mut many);
     assert_eq!(calls::check_book(&many, 512), 3);
+}
+
+/// Names of one hash: more of them than are compared one by one, all different, and then one of them twice.
+#[test]
+fn doubled_among_names_of_one_hash() {
+    for count in [2, 127, 128, 129, 130, 131, 1_000, 4_097] {
+        let mut types: Vec<Type> = (0..count)
+            .map(|n| Type::new(&hostile::name(n * 40_503 % 65_536)))
+            .collect();
+        let distinct = book(&types);
+        assert_eq!(calls::check_book(&distinct, distinct.len()), 0, "{count}");
+        for n in [0, count / 2, count - 2] {
+            types[count - 1].name = types[n].name.clone();
+            let doubled = book(&types);
+            assert_eq!(calls::check_book(&doubled, doubled.len()), 4, "{count}, {n}");
+        }
+        // A field's name is no type's.
+        types[count - 1] = Type::new("ST_Last").field(&types[0].name, "INT", 0, 2);
+        let field = book(&types);
+        assert_eq!(calls::check_book(&field, field.len()), 0, "{count}, a field");
+    }
 }
 
 #[test]

@@ -18,11 +18,20 @@ enum-told-3 c = search needs
 all-compared-requires : tie.Need-all-compared-requires
 all-compared-requires c κs = search needs
 
+same-length : tie.Need-same-length
+same-length c = search needs
+
 returns : tie.Need-returns
 returns c = search distinct-apart
 
+same-length-2 : tie.Need-same-length-2
+same-length-2 c = search needs
+
 returns-2 : tie.Need-returns-2
 returns-2 c = search distinct-twice
+
+same-length-3 : tie.Need-same-length-3
+same-length-3 c = search needs
 
 returns-3 : tie.Need-returns-3
 returns-3 c = search needs
@@ -36,6 +45,9 @@ by-order-spec =
     enum-told-2
     enum-told-3
     all-compared-requires
+    same-length
     returns
+    same-length-2
     returns-2
+    same-length-3
     returns-3)

@@ -18,14 +18,8 @@ sub-at c = search needs
 at-requires : tie.Need-at-requires
 at-requires c κs = search needs
 
-cast-not-rising : tie.Need-cast-not-rising
-cast-not-rising c = search needs
-
 at-requires-2 : tie.Need-at-requires-2
 at-requires-2 c κs = search needs
-
-cast-not-rising-2 : tie.Need-cast-not-rising-2
-cast-not-rising-2 c = search needs
 
 not-rising-requires : tie.Need-not-rising-requires
 not-rising-requires c κs = search needs
@@ -72,9 +66,7 @@ decide-in-spec =
     rises-to-requires
     sub-at
     at-requires
-    cast-not-rising
     at-requires-2
-    cast-not-rising-2
     not-rising-requires
     same-length
     same-length-2

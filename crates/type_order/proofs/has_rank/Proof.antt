@@ -21,21 +21,10 @@ returns-2 c = search rank-never
 at-requires-2 : tie.Need-at-requires-2
 at-requires-2 c κs = search needs
 
-cast-result : tie.Need-cast-result
-cast-result c = search needs
-
 returns-3 : tie.Need-returns-3
 returns-3 c = search rank-here
 
 pub has-rank-spec : {M : Type 1} → statement M
 has-rank-spec =
     tie.close
-    (tie.spec
-    is-type-requires
-    returns
-    at-requires
-    cast-r
-    returns-2
-    at-requires-2
-    cast-result
-    returns-3)
+    (tie.spec is-type-requires returns at-requires cast-r returns-2 at-requires-2 returns-3)

@@ -22,9 +22,6 @@ cast-n c = search needs
 loop-holds : tie.Need-loop-holds Inv-loop μ-loop
 loop-holds c = search needs
 
-cast-put : tie.Need-cast-put Inv-loop μ-loop
-cast-put c = search needs
-
 put-requires : tie.Need-put-requires Inv-loop μ-loop
 put-requires c κs = search needs
 
@@ -58,7 +55,6 @@ list-types-spec =
     blocks-requires
     cast-n
     loop-holds
-    cast-put
     put-requires
     type-count-requires
     add-count
