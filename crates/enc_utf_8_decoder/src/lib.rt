@@ -5,7 +5,7 @@ ghost use Prim.Native.Nat.{_+_, _-_, _<_, _≤_};
 ghost use lib.ListN.{length, getD, take, drop};
 ghost use lib.Dec.{eqb, leb};
 ghost use Rattle.enc_ascii.specs.Ascii.{isAscii};
-ghost use Rattle.enc_utf_8_decoder.specs.After.{placeAfter, fourFit, AsciiHere, FormedHere};
+ghost use Rattle.enc_utf_8_decoder.specs.After.{placeAfter, fourFit, AsciiHere};
 ghost use Rattle.enc_utf_8.specs.Utf8.{lowerOf, upperOf, state, nextFrom, nextAt, wellFormed, ValidTo, trail};
 use enc_ascii::is_ascii;
 use enc_utf_8::Char;
@@ -289,32 +289,38 @@ fn before_trail(text: &[u8], at: usize) -> usize
     at
 }
 
-// The end of the block of 64 bytes at a place, moved back to where a code point begins, so that the automaton can end there.
+// The end of a text, or where its last code point begins, if the end cuts it off and it is not at `at`.
+fn text_cut(text: &[u8], at: usize) -> usize
+    requires { ⌜ at < length (now text) ⌝ }
+    ensures { λ r. ⌜ (at < r) × (r ≤ length (now (text .entry))) ⌝ }
+{
+    let len = text.len();
+    if len - at < 4 {
+        return len;
+    }
+    if text[len - 1] >= 0xc0 {
+        return len - 1;
+    }
+    if text[len - 2] >= 0xe0 {
+        return len - 2;
+    }
+    if text[len - 3] >= 0xf0 {
+        return len - 3;
+    }
+    len
+}
+
+// The end of the block of at most 64 bytes at a place that is tried at once, before a code point, so that the automaton can end there.
 fn block_cut(text: &[u8], at: usize) -> usize
     requires { ⌜ at < length (now text) ⌝ }
     ensures { λ r. ⌜ (at < r) × (r ≤ length (now (text .entry))) ⌝ }
 {
     if text.len() - at <= 64 {
-        return text.len();
+        return text_cut(text, at);
     }
     let last = before_trail(text, at + 64);
     let middle = before_trail(text, last);
     before_trail(text, middle)
-}
-
-// How many bytes from `at` on are told to be UTF-8 at once: a block of ASCII, else all up to `end`, or none.
-fn formed_bytes(text: &[u8], at: usize, end: usize) -> usize
-    requires { ⌜ (at < end) × (end ≤ length (now text)) ⌝ }
-    ensures { λ r. ⌜ FormedHere (now (text .entry)) at r ⌝ }
-{
-    let ascii = ascii_bytes(text, at);
-    if ascii > 0 {
-        return ascii;
-    }
-    if goes_through(&text[at..end]) {
-        return end - at;
-    }
-    0
 }
 
 // The place after the code point at `at`, ASCII or not, or `at` where it is ill-formed.
@@ -344,12 +350,18 @@ pub fn valid_carefully(text: &[u8], careful: usize) -> usize
             }
             at = after;
         } else {
-            let end = block_cut(text, at);
-            let formed = formed_bytes(text, at, end);
-            if formed > 0 {
-                at += formed;
+            let ascii = ascii_bytes(text, at);
+            if ascii > 0 {
+                at += ascii;
             } else {
-                until = end;
+                let end = block_cut(text, at);
+                if goes_through(&text[at..end]) {
+                    at = end;
+                } else {
+                    // The first code point goes at once, which has LLVM branch here, so that no later block waits for this one.
+                    until = end;
+                    at = after_any(text, at);
+                }
             }
         }
     }
