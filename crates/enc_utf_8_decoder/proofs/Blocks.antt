@@ -1,22 +1,19 @@
 -- ASCII that the pass over a text leaves behind: byte by byte, and in blocks. Assumes nothing.
 use mathlib.Core.Path.{_≡_, refl, sym, ap, _∙_}
-use mathlib.Core.Bool.{Bool, true, false, cond}
+use mathlib.Core.Bool.{Bool, true, false}
 use mathlib.Core.List.{List, []}
-use Prim.Native.Nat.{ℕ, zero, suc, _+_, _*_, _-_, _≤_, _<_}
+use Prim.Native.Nat.{ℕ, zero, suc, _+_, _-_, _≤_, _<_}
 use native.Mathlib.Omega.{arith}
 use lib.ListN.{length, getD, take, drop}
 use lib.Seq.{getD-take, getD-drop}
-use lib.Dec.{eqb, ltb}
-use borrow.Author.Tests.{eqb-true, eqb-false, lt-ltb, le-ltb}
 use Rattle.enc_utf_8.specs.declared.Char.the-variants.{Code}
-use Rattle.enc_utf_8.specs.Utf8.{nextAt, wellFormed}
+use Rattle.enc_utf_8.specs.Utf8.{wellFormed}
 use Rattle.enc_utf_8.proofs.Decodes.{next-one}
 use Rattle.enc_utf_8.proofs.Items.{next-code}
 use Rattle.enc_utf_8.proofs.Cuts.{Passed, passed-code, passed-part}
 use Rattle.enc_ascii.specs.Ascii.{isAscii}
 use Rattle.enc_ascii.proofs.Ascii.{ascii-each, ascii-none}
-use Rattle.enc_utf_8_decoder.specs.After.{placeAfter, AsciiHere}
-use Rattle.enc_utf_8_decoder.proofs.Steps.{after-passed, after-less}
+use Rattle.enc_utf_8_decoder.specs.After.{AsciiHere}
 
 -- ---- ascii_block, ascii_part
 
@@ -66,6 +63,9 @@ module _ (text : List ℕ) where
     pub block-within : at + n ≤ length text
     block-within = a .inside
 
+    pub block-less : 0 < n → length text - (at + n) < length text - at
+    block-less h = omega (arith, a .inside)
+
     pub passed-block : Passed text at → Passed text (at + n)
     passed-block p =
         passed-run n at p (a .inside)
@@ -74,37 +74,3 @@ module _ (text : List ℕ) where
   module _ (at e : ℕ) (l : at < e) (h : e ≤ length text) (t : Bool) (f : t ≡ true → wellFormed (take (e - at) (drop at text)) ≡ true) where
     pub passed-cut : t ≡ true → Passed text at → Passed text e
     passed-cut q p = let z : at + (e - at) ≡ e = omega arith in rw z at (passed-part text at (e - at) p (omega arith) (f q))
-
--- what is left counts twice, and once more where a block is to be tried
-abbrev pub leftFrom : List ℕ → ℕ → ℕ → ℕ
-leftFrom text at until = 2 * (length text - at) + cond (ltb at until) 0 1
-
-at-most : (t : Bool) → cond t 0 1 ≤ 1
-at-most true = omega arith
-at-most false = omega arith
-
-module _ (text : List ℕ) (at until : ℕ) where
-  pub left-code : (r : ℕ) → length text - r < length text - at → leftFrom text r until < leftFrom text at until
-  left-code r h = omega (arith, at-most (ltb r until))
-
-  pub left-block : (n : ℕ) → AsciiHere text at n → 0 < n → at < length text → leftFrom text (at + n) until < leftFrom text at until
-  left-block n a l h = omega (arith, a .inside, at-most (ltb (at + n) until))
-
-  pub left-cut : (end : ℕ) → at < end → end ≤ length text → leftFrom text end until < leftFrom text at until
-  left-cut end h l = omega (arith, at-most (ltb end until))
-
-  -- a block that was tried in vain is left behind, or its first code point is
-  module _ (p : Passed text at) (r : ℕ) (e : r ≡ placeAfter (nextAt text at) at) where
-    pub passed-tried : Passed text r
-    passed-tried = by (eqb r at) refl
-      where
-        by : (t : Bool) → eqb r at ≡ t → Passed text r
-        by true q = rw (eqb-true r at q) p
-        by false q = after-passed text at p r e (eqb-false r at q)
-
-    pub left-tried : (end : ℕ) → at < end → until ≤ at → leftFrom text r end < leftFrom text at until
-    left-tried end h u = by (eqb r at) refl
-      where
-        by : (t : Bool) → eqb r at ≡ t → leftFrom text r end < leftFrom text at until
-        by true q = rw (eqb-true r at q, lt-ltb at end h, le-ltb at until u) (omega arith)
-        by false q = rw (le-ltb at until u) (omega (arith, at-most (ltb r end), after-less text at p r e (eqb-false r at q)))

@@ -7,7 +7,7 @@ use lib.ListN.{length, getD, take, drop}
 use lib.Dec.{leb}
 use Rattle.enc_utf_8.specs.declared.Char.{Char}
 use Rattle.enc_utf_8.specs.declared.Char.the-variants.{Code, Error, End}
-use Rattle.enc_utf_8.specs.Utf8.{lowerOf, upperOf, trail}
+use Rattle.enc_utf_8.specs.Utf8.{lowerOf, upperOf, trail, wellFormed}
 use Rattle.enc_ascii.specs.Ascii.{isAscii}
 
 -- the place after a code point that was found at `at`, or `at` itself where none was
@@ -26,3 +26,8 @@ fourFit text at =
 pub record AsciiHere (text : List ℕ) (at n : ℕ) : Type 0 where
   pub inside : at + n ≤ length text
   pub ascii : isAscii (take n (drop at text)) ≡ true
+
+-- each beginning of a text that has its first `at` bytes is well-formed where what it has after them is
+pub record PassedTo (text : List ℕ) (at : ℕ) : Type 0 where
+  pub within : at ≤ length text
+  pub cuts : (n : ℕ) → at ≤ n → n ≤ length text → wellFormed (take n text) ≡ wellFormed (drop at (take n text))

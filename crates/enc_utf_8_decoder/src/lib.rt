@@ -5,7 +5,7 @@ ghost use Prim.Native.Nat.{_+_, _-_, _<_, _≤_};
 ghost use lib.ListN.{length, getD, take, drop};
 ghost use lib.Dec.{eqb, leb};
 ghost use Rattle.enc_ascii.specs.Ascii.{isAscii};
-ghost use Rattle.enc_utf_8_decoder.specs.After.{placeAfter, fourFit, AsciiHere};
+ghost use Rattle.enc_utf_8_decoder.specs.After.{placeAfter, fourFit, AsciiHere, PassedTo};
 ghost use Rattle.enc_utf_8.specs.Utf8.{lowerOf, upperOf, state, nextFrom, nextAt, wellFormed, ValidTo, trail};
 use enc_ascii::is_ascii;
 use enc_utf_8::Char;
@@ -334,6 +334,38 @@ fn after_any(text: &[u8], at: usize) -> usize
     after_code(text, at)
 }
 
+// Goes on from `at` code point by code point, to `bound` or to an error before it.
+fn codes_end(text: &[u8], at: usize, bound: usize) -> usize
+    requires { ⌜ bound ≤ length (now text) ⌝ }
+    requires { ⌜ PassedTo (now text) at ⌝ }
+    ensures { λ r. ⌜ PassedTo (now (text .entry)) r ⌝ }
+    ensures stop { λ r. ⌜ (r < bound → wellFormed (now (text .entry)) ≡ eqb r (length (now (text .entry)))) ⌝ }
+{
+    let mut i = at;
+    while i < bound {
+        let after = after_any(text, i);
+        if after == i {
+            return i;
+        }
+        i = after;
+    }
+    i
+}
+
+// A place after `at` in `len` bytes: `until`, or the nearest to it.
+fn bound_after(at: usize, until: usize, len: usize) -> usize
+    requires { ⌜ at < len ⌝ }
+    ensures { λ r. ⌜ (at < r) × (r ≤ len) ⌝ }
+{
+    if len <= until {
+        return len;
+    }
+    if until <= at {
+        return at + 1;
+    }
+    until
+}
+
 // How much of a text is UTF-8 from its start on: up to the first error. It goes by blocks, and code point by code point in a block with an error and in
 // the first `careful` bytes: where an error is likely, a block is not worth the trial.
 pub fn valid_carefully(text: &[u8], careful: usize) -> usize
@@ -343,27 +375,25 @@ pub fn valid_carefully(text: &[u8], careful: usize) -> usize
     let mut at = 0;
     let mut until = careful;
     while at < text.len() {
-        if at < until {
-            let after = after_any(text, at);
-            if after == at {
-                return at;
-            }
-            at = after;
-        } else {
+        if until <= at {
             let ascii = ascii_bytes(text, at);
             if ascii > 0 {
                 at += ascii;
-            } else {
-                let end = block_cut(text, at);
-                if goes_through(&text[at..end]) {
-                    at = end;
-                } else {
-                    // The first code point goes at once, which has LLVM branch here, so that no later block waits for this one.
-                    until = end;
-                    at = after_any(text, at);
-                }
+                continue;
             }
+            let end = block_cut(text, at);
+            if goes_through(&text[at..end]) {
+                at = end;
+                continue;
+            }
+            until = end;
         }
+        let bound = bound_after(at, until, text.len());
+        let after = codes_end(text, at, bound);
+        if after < bound {
+            return after;
+        }
+        at = after;
     }
     at
 }
