@@ -1,20 +1,19 @@
 -- ASCII that the pass over a text leaves behind: byte by byte, and in blocks. Assumes nothing.
 use mathlib.Core.Path.{_≡_, refl, sym, ap, _∙_}
-use mathlib.Core.Bool.{Bool, true, false, cond}
+use mathlib.Core.Bool.{Bool, true, false}
 use mathlib.Core.List.{List, []}
-use Prim.Native.Nat.{ℕ, zero, suc, _+_, _*_, _-_, _≤_, _<_}
+use Prim.Native.Nat.{ℕ, zero, suc, _+_, _-_, _≤_, _<_}
 use native.Mathlib.Omega.{arith}
 use lib.ListN.{length, getD, take, drop}
-use lib.Dec.{ltb}
-use borrow.Author.Tests.{eq-eqb, lt-ltb, le-ltb}
+use lib.Seq.{getD-take, getD-drop}
 use Rattle.enc_utf_8.specs.declared.Char.the-variants.{Code}
-use Rattle.enc_utf_8.specs.Utf8.{decodeFrom, noError, wellFormed}
+use Rattle.enc_utf_8.specs.Utf8.{wellFormed}
 use Rattle.enc_utf_8.proofs.Decodes.{next-one}
 use Rattle.enc_utf_8.proofs.Items.{next-code}
-use Rattle.enc_utf_8.proofs.Cuts.{Passed, passed-start, passed-code, passed-all, passed-part}
+use Rattle.enc_utf_8.proofs.Cuts.{Passed, passed-code, passed-part}
 use Rattle.enc_ascii.specs.Ascii.{isAscii}
 use Rattle.enc_ascii.proofs.Ascii.{ascii-each, ascii-none}
-use Rattle.enc_utf_8_decoder.specs.After.{AsciiHere, FormedHere}
+use Rattle.enc_utf_8_decoder.specs.After.{AsciiHere}
 
 -- ---- ascii_block, ascii_part
 
@@ -60,49 +59,18 @@ module _ (text : List ℕ) where
       rw e at (passed-run n (at + 1) (passed-one at p (omega arith) (rw f at (a 0 (omega arith)))) (omega arith)
       (λ i l. let g : at + 1 + i ≡ at + suc i = omega arith in rw g (a (suc i) (omega arith))))
 
--- bytes of ASCII are well-formed
-ascii-formed : (bytes : List ℕ) → isAscii bytes ≡ true → wellFormed bytes ≡ true
-ascii-formed bytes h =
-    let z : 0 + length bytes ≡ length bytes = omega arith in
-    passed-all bytes (length bytes) (rw z at (passed-run bytes (length bytes) 0 (passed-start bytes) (omega arith) (λ i l. let y : 0 + i ≡ i = omega arith in rw y (ascii-each bytes h i)))) (omega arith)
-    ∙ eq-eqb (length bytes) (length bytes) refl
-
--- ---- formed_bytes
-
-module _ (text : List ℕ) (at : ℕ) where
-  pub formed-none : (e : ℕ) → at < e → e ≤ length text → FormedHere text at 0
-  unfolding decodeFrom noError
-  formed-none e l h = record { inside = omega arith; formed = refl }
-
-  pub formed-ascii : (n : ℕ) → AsciiHere text at n → FormedHere text at n
-  formed-ascii n a = record { inside = a .inside; formed = ascii-formed (take n (drop at text)) (a .ascii) }
-
-  pub formed-run : (e : ℕ) → at < e → e ≤ length text → (t : Bool) → (t ≡ true → wellFormed (take (e - at) (drop at text)) ≡ true) → t ≡ true → FormedHere text at (e - at)
-  formed-run e l h t f q = record { inside = omega arith; formed = f q }
-
-  -- ---- valid_carefully
-
-  module _ (n : ℕ) (a : FormedHere text at n) where
+  module _ (at n : ℕ) (a : AsciiHere text at n) where
     pub block-within : at + n ≤ length text
     block-within = a .inside
 
+    pub block-less : 0 < n → length text - (at + n) < length text - at
+    block-less h = omega (arith, a .inside)
+
     pub passed-block : Passed text at → Passed text (at + n)
-    passed-block p = passed-part text at n p (a .inside) (a .formed)
+    passed-block p =
+        passed-run n at p (a .inside)
+        (λ i l. let z = ascii-each (take n (drop at text)) (a .ascii) i in rw (getD-take n (drop at text) i 0 (omega arith), getD-drop at text i 0) at z)
 
--- what is left counts twice, and once more where a block is to be tried
-abbrev pub leftFrom : List ℕ → ℕ → ℕ → ℕ
-leftFrom text at until = 2 * (length text - at) + cond (ltb at until) 0 1
-
-at-most : (t : Bool) → cond t 0 1 ≤ 1
-at-most true = omega arith
-at-most false = omega arith
-
-module _ (text : List ℕ) (at until : ℕ) where
-  pub left-code : (r : ℕ) → length text - r < length text - at → leftFrom text r until < leftFrom text at until
-  left-code r h = omega (arith, at-most (ltb r until))
-
-  pub left-block : (n : ℕ) → FormedHere text at n → 0 < n → at < length text → leftFrom text (at + n) until < leftFrom text at until
-  left-block n a l h = omega (arith, a .inside, at-most (ltb (at + n) until))
-
-  pub left-tried : (end : ℕ) → at < end → until ≤ at → leftFrom text at end < leftFrom text at until
-  left-tried end h u = rw (lt-ltb at end h, le-ltb at until u) (omega arith)
+  module _ (at e : ℕ) (l : at < e) (h : e ≤ length text) (t : Bool) (f : t ≡ true → wellFormed (take (e - at) (drop at text)) ≡ true) where
+    pub passed-cut : t ≡ true → Passed text at → Passed text e
+    passed-cut q p = let z : at + (e - at) ≡ e = omega arith in rw z at (passed-part text at (e - at) p (omega arith) (f q))

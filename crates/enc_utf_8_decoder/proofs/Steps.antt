@@ -15,7 +15,7 @@ use Rattle.enc_utf_8.specs.Utf8.{State, state, initial, lowerOf, upperOf, leadi
 use Rattle.enc_utf_8.proofs.Cuts.{Passed, passed-code, passed-less, passed-to, passed-error, passed-none}
 use Rattle.enc_utf_8.proofs.Decodes.{next-past, next-one}
 use Rattle.enc_utf_8.proofs.Items.{next-code}
-use Rattle.enc_utf_8_decoder.specs.After.{placeAfter, fourFit}
+use Rattle.enc_utf_8_decoder.specs.After.{placeAfter, fourFit, PassedTo}
 
 -- ---- the bytes at a place
 
@@ -302,3 +302,27 @@ module _ (text : List ℕ) (at : ℕ) (p : Passed text at) (r : ℕ) (e : r ≡ 
 pub any-ascii : (text : List ℕ) (at : ℕ) → at < length text → getD text at 0 < 0x80 → at + 1 ≡ placeAfter (nextAt text at) at
 unfolding placeAfter
 any-ascii text at h l = ap (λ (r : Char). placeAfter r at) (next-one text at h l)
+
+-- ---- `codes_end`: what it asks for and promises is what the pass over a text keeps
+
+pub passed-in : (text : List ℕ) (at : ℕ) → PassedTo text at → Passed text at
+passed-in text at p = record { within = p .within; cuts = p .cuts }
+
+pub passed-out : (text : List ℕ) (at : ℕ) → Passed text at → PassedTo text at
+passed-out text at p = record { within = p .within; cuts = p .cuts }
+
+-- at the bound nothing is said of an error
+pub not-before : (text : List ℕ) (at bound : ℕ) → bound ≤ at → at < bound → wellFormed text ≡ eqb at (length text)
+not-before text at bound h l = absurd (omega arith)
+
+-- before it an error ends the whole
+pub stops : (text : List ℕ) (at bound r : ℕ) → Passed text at → r ≡ placeAfter (nextAt text at) at → at < bound → bound ≤ length text → r ≡ at → at < bound → wellFormed text ≡ eqb at (length text)
+stops text at bound r p e l h k _ = after-none text at p r e (omega arith) k
+
+-- what is left after `codes_end`
+pub codes-less : (text : List ℕ) (at bound r : ℕ) → at < bound → bound ≤ length text → bound ≤ r → length text - r < length text - at
+codes-less text at bound r h l m = omega arith
+
+-- an error before the bound ends the pass
+pub stopped : (text : List ℕ) (r bound : ℕ) → (r < bound → wellFormed text ≡ eqb r (length text)) → r < bound → wellFormed text ≡ eqb r (length text)
+stopped text r bound s l = s l

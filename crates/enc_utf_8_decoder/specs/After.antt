@@ -27,7 +27,7 @@ pub record AsciiHere (text : List ℕ) (at n : ℕ) : Type 0 where
   pub inside : at + n ≤ length text
   pub ascii : isAscii (take n (drop at text)) ≡ true
 
--- n bytes of a text from `at` on are there, and well-formed by themselves
-pub record FormedHere (text : List ℕ) (at n : ℕ) : Type 0 where
-  pub inside : at + n ≤ length text
-  pub formed : wellFormed (take n (drop at text)) ≡ true
+-- each beginning of a text that has its first `at` bytes is well-formed where what it has after them is
+pub record PassedTo (text : List ℕ) (at : ℕ) : Type 0 where
+  pub within : at ≤ length text
+  pub cuts : (n : ℕ) → at ≤ n → n ≤ length text → wellFormed (take n text) ≡ wellFormed (drop at (take n text))

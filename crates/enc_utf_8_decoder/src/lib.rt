@@ -5,7 +5,7 @@ ghost use Prim.Native.Nat.{_+_, _-_, _<_, _≤_};
 ghost use lib.ListN.{length, getD, take, drop};
 ghost use lib.Dec.{eqb, leb};
 ghost use Rattle.enc_ascii.specs.Ascii.{isAscii};
-ghost use Rattle.enc_utf_8_decoder.specs.After.{placeAfter, fourFit, AsciiHere, FormedHere};
+ghost use Rattle.enc_utf_8_decoder.specs.After.{placeAfter, fourFit, AsciiHere, PassedTo};
 ghost use Rattle.enc_utf_8.specs.Utf8.{lowerOf, upperOf, state, nextFrom, nextAt, wellFormed, ValidTo, trail};
 use enc_ascii::is_ascii;
 use enc_utf_8::Char;
@@ -289,32 +289,38 @@ fn before_trail(text: &[u8], at: usize) -> usize
     at
 }
 
-// The end of the block of 64 bytes at a place, moved back to where a code point begins, so that the automaton can end there.
+// The end of a text, or where its last code point begins, if the end cuts it off and it is not at `at`.
+fn text_cut(text: &[u8], at: usize) -> usize
+    requires { ⌜ at < length (now text) ⌝ }
+    ensures { λ r. ⌜ (at < r) × (r ≤ length (now (text .entry))) ⌝ }
+{
+    let len = text.len();
+    if len - at < 4 {
+        return len;
+    }
+    if text[len - 1] >= 0xc0 {
+        return len - 1;
+    }
+    if text[len - 2] >= 0xe0 {
+        return len - 2;
+    }
+    if text[len - 3] >= 0xf0 {
+        return len - 3;
+    }
+    len
+}
+
+// The end of the block of at most 64 bytes at a place that is tried at once, before a code point, so that the automaton can end there.
 fn block_cut(text: &[u8], at: usize) -> usize
     requires { ⌜ at < length (now text) ⌝ }
     ensures { λ r. ⌜ (at < r) × (r ≤ length (now (text .entry))) ⌝ }
 {
     if text.len() - at <= 64 {
-        return text.len();
+        return text_cut(text, at);
     }
     let last = before_trail(text, at + 64);
     let middle = before_trail(text, last);
     before_trail(text, middle)
-}
-
-// How many bytes from `at` on are told to be UTF-8 at once: a block of ASCII, else all up to `end`, or none.
-fn formed_bytes(text: &[u8], at: usize, end: usize) -> usize
-    requires { ⌜ (at < end) × (end ≤ length (now text)) ⌝ }
-    ensures { λ r. ⌜ FormedHere (now (text .entry)) at r ⌝ }
-{
-    let ascii = ascii_bytes(text, at);
-    if ascii > 0 {
-        return ascii;
-    }
-    if goes_through(&text[at..end]) {
-        return end - at;
-    }
-    0
 }
 
 // The place after the code point at `at`, ASCII or not, or `at` where it is ill-formed.
@@ -328,6 +334,38 @@ fn after_any(text: &[u8], at: usize) -> usize
     after_code(text, at)
 }
 
+// Goes on from `at` code point by code point, to `bound` or to an error before it.
+fn codes_end(text: &[u8], at: usize, bound: usize) -> usize
+    requires { ⌜ bound ≤ length (now text) ⌝ }
+    requires { ⌜ PassedTo (now text) at ⌝ }
+    ensures { λ r. ⌜ PassedTo (now (text .entry)) r ⌝ }
+    ensures stop { λ r. ⌜ (r < bound → wellFormed (now (text .entry)) ≡ eqb r (length (now (text .entry)))) ⌝ }
+{
+    let mut i = at;
+    while i < bound {
+        let after = after_any(text, i);
+        if after == i {
+            return i;
+        }
+        i = after;
+    }
+    i
+}
+
+// A place after `at` in `len` bytes: `until`, or the nearest to it.
+fn bound_after(at: usize, until: usize, len: usize) -> usize
+    requires { ⌜ at < len ⌝ }
+    ensures { λ r. ⌜ (at < r) × (r ≤ len) ⌝ }
+{
+    if len <= until {
+        return len;
+    }
+    if until <= at {
+        return at + 1;
+    }
+    until
+}
+
 // How much of a text is UTF-8 from its start on: up to the first error. It goes by blocks, and code point by code point in a block with an error and in
 // the first `careful` bytes: where an error is likely, a block is not worth the trial.
 pub fn valid_carefully(text: &[u8], careful: usize) -> usize
@@ -337,21 +375,25 @@ pub fn valid_carefully(text: &[u8], careful: usize) -> usize
     let mut at = 0;
     let mut until = careful;
     while at < text.len() {
-        if at < until {
-            let after = after_any(text, at);
-            if after == at {
-                return at;
+        if until <= at {
+            let ascii = ascii_bytes(text, at);
+            if ascii > 0 {
+                at += ascii;
+                continue;
             }
-            at = after;
-        } else {
             let end = block_cut(text, at);
-            let formed = formed_bytes(text, at, end);
-            if formed > 0 {
-                at += formed;
-            } else {
-                until = end;
+            if goes_through(&text[at..end]) {
+                at = end;
+                continue;
             }
+            until = end;
         }
+        let bound = bound_after(at, until, text.len());
+        let after = codes_end(text, at, bound);
+        if after < bound {
+            return after;
+        }
+        at = after;
     }
     at
 }

@@ -50,7 +50,7 @@ fn formed_end(bytes: &[u8], at: usize) -> usize
     requires { ⌜ at ≤ length (now bytes) ⌝ }
     ensures { λ r. ⌜ Stretch (now (bytes .entry)) at r ⌝ }
 {
-    at + valid_carefully(&bytes[at..], 16)
+    at + valid_carefully(&bytes[at..], 64)
 }
 
 // How many bytes the text of a well-formed part takes, or, where none begins at the place, that of one ill-formed part.
