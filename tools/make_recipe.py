@@ -24,6 +24,7 @@ A description has one thing on a line; `#` starts a comment, blank lines don't c
     enum Glue: INT            # entries with their numbers
         COLD = 0
         HOT = 1
+    string Tag: 3             # a STRING of 3 bytes under a name of its own; one of 0 bytes has no room for its zero
     unknown Dryer: 20         # a type of 20 bytes that the book leaves out, as one that has to be fetched yet
     memory                    # what stands in the memory; what isn't named is zero
         Name = "Spine"
@@ -173,6 +174,11 @@ class Recipe:
         elif m := re.fullmatch(rf"unknown ({NAME})\s*:\s*(\d+)", text):
             self.declare("unknown", m[1])
             self.types[m[1]].size = int(m[2])
+        elif m := re.fullmatch(rf"string ({NAME})\s*:\s*(\d+)", text):
+            if int(m[2]) >= 2**32:
+                raise Wrong(f"{m[1]} has {m[2]} bytes, which is more than a type book can say")
+            self.declare("text", m[1])
+            self.types[m[1]].id, self.types[m[1]].size = STRING, int(m[2])
         elif text == "memory":
             self.declare("memory", "")
         elif not self.order:

@@ -66,6 +66,9 @@ BAD = [
     ("alias A: INT\n    x: INT", 2, "can't be read"),
     ("unknown A: 4", 1, "can't be unknown"),
     ("struct S\n    a: A\nunknown A: four", 3, "can't be read"),
+    ("struct S\n    a: A\nstring A: four", 3, "can't be read"),
+    ("struct S\n    a: INT\nstring A: 4294967296", 3, "more than a type book can say"),
+    ('struct S\n    a: A\nstring A: 2\nmemory\n    a = "abc"', 5, "too long"),
     ("struct S\n    a: A\nunknown A: 4\nmemory\n    a = 1", 5, "set part by part"),
     (GOOD + "    a", 19, "`Path = value`"),
     (GOOD + "    a = x", 19, "a whole number is due"),
@@ -142,7 +145,7 @@ def content(*path):
 
 
 def examples():
-    for folder, name in (("glue", "glue"), ("pieces", "pieces"), ("ours", "ours"), ("upload", "station")):
+    for folder, name in (("glue", "glue"), ("clipped", "clipped"), ("pieces", "pieces"), ("ours", "ours"), ("upload", "station")):
         text = content("examples", folder, f"{name}.recipe")
         (book, memory), _ = made(text)
         case(book == content("examples", folder, "book.bin"), f"examples/{folder}/book.bin isn't what its description makes")

@@ -43,7 +43,7 @@ use Rattle.tape_array_elements.proofs.Items.{item-last, item-further}
 use Rattle.de.specs.Plans.{Given, GivenElement, memberPart, PartIs}
 use Rattle.de.specs.declared.reading.Part.{Part}
 use Rattle.de.specs.declared.reading.Part.the-variants as part
-use Rattle.de.specs.declared.reading.Typed.{Typed}
+use Rattle.de_leaf_output.specs.declared.Typed.{Typed}
 use Rattle.de.specs.Walk.{Ctx, ctx, typedOf, Child, leafOf, checked, memberOf, membersFrom, membersOf, mapOf, elementsFrom, elementsOf, dimensionOf, elementBy, arrayOf, shapeWalk, walk}
 use Rattle.de_leaves.specs.Leaf.{leafAt}
 use Rattle.de_leaf_output.specs.Leaves.{traceOf}

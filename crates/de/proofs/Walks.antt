@@ -25,7 +25,7 @@ use Rattle.tape_shape.specs.Array.{strideOf}
 use Rattle.tape.specs.Record.{newRecord, declaring}
 use Rattle.de_output.specs.Trace.{Trace, rec, one, refuse, _then_}
 use Rattle.tape_array_elements.specs.Element.{Content, whole, further, cut, elementItem, shapeAt, elementCheck}
-use Rattle.de.specs.declared.reading.Typed.{Typed}
+use Rattle.de_leaf_output.specs.declared.Typed.{Typed}
 use Rattle.de.specs.declared.reading.Part.{Part}
 use Rattle.de.specs.declared.reading.Part.the-variants as part
 use Rattle.de.specs.Plans.{memberPart}

@@ -16,7 +16,7 @@ use Rattle.resolve_field_plan.specs.Plan.{PlanServes}
 use Rattle.tape_shape.specs.declared.Shape.the-variants as shape
 use Rattle.tape_shape.specs.Array.{isLast}
 use Rattle.tape_array_elements.specs.Element.{shapeAt}
-use Rattle.de.specs.declared.reading.Typed.{Typed}
+use Rattle.de_leaf_output.specs.declared.Typed.{Typed}
 use Rattle.de.specs.declared.reading.Part.{Part}
 use Rattle.de.specs.declared.reading.Part.the-variants as part
 use Rattle.de.specs.Walk.{Ctx, typedOf}

@@ -24,7 +24,7 @@ use Rattle.tape_shape.specs.declared.Shape.{Shape}
 use Rattle.tape_shape.specs.declared.Shape.the-variants as shape
 use Rattle.tape_shape.specs.Array.{strideOf, arrayBytes}
 use Rattle.tape_array_elements.specs.Element.{Content, whole, further, cut, elementItem, shapeAt, elementCheck}
-use Rattle.de.specs.declared.reading.Typed.{Typed}
+use Rattle.de_leaf_output.specs.declared.Typed.{Typed}
 use Rattle.de_leaves.specs.Leaf.{leafAt}
 use Rattle.de_leaf_output.specs.Leaves.{traceOf}
 use Rattle.tape.specs.Record.{newRecord, declaring}

@@ -14,7 +14,7 @@ ghost use Rattle.de.specs.Read.{rootTrace, readTrace, givenTrace};
 use crate::array_access::array;
 use crate::map_access::map;
 use crate::reading::Reading;
-use crate::reading::Typed;
+use de_leaf_output::Typed;
 use de_leaf_output::leaf;
 use de_output::ReadAnswer;
 use de_output::Step;
@@ -55,17 +55,7 @@ pub(crate) fn value(
     match form {
         Shape::Map => map(s, book, index, inside, plan, bytes, tape, text),
         Shape::Array => array(s, book, index, inside, bytes, tape, text),
-        Shape::Leaf => leaf(
-            s,
-            book,
-            v.width,
-            typed.named,
-            typed.resolved,
-            category,
-            bytes,
-            tape,
-            text,
-        ),
+        Shape::Leaf => leaf(s, book, v.width, typed, bytes, tape, text),
     }
 }
 

@@ -13,7 +13,7 @@ use crate::deserializer::value;
 use crate::reading::Member;
 use crate::reading::Part;
 use crate::reading::Reading;
-use crate::reading::Typed;
+use de_leaf_output::Typed;
 use de_output::Step;
 use de_output::put_frame;
 use de_output::stop;

@@ -1,12 +1,5 @@
-// What the functions of the reader hand down: a type, and where a value of it stands.
-use type_category::type_category::AdsTypeCategory;
-
-// A type: its block as it was named, the block that its aliases resolve to, and the category of that.
-pub struct Typed {
-    pub named: u32,
-    pub resolved: u32,
-    pub category: AdsTypeCategory,
-}
+// What the functions of the reader hand down beside a type: where a value of it stands.
+use de_leaf_output::Typed;
 
 // A value of a type, the pointer width, and the levels left.
 pub struct Reading {

@@ -26,6 +26,13 @@ use tape::record::UNIT;
 use tape::record::UNSIGNED;
 use type_category::type_category::AdsTypeCategory;
 
+// A type: its block as it was named, the block that its aliases resolve to, and the category of that.
+pub struct Typed {
+    pub named: u32,
+    pub resolved: u32,
+    pub category: AdsTypeCategory,
+}
+
 // The first n bytes, or all where there are fewer.
 fn first(bytes: &[u8], n: usize) -> &[u8]
     ensures { λ r. ⌜ now r ≡ take n (now (bytes .entry)) ⌝ }
@@ -112,25 +119,24 @@ pub fn put_leaf(
     }
 }
 
-// The value of type t, named at block `named`, that is neither struct nor array.
+// The value of a type that is neither struct nor array.
 pub fn leaf(
     s: Step,
     book: &[u8],
     width: u8,
-    named: u32,
-    t: u32,
-    category: AdsTypeCategory,
+    typed: Typed,
     bytes: &[u8],
     tape: &mut [u8],
     text: &mut [u8],
 ) -> Step
-    requires { ⌜ (t + fieldsOf (now book) t + entriesOf (now book) t < 65536) × (category ≡ categoryOf (now book) width t) ⌝ }
-    ensures { λ r. ⌜ From (traceOf named (leafAt (now (book .entry)) width t (now (bytes .entry))) (now (bytes .entry))) (now (tape .entry)) (now (text .entry)) s r (now (tape .exit)) (now (text .exit)) ⌝ }
+    requires { ⌜ (typed .resolved + fieldsOf (now book) (typed .resolved) + entriesOf (now book) (typed .resolved) < 65536) × (typed .category ≡ categoryOf (now book) width (typed .resolved)) ⌝ }
+    ensures { λ r. ⌜ From (traceOf (typed .named) (leafAt (now (book .entry)) width (typed .resolved) (now (bytes .entry))) (now (bytes .entry))) (now (tape .entry)) (now (text .entry)) s r (now (tape .exit)) (now (text .exit)) ⌝ }
 {
+    let category = typed.category;
     put_leaf(
         s,
-        named,
-        de_leaves::leaf::leaf_by(book, width, t, category, bytes),
+        typed.named,
+        de_leaves::leaf::leaf_by(book, width, typed.resolved, category, bytes),
         bytes,
         tape,
         text,

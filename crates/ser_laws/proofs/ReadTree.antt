@@ -41,7 +41,7 @@ use Rattle.enc_text_decoder.specs.Text.{decodedBy}
 use Rattle.de_output.specs.Trace.{Event, rec, text, Trace, done, stop, textBytes, tapeBytes, one, refuse, _then_}
 use Rattle.de_output.proofs.Runs.{text-then, tape-then}
 use Rattle.tape_array_elements.specs.Element.{Content, whole, further, shapeAt, elementItem, elementCheck}
-use Rattle.de.specs.declared.reading.Typed.{Typed}
+use Rattle.de_leaf_output.specs.declared.Typed.{Typed}
 use Rattle.de.specs.Walk.{Ctx, ctx, typedOf, Child, leafOf, checked, fieldValue, memberOf, membersFrom, membersOf, mapOf, elementsFrom, elementsOf, dimensionOf, elementBy, arrayBy, arrayOf, shapeWalk, itemWalk, walk}
 use Rattle.tape_form.specs.Tree.{Tree, leaf, array, map, Elements, none, element, Members, no-keys, member, elementCount, keys, with-type, with-A, records, elementRecords, memberRecords, depth, elementsDepth, membersDepth, LeafForm, FineType, FineLeaf, FineKey, Fine, FineElements, FineMembers}
 use Rattle.tape_form.specs.Tree as trees

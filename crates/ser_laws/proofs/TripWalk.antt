@@ -41,7 +41,7 @@ use Rattle.de_leaves.specs.Leaf.{leafAt}
 use Rattle.de_output.specs.Trace.{Event, rec, Trace, done, stop, textBytes, tapeBytes, one, refuse}
 use Rattle.de_output.proofs.Runs.{tape-then}
 use Rattle.tape_array_elements.specs.Element.{Content, whole, further, cut, shapeAt, elementItem, elementCheck}
-use Rattle.de.specs.declared.reading.Typed.{Typed}
+use Rattle.de_leaf_output.specs.declared.Typed.{Typed}
 use Rattle.de.specs.Walk as de
 use Rattle.ser_leaf.specs.Leaf.{leafFor}
 use Rattle.ser.specs.Write as ser

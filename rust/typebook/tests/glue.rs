@@ -49,6 +49,21 @@ fn the_glue_recipe() {
     assert_eq!(printed(&folder), wanted);
 }
 
+/// Texts that were ended and texts that fill their bytes; one of no bytes is clipped too.
+#[test]
+fn the_clipped_texts() {
+    let folder = Path::new(env!("CARGO_MANIFEST_DIR")).join("../../examples/clipped");
+    let wanted = std::fs::read_to_string(folder.join("stdout")).expect("the lines");
+    assert_eq!(printed(&folder), wanted);
+    let count = |word| {
+        wanted
+            .lines()
+            .filter(|line| line.split(' ').next() == Some(word))
+            .count()
+    };
+    assert_eq!((count("text"), count("clipped")), (4, 4));
+}
+
 /// A temperature changed and written back: its bytes change and no others.
 #[test]
 fn the_glue_recipe_edited() {
