@@ -146,7 +146,7 @@ fn leads_to(book: &[u8], index: &[u32], n: u32) -> bool
 }
 
 // Whether the index leads to every type block of the book. Then it leads to every name that the book has.
-fn holds_all(book: &[u8], index: &[u32]) -> bool
+pub fn holds_all(book: &[u8], index: &[u32]) -> bool
     ensures { λ r. ⌜ r ≡ holdsAll (now (book .entry)) (now (index .entry)) ⌝ }
 {
     let n = searched(book);
@@ -217,7 +217,7 @@ pub fn type_of(book: &[u8], index: &[u32], trust: Trust, b: u32) -> Found
 // ---- the making of an index
 
 // The first empty slot for a name, or the index's length where those that are tried are taken.
-fn free_slot(book: &[u8], index: &[u32], name: &[u8]) -> usize
+pub fn free_slot(book: &[u8], index: &[u32], name: &[u8]) -> usize
     ensures { λ r. ⌜ r ≡ freeOf (now (book .entry)) (now (index .entry)) (now (name .entry)) ⌝ }
 {
     let slots = hints_at(book, index.len());
