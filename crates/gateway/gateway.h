@@ -48,9 +48,9 @@ extern "C" {
 
 /* ---- which library this is */
 
-/* The version that this header describes, and that of the library: two hexadecimal digits for each of three parts, as 0x000100 for
- * 0.1.0. */
-#define GATEWAY_VERSION 0x000100
+/* The version that this header describes, and that of the library: two hexadecimal digits for each of three parts, as 0x000200 for
+ * 0.2.0. */
+#define GATEWAY_VERSION 0x000200
 uint32_t gateway_version(void);
 
 /* ---- texts: UTF-8 on one side, the controller's bytes on the other (WHATWG Encoding Standard) */
@@ -140,16 +140,20 @@ uint8_t gateway_time_count(const uint8_t *name, size_t name_len, const uint32_t 
 uint8_t gateway_append(uint8_t *buffer, size_t buffer_len, size_t len, const uint8_t *piece, size_t piece_len, uint64_t *values,
                        size_t values_len);
 
-/* Marks the names of a checked book's types in `marks`, 32,768 elements exactly, which may hold anything before: a mark too many only
- * costs a search. Which other marks are set is not said. */
-void gateway_mark_names_in(const uint8_t *book, size_t book_len, uint32_t *marks, size_t marks_len);
+/* 1 where the index leads to every type of the book, whatever both hold, else 0. */
+uint8_t gateway_index_holds(const uint8_t *book, size_t book_len, const uint32_t *index, size_t index_len);
 
-/* The same as gateway_append without a check of the book and mostly without a search of it, for many types one after the other. It may
- * only be called where gateway_check_book(buffer, buffer_len, len) would return 0 and with `marks` that gateway_mark_names_in made of
- * that book, or that this call left with it; both unchanged since. The longer book is valid then, and its names are marked. A book that
- * was cut back to its first types may keep its marks. */
-uint8_t gateway_append_in(uint8_t *buffer, size_t buffer_len, size_t len, const uint8_t *piece, size_t piece_len, uint32_t *marks,
-                          size_t marks_len, uint64_t *values, size_t values_len);
+/* The same as gateway_append without a check of the book and without a search of it, for many types one after the other: the name is looked
+ * up by an index of the book's names, and the new type is put into it. It may only be called where
+ * gateway_check_book(buffer, buffer_len, len) would return 0, and with held = 1 only where gateway_index_holds(buffer, len, index, index_len)
+ * would return 1. With another `held` the index may hold anything, stays as it is, and the book is searched for a name to which it does not
+ * lead.
+ * 0: values: the book's new length, and 1 where the index leads to every type of the longer book, else 0. So they are the `len` and the
+ * `held` of the next call; the longer book is valid. A refusal leaves buffer and index as before.
+ * An index that gateway_fill_names made goes on so while it has fewer than three numbers for each block of the book before the call, and one
+ * of 64 slots is free for the name: two numbers a type or more serve well. Else it stays as it is, and a longer one can be made. */
+uint8_t gateway_append_in(uint8_t *buffer, size_t buffer_len, size_t len, const uint8_t *piece, size_t piece_len, uint32_t *index,
+                          size_t index_len, uint8_t held, uint64_t *values, size_t values_len);
 
 /* ---- aliases, references, fields */
 

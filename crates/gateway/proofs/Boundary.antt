@@ -2,7 +2,7 @@
 -- a write returned says of its output. Assumes nothing.
 use mathlib.Core.Path.{_≡_, refl, sym, ap, _∙_}
 use mathlib.Core.Bool.{Bool, true, false, cond}
-use mathlib.Core.List.{List}
+use mathlib.Core.List.{List, _∷_}
 use Prim.Native.Nat.{ℕ, zero, suc, _+_}
 use native.Mathlib.Omega.{arith}
 use lib.ListN.{length, take}
@@ -15,11 +15,14 @@ use Rattle.type_book_check.proofs.Valid.{valid-book}
 use Rattle.type_cache.specs.declared.Appended.the-variants.{Done, Refused}
 use Rattle.type_cache.specs.Append.{appendedNumbers, appendRefusal, appendCall}
 use Rattle.type_cache.proofs.Adds.{grown}
+use Rattle.type_index.specs.Trust.{holdsAll, Trusted}
 use Rattle.enc_number.specs.Answer.{refusalOf, truthNumber}
+use Rattle.gateway_appending.specs.Growth.{trustOf}
+use Rattle.gateway_appending.proofs.Next.{Next, held-said, given-next}
 use Rattle.ser.specs.Write.{Outcome, went, refused}
 use Rattle.ser.specs.Call.{writeNumbers}
 use Rattle.gateway_write_answers.specs.Answers.{isWritten, Numbered}
-use Rattle.gateway.specs.Calls.{AppendGiven, WriteGiven}
+use Rattle.gateway.specs.Calls.{AppendGiven, AppendInGiven, WriteGiven}
 
 -- `gateway_check_book` returned 0
 pub book-checked : (buffer : List ℕ) (len : ℕ) → refusalOf (bookNumbers (checkBook buffer len)) ≡ 0 → ValidBook (take len buffer)
@@ -45,6 +48,15 @@ unfolding appendCall
 append-checked buffer len piece {buffer′ = buffer′} a =
     let z : appendRefusal buffer len piece ≡ 0 = none-refused _ _ (a .gives .is ∙ ap refusalOf (a .by .answer)) in
     valid-book buffer′ (len + length piece) (rw (a .by .bytes) (grown buffer len piece z .check))
+
+-- `gateway_index_holds` returned 1: that may be said of the index
+pub index-checked : (book index : List ℕ) → truthNumber (holdsAll book index) ≡ 1 → Trusted book index (trustOf 1)
+index-checked book index e = held-said book index (one-true (holdsAll book index) e)
+
+-- `gateway_append_in` returned 0: the longer book needs no check, and the second value is what may be said of the index the next time
+pub append-in-next : {buffer piece index buffer′ index′ : List ℕ} {len held : ℕ} (x y : ℕ) (rest : List ℕ) (n h : ℕ) (more : List ℕ)
+    → AppendInGiven buffer len piece index held (x ∷ y ∷ rest) 0 buffer′ index′ (n ∷ h ∷ more) → Next buffer′ index′ n h
+append-in-next x y rest n h more a = given-next (a .answer) (a .by) x y rest n h more (a .gives)
 
 -- `gateway_write` returned 0: something was written, and the output is that (`call-numbered` and `book-numbered` of `gateway_write_answers` give the premise)
 pub write-done : (o : Outcome) {image output before output′ after : List ℕ} → Numbered o → WriteGiven o image output before 0 output′ after → isWritten o ≡ true

@@ -29,7 +29,8 @@ use Rattle.ser.specs.Write.{Outcome}
 use Rattle.ser.specs.Call.{writeNumbers, WriteIs}
 use Rattle.plan_save.specs.declared.Plan.{Plan}
 use Rattle.plan_save.specs.Call.{planNumbers, planRefusal, PlanIs}
-use Rattle.gateway_appending.specs.Marks.{AppendedOnce}
+use Rattle.gateway_appending.specs.declared.Growth.{Growth}
+use Rattle.gateway_appending.specs.Growth.{growthNumbers, trustOf, AppendedBy}
 use Rattle.gateway_lent_values.specs.Values.{Gives}
 
 -- what the building of an index answers, as a number, and the numbers that it leaves
@@ -44,11 +45,12 @@ pub record AppendGiven (buffer : List ℕ) (len : ℕ) (piece before : List ℕ)
   pub by : AppendIs buffer len piece answer buffer′
   pub gives : Gives (appendedNumbers answer) before r after
 
--- the same for a checked book whose names are marked; the book that is left is valid too, and its names are marked
-pub record AppendInGiven (buffer : List ℕ) (len : ℕ) (piece before : List ℕ) (r : ℕ) (buffer′ marks′ after : List ℕ) : Type 0 where
-  pub answer : Appended
-  pub by : AppendedOnce buffer len piece answer buffer′ marks′
-  pub gives : Gives (appendedNumbers answer) before r after
+-- the same for a checked book, by an index of its names and what is known of it: the book that is left is valid too, and so is what is answered of
+-- the index
+pub record AppendInGiven (buffer : List ℕ) (len : ℕ) (piece index : List ℕ) (held : ℕ) (before : List ℕ) (r : ℕ) (buffer′ index′ after : List ℕ) : Type 0 where
+  pub answer : Growth
+  pub by : AppendedBy buffer len piece index (trustOf held) answer buffer′ index′
+  pub gives : Gives (growthNumbers answer) before r after
 
 -- what a chain in a checked book comes to; its end is a type block
 pub record ChainGiven (book : List ℕ) (answer : Resolved) (before : List ℕ) (r : ℕ) (after : List ℕ) : Type 0 where

@@ -7,5 +7,5 @@ ghost use Rattle.gateway.specs.Version.{version};
 pub extern "C" fn gateway_version() -> u32
     ensures { λ r. ⌜ r ≡ version ⌝ }
 {
-    0x0000_0100
+    0x0000_0200
 }

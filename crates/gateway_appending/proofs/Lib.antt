@@ -1,3 +1,5 @@
--- Laws that the functions' proofs cite.
-pub mod Marking
-pub mod Appending
+-- Laws that the functions' proofs cite; `Next` is for callers.
+mod Known
+mod Appending
+mod Numbers
+pub mod Next

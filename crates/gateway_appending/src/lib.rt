@@ -1,73 +1,65 @@
-// Appending where the book was checked once, as while a book is completed type by type: the book is not checked again, and a name whose
-// hash is not marked is new, so that the book is not searched either.
+// Appending where the book was checked once, as while a book is completed type by type: the book is not checked again, the name is looked up
+// by an index of the book's names, and the new type goes into the index, so that it is the longer book's.
 ghost use mathlib.Core.Path.{_≡_};
-ghost use Prim.Native.Nat.{_+_};
-ghost use lib.ListN.{length, take};
-ghost use Rattle.type_doubles.specs.Met.{MarkedTo};
+ghost use Prim.Native.Nat.{_<_};
+ghost use lib.ListN.{take};
+ghost use Rattle.type_provider.specs.Find.{searched};
+ghost use Rattle.type_index.specs.Trust.{Trusted};
 ghost use Rattle.type_book_check.specs.declared.BookCheck.the-variants.{Valid};
-ghost use Rattle.type_book_check.specs.Check.{ValidBook, checkBook};
+ghost use Rattle.type_book_check.specs.Check.{checkBook};
 ghost use Rattle.type_cache.specs.Append.{isKnown, appendRefusal};
-ghost use Rattle.gateway_appending.specs.Marks.{NamesMarked, AppendedOnce};
+ghost use Rattle.gateway_lent_values.specs.Values.{Gives};
+ghost use Rattle.gateway_appending.specs.Growth.{growthNumbers, trustOf, GoesIs, AppendedBy};
+use gateway_lent_values::done_2;
 use type_book::block;
-use type_cache::Appended;
+use type_book::block::BLOCK;
 use type_cache::addition_refusal;
 use type_cache::copy;
 use type_cache::has_room;
-use type_marks::hash;
-use type_marks::is_marked;
-use type_marks::mark;
+use type_index::Trust;
+use type_index::find_by;
+use type_index_grow::enter_last;
 use type_provider::Found;
-use type_provider::find;
-use type_provider::searched;
 
-// Marks the name of block i, if it is a type block.
-fn mark_block(book: &[u8], marks: &mut [u32], i: u32)
-    requires { ⌜ (length (now marks) ≡ 32768) × MarkedTo (now book) (now marks) i ⌝ }
-    ensures { λ _. ⌜ MarkedTo (now (book .entry)) (now (marks .exit)) (i + 1) ⌝ }
-{
-    if !block::is_type(book, i) {
-        return;
-    }
-    mark(marks, hash(block::name(book, i)));
+// The book's new length, where the index leads to every type of the longer book and where it may not; or document 01's number of the refusal.
+pub enum Growth {
+    Entered(usize),
+    Loose(usize),
+    Refused(u8),
 }
 
-// Marks the name of each type of the book. The marks may hold anything before: a mark too many only costs a search.
-pub fn mark_names(book: &[u8], marks: &mut [u32])
-    requires { ⌜ ValidBook (now book) × (length (now marks) ≡ 32768) ⌝ }
-    ensures { λ _. ⌜ NamesMarked (now (book .entry)) (now (marks .exit)) ⌝ }
+// What a caller says of its index: 1 that it leads to every type of the book.
+fn trust_of(held: u8) -> Trust
+    ensures { λ r. ⌜ r ≡ trustOf held ⌝ }
 {
-    let n = searched(book);
-    let mut i: u32 = 0;
-    while i < n {
-        mark_block(book, marks, i);
-        i += 1;
+    if held == 1 {
+        return Trust::Held;
     }
+    Trust::Foreign
 }
 
-// Whether the book has a type of that name: it is searched only where the name's hash is marked.
-fn is_known_by(book: &[u8], marks: &[u32], name: &[u8]) -> bool
-    requires { ⌜ (length (now marks) ≡ 32768) × NamesMarked (now book) (now marks) ⌝ }
+// Whether the book has a type of that name: it is not searched where the index is known to lead to every type.
+fn is_known_by(book: &[u8], index: &[u32], trust: Trust, name: &[u8]) -> bool
+    requires { ⌜ Trusted (now book) (now index) trust ⌝ }
     ensures { λ r. ⌜ r ≡ isKnown (now (book .entry)) (now (name .entry)) ⌝ }
 {
-    if !is_marked(marks, hash(name)) {
-        return false;
+    let found = find_by(book, index, trust, name);
+    match found {
+        Found::At(_) => true,
+        Found::Nothing => false,
     }
-    let Found::At(_) = find(book, name) else {
-        return false;
-    };
-    true
 }
 
 // Document 01's number of the first refusal, 0 for none, where the book was checked: the addition's, a known name, no room.
-fn refusal_in(buffer: &[u8], len: usize, addition: &[u8], marks: &[u32]) -> u8
-    requires { ⌜ (checkBook (now buffer) len ≡ Valid) × (length (now marks) ≡ 32768) × NamesMarked (take len (now buffer)) (now marks) ⌝ }
+fn refusal_in(buffer: &[u8], len: usize, addition: &[u8], index: &[u32], trust: Trust) -> u8
+    requires { ⌜ (checkBook (now buffer) len ≡ Valid) × Trusted (take len (now buffer)) (now index) trust ⌝ }
     ensures { λ r. ⌜ r ≡ appendRefusal (now (buffer .entry)) len (now (addition .entry)) ⌝ }
 {
     let of_addition = addition_refusal(addition);
     if of_addition != 0 {
         return of_addition;
     }
-    if is_known_by(&buffer[..len], marks, block::name(addition, 0)) {
+    if is_known_by(&buffer[..len], index, trust, block::name(addition, 0)) {
         return 4;
     }
     if has_room(buffer.len(), len, addition.len()) {
@@ -76,17 +68,62 @@ fn refusal_in(buffer: &[u8], len: usize, addition: &[u8], marks: &[u32]) -> u8
     15
 }
 
-// Appends one whole type, as `append` does, to a book that was checked. The book that is left is valid and its names are marked, so it
-// can be appended to in the same way.
-pub fn append_in(buffer: &mut [u8], len: usize, addition: &[u8], marks: &mut [u32]) -> Appended
-    requires { ⌜ (checkBook (now buffer) len ≡ Valid) × (length (now marks) ≡ 32768) × NamesMarked (take len (now buffer)) (now marks) ⌝ }
-    ensures { λ r. ⌜ AppendedOnce (now (buffer .entry)) len (now (addition .entry)) r (now (buffer .exit)) (now (marks .exit)) ⌝ }
+// Puts the new type, block n of the longer book, into an index that leads to every other, and says whether it could.
+fn goes_on(longer: &[u8], index: &mut [u32], trust: Trust, n: u32) -> bool
+    requires { ⌜ n < searched (now longer) ⌝ }
+    ensures { λ r. ⌜ GoesIs trust (now (longer .entry)) (now (index .entry)) n r (now (index .exit)) ⌝ }
 {
-    let refusal = refusal_in(buffer, len, addition, marks);
+    match trust {
+        Trust::Held => enter_last(longer, index, n),
+        Trust::Unknown => false,
+        Trust::Foreign => false,
+    }
+}
+
+// Appends one whole type, as `append` does, to a book that was checked. The book that is left is valid, and what the answer says of the index
+// is so, so that the next type can be appended in the same way.
+fn append_with(
+    buffer: &mut [u8],
+    len: usize,
+    addition: &[u8],
+    index: &mut [u32],
+    trust: Trust,
+) -> Growth
+    requires { ⌜ (checkBook (now buffer) len ≡ Valid) × Trusted (take len (now buffer)) (now index) trust ⌝ }
+    ensures { λ r. ⌜ AppendedBy (now (buffer .entry)) len (now (addition .entry)) (now (index .entry)) trust r (now (buffer .exit)) (now (index .exit)) ⌝ }
+{
+    let refusal = refusal_in(buffer, len, addition, index, trust);
     if refusal != 0 {
-        return Appended::Refused(refusal);
+        return Growth::Refused(refusal);
     }
     let longer = copy(buffer, len, addition);
-    mark(marks, hash(block::name(addition, 0)));
-    Appended::Done(longer)
+    if goes_on(&buffer[..longer], index, trust, (len / BLOCK) as u32) {
+        return Growth::Entered(longer);
+    }
+    Growth::Loose(longer)
+}
+
+// The same, by what a caller says of its index.
+pub fn append_in(
+    buffer: &mut [u8],
+    len: usize,
+    addition: &[u8],
+    index: &mut [u32],
+    held: u8,
+) -> Growth
+    requires { ⌜ (checkBook (now buffer) len ≡ Valid) × Trusted (take len (now buffer)) (now index) (trustOf held) ⌝ }
+    ensures { λ r. ⌜ AppendedBy (now (buffer .entry)) len (now (addition .entry)) (now (index .entry)) (trustOf held) r (now (buffer .exit)) (now (index .exit)) ⌝ }
+{
+    append_with(buffer, len, addition, index, trust_of(held))
+}
+
+// The new length and what is known of the index, or the refusal.
+pub fn give_growth(answer: Growth, values: &mut [u64]) -> u8
+    ensures { λ r. ⌜ Gives (growthNumbers answer) (now (values .entry)) r (now (values .exit)) ⌝ }
+{
+    match answer {
+        Growth::Entered(n) => done_2(values, n as u64, 1),
+        Growth::Loose(n) => done_2(values, n as u64, 0),
+        Growth::Refused(n) => n,
+    }
 }

@@ -1,3 +1,4 @@
+-- `refusal_in` meets its contract. Assumes nothing.
 use Rattle.gateway_appending.proofs.Appending.{once-cut, once-addition, once-known, once-none, once-room}
 use borrow.Author.Needs.{needs}
 use Rattle.gateway_appending.proofs.refusal_in.Statement.{statement}
