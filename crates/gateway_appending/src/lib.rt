@@ -17,7 +17,7 @@ use type_cache::addition_refusal;
 use type_cache::copy;
 use type_cache::has_room;
 use type_index::Trust;
-use type_index::find_by;
+use type_index::find_in;
 use type_index_grow::enter_last;
 use type_provider::Found;
 
@@ -43,7 +43,7 @@ fn is_known_by(book: &[u8], index: &[u32], trust: Trust, name: &[u8]) -> bool
     requires { ⌜ Trusted (now book) (now index) trust ⌝ }
     ensures { λ r. ⌜ r ≡ isKnown (now (book .entry)) (now (name .entry)) ⌝ }
 {
-    let found = find_by(book, index, trust, name);
+    let found = find_in(book, index, trust, name);
     match found {
         Found::At(_) => true,
         Found::Nothing => false,

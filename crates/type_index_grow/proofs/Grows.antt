@@ -12,7 +12,7 @@ use borrow.Author.Tests.{eqb-true, eqb-false, ltb-true, lt-ltb}
 use Rattle.type_book.specs.Book.{blocks, isType, nameOf}
 use Rattle.type_provider.specs.declared.Found.{Found}
 use Rattle.type_provider.specs.declared.Found.the-variants.{Nothing}
-use Rattle.type_provider.specs.Find.{searched, find, NamedBlock}
+use Rattle.type_provider.specs.Find.{searched, find, NamedBlock, isFound}
 use Rattle.type_provider.proofs.Finds.{find-named}
 use Rattle.type_block_form.proofs.Bytes.{and-left, and-right}
 use Rattle.type_book_check.specs.Check.{ValidBook}
@@ -21,7 +21,7 @@ use Rattle.type_book_check.proofs.Append.{append-blocks}
 use Rattle.type_cache.proofs.Definitions.{same-type}
 use Rattle.type_cache.proofs.Joins.{OneType, named-old, join-name, join-kept, join-types, join-valid, find-new}
 use Rattle.type_index.specs.Index.{slotsOf, placeOf, probeFrom, probeOf, freeFrom, freeOf}
-use Rattle.type_index.specs.Trust.{isFound, leads, leadsFrom, holdsAll}
+use Rattle.type_index.specs.Trust.{leads, leadsFrom, holdsAll}
 use Rattle.type_index_grow.specs.Grow.{takes, withLast}
 use Rattle.type_index_grow.proofs.Kept.{free-empty, led-found, probe-kept, probe-new}
 

@@ -10,11 +10,10 @@ use lib.Dec.{eqb, ltb}
 use borrow.Author.Tests.{eq-eqb, ne-eqb, eqb-true, eqb-false, ltb-true, lt-ltb}
 use Rattle.type_provider.specs.declared.Found.{Found}
 use Rattle.type_provider.specs.declared.Found.the-variants.{At, Nothing}
-use Rattle.type_provider.specs.Find.{searched, NamedBlock}
+use Rattle.type_provider.specs.Find.{searched, NamedBlock, isFound}
 use Rattle.type_book.specs.Book.{isNamed}
 use Rattle.type_block_form.proofs.Bytes.{and-left, and-right}
 use Rattle.type_index.specs.Index.{nextOf, ledTo, orElse, probeFrom, freeFrom}
-use Rattle.type_index.specs.Trust.{isFound}
 
 -- the slot that is given out is empty
 pub free-empty : (index : List ℕ) (n k at : ℕ) → freeFrom index n at k < length index → getD index (freeFrom index n at k) 0 ≡ 0

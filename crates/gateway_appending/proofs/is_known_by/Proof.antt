@@ -4,8 +4,8 @@ use borrow.Author.Needs.{needs}
 use Rattle.gateway_appending.proofs.is_known_by.Statement.{statement}
 use Rattle.gateway_appending.proofs.is_known_by.Tie as tie
 
-find-by-requires : tie.Need-find-by-requires
-find-by-requires c κs = search needs
+find-in-requires : tie.Need-find-in-requires
+find-in-requires c κs = search needs
 
 enum-told : tie.Need-enum-told
 enum-told c = search needs
@@ -20,4 +20,4 @@ returns-2 : tie.Need-returns-2
 returns-2 c = search (known-by, new-by)
 
 pub is-known-by-spec : {M : Type 1} → statement M
-is-known-by-spec = tie.close (tie.spec find-by-requires enum-told enum-told-2 returns returns-2)
+is-known-by-spec = tie.close (tie.spec find-in-requires enum-told enum-told-2 returns returns-2)
