@@ -10,8 +10,8 @@ use type_marks::is_marked;
 use type_marks::mark;
 use type_order::Order;
 
-// So many names are compared with all before them: more than find their hash marked by chance in the longest book.
-const COMPARED: u32 = 128;
+// So many names are compared with all before them. In a book of 65,536 types some 100 find their hash marked by chance.
+const COMPARED: u32 = 192;
 
 // No block before n is a type block of that name.
 fn is_new(book: &[u8], name: &[u8], n: u32) -> bool

@@ -40,7 +40,14 @@ pub fn names() {
     look_ups();
 }
 
-/// A lent index of 16,384 numbers, in a book of 4,096 types with four fields each.
+/// The time of some work on a book that checks the book, the check apart: it is timed in the same turns and taken off.
+fn apart(rounds: usize, book: &[u8], mut work: impl FnMut()) -> Duration {
+    let check = || keep(calls::check_book(book, book.len()));
+    let t = turns(rounds, &mut [&mut work, &mut { check }]);
+    t[0].saturating_sub(t[1])
+}
+
+/// A lent index of 16,384 numbers, in a book of 4,096 types with four fields each; checks apart.
 fn look_ups() {
     let books = BOTH.map(reached_by);
     let indexes = books.clone().map(|b| {
@@ -48,9 +55,11 @@ fn look_ups() {
         assert_eq!(calls::build_index(&b, b.len(), &mut index), 0);
         index
     });
-    both("build_index, whole call, 4,096 types of four fields", 5, &books, |b| {
-        assert_eq!(calls::build_index(b, b.len(), &mut vec![0; calls::INDEX]), 0);
-    });
+    let build = |i: usize| {
+        let (b, mut index) = (&books[i], vec![0; calls::INDEX]);
+        apart(5, b, || assert_eq!(calls::build_index(b, b.len(), &mut index), 0))
+    };
+    line("build_index, 4,096 types of four fields", build(0), build(1));
     let find = |i: usize| {
         let names: Vec<String> = (0..TYPES).map(BOTH[i]).collect();
         let all = || {
@@ -63,27 +72,25 @@ fn look_ups() {
     line("find_by, mean of all 4,096 names", find(0), find(1));
     let walk = |i: usize| {
         let (b, mut scratch, mut list, mut values) = (&books[i], vec![0; 8_192], vec![0; 4_096], [0; 3]);
-        let t = turns(
-            3,
-            &mut [
-                &mut || {
-                    let (s, l) = (&mut scratch, &mut list);
-                    let answer = calls::missing_types(b, b.len(), &indexes[i], WIDTH, 0, s, l, &mut values);
-                    assert_eq!(answer, 0);
-                },
-                &mut || keep(calls::check_book(b, b.len())),
-            ],
-        );
-        assert_eq!(values[0], 0);
-        t[0].saturating_sub(t[1])
+        apart(3, b, || {
+            let (s, l) = (&mut scratch, &mut list);
+            assert_eq!(
+                calls::missing_types(b, b.len(), &indexes[i], WIDTH, 0, s, l, &mut values),
+                0
+            );
+            assert_eq!(values[0], 0);
+        })
     };
-    line("missing_types, all reached, the check apart", walk(0), walk(1));
+    line("missing_types, all reached", walk(0), walk(1));
     both("  a plain program that scans the book in order", 3, &books, |b| {
         keep(twin::walk::missing_types(&twin::Book::without_map(b), WIDTH, 0));
     });
-    both("TypeBook::new: checks, names, a hint for each block", 3, &books, |b| {
-        keep(TypeBook::new(b, WIDTH).expect("valid"));
-    });
+    let new = |i: usize| {
+        apart(3, &books[i], || {
+            keep(TypeBook::new(&books[i][..], WIDTH).expect("valid"))
+        })
+    };
+    line("TypeBook::new, with a hint for each block", new(0), new(1));
     let walk = |i: usize| {
         let book = TypeBook::new(&books[i][..], WIDTH).expect("valid");
         let root = book.root(0).expect("a type");
