@@ -14,6 +14,7 @@ ghost use Rattle.resolve_missing_types.specs.Given.{LackingIn, GivenMiss
 ghost use Rattle.resolve_missing_types.specs.State.{OneMore, Applied, Learned};
 use enc_zeros::clear_numbers;
 use resolve_walk::MAX_TYPES_VISITED;
+use resolve_walk::Rest;
 use resolve_walk::list_fits;
 use resolve_walk::scratch_fits;
 use resolve_walk::start;
@@ -114,7 +115,8 @@ fn missing_walk(
         left = l;
         n = k;
         ok = o;
-        e = step(book, index, trust, width, scratch, list, n, left, d);
+        let rest = Rest { left, depth: d };
+        e = step(book, index, trust, width, scratch, list, n, rest);
     }
 }
 

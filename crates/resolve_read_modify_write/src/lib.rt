@@ -15,6 +15,7 @@ ghost use Rattle.resolve_read_modify_write.specs.Given.{LackingIn, Given
 ghost use Rattle.resolve_read_modify_write.specs.State.{Decided};
 use enc_zeros::clear_numbers;
 use resolve_walk::MAX_TYPES_VISITED;
+use resolve_walk::Rest;
 use resolve_walk::scratch_fits;
 use resolve_walk::start;
 use resolve_walk::step;
@@ -104,17 +105,8 @@ fn rmw_walk(book: &[u8], index: &[u32], width: u8, root: u32, scratch: &mut [u32
                 if depth == 0 {
                     return Rmw::No;
                 }
-                let e = step(
-                    book,
-                    index,
-                    Trust::Unknown,
-                    width,
-                    scratch,
-                    &none,
-                    0,
-                    left,
-                    depth,
-                );
+                let rest = Rest { left, depth };
+                let e = step(book, index, Trust::Unknown, width, scratch, &none, 0, rest);
                 here = decide(e, left);
             }
         }

@@ -44,6 +44,12 @@ pub fn list_fits(list: &[u32]) -> bool
     list.len() >= MAX_TYPES_VISITED
 }
 
+// What a walk has left: how many further names it may visit, and how many entries its stack has.
+pub struct Rest {
+    pub left: usize,
+    pub depth: usize,
+}
+
 // One turn, with what the call knows of its index: the top block's name is new, or was visited.
 pub fn step(
     book: &[u8],
@@ -53,12 +59,13 @@ pub fn step(
     scratch: &mut [u32],
     list: &[u32],
     n: usize,
-    left: usize,
-    depth: usize,
+    rest: Rest,
 ) -> Event
-    requires { ⌜ ValidBook (now book) × Trusted (now book) (now index) trust × (8192 ≤ length (now scratch)) × (n ≤ length (now list)) × (0 < depth) × (depth + left ≤ 4096) ⌝ }
-    ensures { λ r. ⌜ Stepped (now (book .entry)) width (now (scratch .entry)) (first n (now (list .entry))) left depth r (now (scratch .exit)) ⌝ }
+    requires { ⌜ ValidBook (now book) × Trusted (now book) (now index) trust × (8192 ≤ length (now scratch)) × (n ≤ length (now list)) × (0 < rest .depth) × (rest .depth + rest .left ≤ 4096) ⌝ }
+    ensures { λ r. ⌜ Stepped (now (book .entry)) width (now (scratch .entry)) (first n (now (list .entry))) (rest .left) (rest .depth) r (now (scratch .exit)) ⌝ }
 {
+    let left = rest.left;
+    let depth = rest.depth;
     let taken = take(scratch, depth);
     let b = taken.block;
     let d = taken.depth;

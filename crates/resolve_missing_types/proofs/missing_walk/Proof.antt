@@ -35,8 +35,8 @@ enum-known-turn c = search needs
 enum-told : tie.Need-enum-told Inv-loop μ-loop
 enum-told c = search needs
 
-add-t21 : tie.Need-add-t21 Inv-loop μ-loop
-add-t21 c = search needs
+add-t22 : tie.Need-add-t22 Inv-loop μ-loop
+add-t22 c = search needs
 
 same-length : tie.Need-same-length Inv-loop μ-loop
 same-length c = search needs
@@ -47,8 +47,8 @@ same-length-2 c = search needs
 returns : tie.Need-returns Inv-loop μ-loop
 returns c = search exits
 
-sub-t23 : tie.Need-sub-t23 Inv-loop μ-loop
-sub-t23 c = search pending-left
+sub-t24 : tie.Need-sub-t24 Inv-loop μ-loop
+sub-t24 c = search pending-left
 
 same-length-3 : tie.Need-same-length-3 Inv-loop μ-loop
 same-length-3 c = search needs
@@ -82,11 +82,11 @@ missing-walk-spec =
     apply-requires
     enum-known-turn
     enum-told
-    add-t21
+    add-t22
     same-length
     same-length-2
     returns
-    sub-t23
+    sub-t24
     same-length-3
     same-length-4
     returns-2
