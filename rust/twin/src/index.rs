@@ -44,3 +44,17 @@ pub fn built(book: &[u8], len: usize) -> Vec<u32> {
     }
     index
 }
+
+/// Whether the index leads to every type of the book: one of its name is met before an empty slot.
+pub fn holds(book: &[u8], index: &[u32]) -> bool {
+    let blocks = block::count(book);
+    let slots = slots(blocks as usize, index.len());
+    let is = |n: u32, name: &[u8]| n < blocks && block::kind(book, n) == 1 && block::name(book, n) == name;
+    let led = |name: &[u8]| {
+        let place = ((u64::from(hash(name)) * slots as u64) >> 32) as usize;
+        let tried = (0..TRIES).map(|i| index.get((place + i) % slots.max(1)).copied().unwrap_or(0));
+        tried.take_while(|&n| n > 0).any(|n| is(n - 1, name))
+    };
+    let mut types = (0..blocks).filter(|&n| block::kind(book, n) == 1);
+    types.all(|n| led(block::name(book, n)))
+}

@@ -155,7 +155,7 @@ impl<'a> TypeBook<'a> {
 
     /// The type of a name.
     pub fn find(&self, name: &str) -> Option<TypeRef<'_>> {
-        let n = total::find_by(self.bytes(), self.checked.index(), name.as_bytes())?;
+        let n = total::find_by(self.bytes(), self.checked.name_index(), name.as_bytes())?;
         self.type_at(n)
     }
 

@@ -90,15 +90,16 @@ mod raw {
             values: *mut u64,
             values_len: usize,
         ) -> u8;
-        pub fn gateway_mark_names_in(book: *const u8, book_len: usize, marks: *mut u32, marks_len: usize);
+        pub fn gateway_index_holds(book: *const u8, book_len: usize, index: *const u32, index_len: usize) -> u8;
         pub fn gateway_append_in(
             buffer: *mut u8,
             buffer_len: usize,
             len: usize,
             piece: *const u8,
             piece_len: usize,
-            marks: *mut u32,
-            marks_len: usize,
+            index: *mut u32,
+            index_len: usize,
+            held: u8,
             values: *mut u64,
             values_len: usize,
         ) -> u8;
@@ -467,6 +468,11 @@ pub mod total {
     /// The same with a hint for each block, the type that it names, where the index has three numbers or more for each block.
     pub fn fill_index(book: &[u8], index: &mut [u32]) {
         unsafe { raw::gateway_fill_index(book.as_ptr(), book.len(), index.as_mut_ptr(), index.len()) }
+    }
+
+    /// Whether the index leads to every type of the book.
+    pub fn index_holds(book: &[u8], index: &[u32]) -> bool {
+        unsafe { raw::gateway_index_holds(book.as_ptr(), book.len(), index.as_ptr(), index.len()) == 1 }
     }
 
     /// Refusals 1 to 4 of the book in the first `len` bytes of the buffer.
@@ -953,6 +959,7 @@ pub mod total {
                 assert_eq!(raw::gateway_build_index(null(), 0, 0, null_mut(), 0), 6);
                 raw::gateway_fill_names(null(), 0, null_mut(), 0);
                 raw::gateway_fill_index(null(), 0, null_mut(), 0);
+                assert_eq!(raw::gateway_index_holds(null(), 0, null(), 0), 1);
                 assert_eq!(raw::gateway_is_type(null(), 0, 0), 0);
                 assert_eq!(raw::gateway_name(null(), 0, 7, null_mut(), 0), 0);
                 assert_eq!(raw::gateway_type_name(null(), 0, 7, null_mut(), 0), 0);
@@ -1082,18 +1089,56 @@ pub mod total {
     }
 }
 
-/// The marks of a book's names have this many numbers.
-const MARKS: usize = 32_768;
+/// An index of a book's names alone, which appending goes by and adds to.
+#[derive(Clone)]
+struct Names {
+    numbers: Vec<u32>,
+    /// How many types the book has.
+    types: usize,
+    /// The library has said that the index leads to every type of the book.
+    held: bool,
+}
+
+impl Names {
+    /// An index of so many slots a type, of which four serve well; more would only fill the processor's caches.
+    fn of(book: &[u8], types: usize, slots: usize) -> Self {
+        let mut numbers = vec![0; Self::room(slots * types, book.len() / 512)];
+        total::fill_names(book, &mut numbers);
+        let held = total::index_holds(book, &numbers);
+        Self { numbers, types, held }
+    }
+
+    /// An index of three numbers a block or more would have hints and could not be added to.
+    fn room(wanted: usize, blocks: usize) -> usize {
+        wanted.min((3 * blocks).saturating_sub(1))
+    }
+
+    /// The index for one type more. It is made anew, longer in proportion, where it has fewer than two slots a type, so that appending takes
+    /// a time that grows as the book does; where it doesn't lead to every type, a longer one may.
+    fn for_more(self, book: &[u8]) -> Self {
+        let room = Self::room(8 * self.types, book.len() / 512);
+        let least = if self.held { 2 * self.types } else { room - room / 8 };
+        match self.numbers.len() < least {
+            true => Self::of(book, self.types, 8),
+            false => self,
+        }
+    }
+}
+
+/// How many types a book has.
+fn types_of(book: &[u8]) -> usize {
+    book.chunks_exact(512).filter(|block| block[0] == 1).count()
+}
 
 /// A book that the library has found valid, with an index.
 #[derive(Clone)]
 pub(crate) struct Checked<'a> {
     bytes: Bytes<'a>,
-    /// Whether the index is one of the names alone.
+    /// Whether the calls go by the index of the names alone.
     names_only: bool,
+    /// An index with hints, for this very book.
     index: OnceLock<Vec<u32>>,
-    /// Empty, or the names of all types are marked here.
-    marks: Vec<u32>,
+    names: OnceLock<Names>,
 }
 
 impl<'a> Checked<'a> {
@@ -1105,7 +1150,7 @@ impl<'a> Checked<'a> {
                     bytes: bytes.into(),
                     names_only,
                     index: OnceLock::new(),
-                    marks: Vec::new(),
+                    names: OnceLock::new(),
                 };
                 checked.index();
                 Ok(checked)
@@ -1114,9 +1159,9 @@ impl<'a> Checked<'a> {
         }
     }
 
-    /// Four slots a type serve well; more would only fill the processor's caches.
+    /// Four slots a type serve well.
     pub(crate) fn slots(&self) -> usize {
-        4 * self.bytes.chunks_exact(512).filter(|block| block[0] == 1).count()
+        4 * types_of(&self.bytes)
     }
 
     /// A checked book with an index of its names.
@@ -1147,40 +1192,49 @@ impl<'a> Checked<'a> {
             bytes: self.bytes.into_kept(),
             names_only: self.names_only,
             index: self.index,
-            marks: self.marks,
+            names: self.names,
         }
     }
 
-    /// The index, made when the book is checked, and at the first call after it was appended to.
+    /// The index that the calls go by, made when the book is checked. One of the names alone goes on as the book grows; one with hints
+    /// is made anew at the first call after an append.
     pub(crate) fn index(&self) -> &[u32] {
-        self.index.get_or_init(|| match self.names_only {
-            true => {
-                let mut index = vec![0; self.slots()];
-                total::fill_names(&self.bytes, &mut index);
-                index
-            }
-            false => {
+        match self.names_only {
+            true => &self.names().numbers,
+            false => self.index.get_or_init(|| {
                 let blocks = self.bytes.len() / 512;
                 let mut index = vec![0; blocks + self.slots().max(2 * blocks)];
                 total::fill_index(&self.bytes, &mut index);
                 index
-            }
-        })
+            }),
+        }
     }
 
-    /// Appends one type's blocks, or gives the number of the refusal, and then the book is as it was. The book isn't checked again.
+    /// An index for the look-up of a name, which needs no hints: none is made for it while a book is appended to.
+    pub(crate) fn name_index(&self) -> &[u32] {
+        match (self.index.get(), self.names.get()) {
+            (None, Some(names)) => &names.numbers,
+            _ => self.index(),
+        }
+    }
+
+    /// The index of the names alone, made at the first append, or when the book is checked if there is no other.
+    fn names(&self) -> &Names {
+        self.names
+            .get_or_init(|| Names::of(&self.bytes, types_of(&self.bytes), 4))
+    }
+
+    /// Appends one type's blocks, or gives the number of the refusal, and then the book is as it was. The book isn't checked again, and the
+    /// new type goes into the index of the names.
     pub(crate) fn append(&mut self, piece: &[u8]) -> Result<(), u8> {
         let len = self.bytes.len();
-        if self.marks.is_empty() {
-            self.marks = vec![0; MARKS];
-            let (b, m) = (&self.bytes, &mut self.marks);
-            // SAFETY: the book was checked, and the marks are as many as they must be.
-            unsafe { raw::gateway_mark_names_in(b.as_ptr(), b.len(), m.as_mut_ptr(), m.len()) };
-        }
-        let (buffer, marks, mut values) = (self.bytes.to_mut(), &mut self.marks, [0; 1]);
+        self.names();
+        let kept = self.names.take().expect("made above");
+        let mut names = kept.for_more(&self.bytes);
+        let (buffer, index, mut values) = (self.bytes.to_mut(), &mut names.numbers, [0; 2]);
         buffer.resize(len + piece.len(), 0);
-        // SAFETY: the first `len` bytes are the checked book, the names of all its types are marked, and every pointer and length is one
-        // slice's, lent for the call alone. What the call leaves is again a valid book with its names marked.
+        // SAFETY: the first `len` bytes are the checked book, the index leads to every type of it where that is said, and every pointer and
+        // length is one slice's, lent for the call alone. What the call leaves is again a valid book, and what it answers of the index is so.
         let number = unsafe {
             raw::gateway_append_in(
                 buffer.as_mut_ptr(),
@@ -1188,25 +1242,36 @@ impl<'a> Checked<'a> {
                 len,
                 piece.as_ptr(),
                 piece.len(),
-                marks.as_mut_ptr(),
-                marks.len(),
+                index.as_mut_ptr(),
+                index.len(),
+                u8::from(names.held),
                 values.as_mut_ptr(),
                 values.len(),
             )
         };
-        if number != 0 {
+        if number == 0 {
+            buffer.truncate(values[0] as usize);
+            names.held = values[1] == 1;
+            names.types += 1;
+            self.index = OnceLock::new();
+        } else {
             buffer.truncate(len);
-            return Err(number);
         }
-        buffer.truncate(values[0] as usize);
-        self.index = OnceLock::new();
-        Ok(())
+        self.names = OnceLock::from(names);
+        match number {
+            0 => Ok(()),
+            number => Err(number),
+        }
     }
 
-    /// The book as it was when it had `len` bytes, of which it was made by appending. A mark too many changes no answer.
+    /// The book as it was when it had `len` bytes, of which it was made by appending. Its indexes are made anew: the names that were cut off
+    /// would take the slots of others.
     pub(crate) fn cut_back(&mut self, len: usize) {
-        self.bytes.to_mut().truncate(len);
-        self.index = OnceLock::new();
+        if len < self.bytes.len() {
+            self.bytes.to_mut().truncate(len);
+            self.index = OnceLock::new();
+            self.names = OnceLock::new();
+        }
     }
 
     /// The block, if it is one of this book's type blocks.
@@ -1379,6 +1444,8 @@ impl<'b> TypeBlock<'b> {
 #[cfg(test)]
 mod tests {
     use super::*;
+    use crate::TypeBuilder;
+    use std::collections::BTreeSet;
     use twin::random::{Rng, made, memory};
 
     /// Every answer of the forms for a checked book, and what they leave in the buffers.
@@ -1456,5 +1523,48 @@ mod tests {
                 );
             }
         }
+    }
+
+    /// While a book grows its index of the names is, number by number, the one that is made of the longer book, and it is seldom made anew.
+    #[test]
+    fn the_index_of_names_goes_on() {
+        for fields in [0, 3] {
+            let mut book = Checked::new(Cow::Borrowed(&[])).expect("valid");
+            let mut lengths = BTreeSet::new();
+            for n in 0..2_000 {
+                let named = TypeBuilder::new(format!("T{n}"));
+                let piece = (0..fields).fold(named, |t, _| t.field("x", "INT", 0, 2)).blocks();
+                assert_eq!(book.append(&piece.expect("it fits")), Ok(()));
+                let names = book.names.get().expect("made for the append");
+                assert_eq!((names.types, names.held), (n + 1, n > 0));
+                lengths.insert(names.numbers.len());
+                if n > 0 {
+                    assert_eq!(names.numbers, twin::index::built(book.bytes(), names.numbers.len()));
+                }
+            }
+            assert!(lengths.len() < 30, "{lengths:?}");
+        }
+    }
+
+    /// More names of one place than there are tries: the index goes on no longer, and every answer is right.
+    #[test]
+    fn names_of_one_place() {
+        let names = (0..)
+            .map(|n| format!("T{n}"))
+            .filter(|name| twin::index::hash(name.as_bytes()) >> 20 == 7);
+        let pieces: Vec<_> = names
+            .take(150)
+            .map(|name| TypeBuilder::new(name).blocks().expect("it fits"))
+            .collect();
+        let mut book = Checked::new(Cow::Borrowed(&[])).expect("valid");
+        for (n, piece) in pieces.iter().enumerate() {
+            assert_eq!(book.append(piece), Ok(()));
+            assert_eq!(book.append(&pieces[n / 2]), Err(4));
+            assert_eq!(book.append(piece), Err(4));
+            let names = book.names.get().expect("made for the append");
+            assert_eq!(names.held, total::index_holds(book.bytes(), &names.numbers), "{n}");
+        }
+        assert_eq!(book.names.get().map(|names| names.held), Some(false));
+        assert_eq!(book.bytes(), pieces.concat());
     }
 }

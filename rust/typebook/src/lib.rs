@@ -109,7 +109,7 @@ pub use upload::{
 /// The version of the proved library that is linked, in three parts.
 ///
 /// ```
-/// assert_eq!(typebook::library_version(), (0, 1, 0));
+/// assert_eq!(typebook::library_version(), (0, 2, 0));
 /// ```
 pub fn library_version() -> (u8, u8, u8) {
     let [_, major, minor, patch] = calls::version().to_be_bytes();

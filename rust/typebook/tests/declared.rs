@@ -1,7 +1,8 @@
 //! Bytes 4 to 7 of a value's record: its type as it was named, before aliases (change request 8).
 
+use std::sync::Arc;
 use twin::make::{Type, book, int};
-use typebook::{Refusal, Step, TypeBook, Value};
+use typebook::{Refusal, Step, TypeBook, TypeBuilder, Value, type_id};
 
 /// A root alias of a struct, with an alias of an array of two dimensions, whose elements are an alias of INT, a plain field and an enum.
 fn types() -> Vec<u8> {
@@ -81,4 +82,40 @@ fn what_a_write_takes() {
             }
         }
     }
+}
+
+/// A name that the book gives for a record's block is kept where the tape is gone, by whoever holds the book.
+#[test]
+fn names_outlive_the_tape() {
+    let colour = TypeBuilder::new("COLOUR")
+        .id(type_id::INT8)
+        .size(1)
+        .enumeration()
+        .entry("RED", &[1]);
+    let book = TypeBook::builder()
+        .with(
+            TypeBuilder::new("S")
+                .size(2)
+                .field("First", "COLOUR", 0, 1)
+                .field("Second", "COLOUR", 1, 1),
+        )
+        .with(colour)
+        .build(8);
+    let book = Arc::new(book.expect("valid"));
+    let tape = book
+        .root("S")
+        .and_then(|t| t.read(&[1, 1]))
+        .expect("it is read")
+        .into_owned();
+    let names: Vec<&str> = tape.iter().filter_map(|r| r.block).map(|b| book.name(b)).collect();
+    let declared: Vec<&str> = tape
+        .iter()
+        .filter_map(|r| r.declared_block)
+        .map(|b| book.name(b))
+        .collect();
+    let said: Vec<_> = tape.iter().filter_map(|r| r.declared().map(str::to_string)).collect();
+    drop(tape);
+    assert_eq!(names, ["First", "RED", "Second", "RED"]);
+    assert_eq!(declared, said);
+    assert_eq!(declared, ["S", "COLOUR", "COLOUR"]);
 }

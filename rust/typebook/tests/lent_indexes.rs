@@ -132,3 +132,30 @@ fn the_whole_buffer() {
     assert_eq!(calls::build_index(&bytes, bytes.len(), &mut index[..16_383]), 6);
     assert!(index.iter().all(|&n| n == 5));
 }
+
+/// What an index is worth is told of any index: one of the book, one of another, one with few slots or with a number changed.
+#[test]
+fn what_an_index_is_worth() {
+    let mut told = [0; 2];
+    for seed in 0..300 {
+        let rng = &mut Rng::new(seed + 29_000_000);
+        let (one, other) = (made(rng), made(rng));
+        let blocks = one.book.len() / 512;
+        let mut indexes = foreign(&one.book, &other.book);
+        for len in [0, 1, 2, blocks, 2 * blocks, 3 * blocks, 4 * blocks] {
+            let mut index = vec![0; len];
+            calls::fill_names(&one.book, &mut index);
+            indexes.push(index.clone());
+            if len > 0 {
+                index[rng.below(len)] = rng.below(blocks + 2) as u32;
+                indexes.push(index);
+            }
+        }
+        for index in &indexes {
+            let holds = twin::index::holds(&one.book, index);
+            assert_eq!(calls::index_holds(&one.book, index), holds);
+            told[usize::from(holds)] += 1;
+        }
+    }
+    assert!(told.iter().all(|&n| n > 300), "{told:?}");
+}
