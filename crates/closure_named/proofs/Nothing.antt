@@ -205,7 +205,7 @@ module _ (c : List ℕ) (width : ℕ) (name : List ℕ) (w : Theirs c width name
 -- ---- the theorem
 
 -- a name that a valid book defines is of the form
-name-formed : (book : List ℕ) → ValidBook book → (x : List ℕ) → Defined book x → isRootName x ≡ true
+pub name-formed : (book : List ℕ) → ValidBook book → (x : List ℕ) → Defined book x → isRootName x ≡ true
 unfolding isRootName
 name-formed book v x d =
     let n : ℕ = d .at in
