@@ -16,7 +16,7 @@
  *   23 a root's name that no type can have
  *
  * Values. `values` takes a call's numbers over its first elements, as many as fit; its other elements stay as before. With refusal 7
- * values[0] is the block whose type name is not in the book; any other refusal leaves `values` as before (but see gateway_plan_save).
+ * values[0] is the block whose type name is not in the book; any other refusal leaves `values` as before (but see gateway_plan_save and gateway_plan_save_named).
  * Three elements are enough for every call.
  *
  * The book. `buffer` holds a type book in its first `len` bytes; a `len` beyond the buffer is refused (1). `width` is the size of
@@ -245,6 +245,14 @@ uint8_t gateway_missing_types_in(const uint8_t *book, size_t book_len, const uin
 uint8_t gateway_plan_save(uint8_t *buffer, size_t buffer_len, size_t len, const uint8_t *controller, size_t controller_len, size_t theirs,
                           uint8_t width, uint64_t root, uint32_t *scratch, size_t scratch_len, uint32_t *index, size_t index_len,
                           uint64_t *values, size_t values_len);
+
+/* gateway_plan_save by the root's name, which our book may lack, as a book of 0 bytes does: the root too is added from the controller's
+ * book then, as the first block after ours. So a plan may begin from nothing. 0, 1 to 4 of our book, 23, 1 to 4 of the controller's book,
+ * 6, 7 to 9, 15. If neither book has the name: 7 with 4,294,967,295 and the length, and our book as it was. Values and buffers as above; 23
+ * too leaves buffer, scratch and index as before. */
+uint8_t gateway_plan_save_named(uint8_t *buffer, size_t buffer_len, size_t len, const uint8_t *controller, size_t controller_len,
+                                size_t theirs, uint8_t width, const uint8_t *name, size_t name_len, uint32_t *scratch, size_t scratch_len,
+                                uint32_t *index, size_t index_len, uint64_t *values, size_t values_len);
 
 /* ---- read */
 

@@ -29,6 +29,7 @@ use Rattle.ser.specs.Write.{Outcome}
 use Rattle.ser.specs.Call.{writeNumbers, WriteIs}
 use Rattle.plan_save.specs.declared.Plan.{Plan}
 use Rattle.plan_save.specs.Call.{planNumbers, planRefusal, PlanIs}
+use Rattle.plan_named.specs.Named.{namedRefusal, PlanNamedIs}
 use Rattle.gateway_appending.specs.declared.Growth.{Growth}
 use Rattle.gateway_appending.specs.Growth.{growthNumbers, trustOf, AppendedBy}
 use Rattle.gateway_lent_values.specs.Values.{Gives}
@@ -116,4 +117,11 @@ pub record PlanGiven (buffer : List ℕ) (len : ℕ) (controller : List ℕ) (th
     (buffer′ scratch′ index′ after : List ℕ) : Type 0 where
   pub answer : Plan
   pub by : PlanIs (planRefusal buffer len controller theirs root scratch) buffer len controller theirs width root scratch index answer buffer′ scratch′ index′
+  pub gives : Gives (planNumbers answer) before r after
+
+-- the same of a root by its name
+pub record PlanNamedGiven (buffer : List ℕ) (len : ℕ) (controller : List ℕ) (theirs width : ℕ) (name scratch index before : List ℕ) (r : ℕ)
+    (buffer′ scratch′ index′ after : List ℕ) : Type 0 where
+  pub answer : Plan
+  pub by : PlanNamedIs (namedRefusal buffer len controller theirs name scratch) buffer len controller theirs width name scratch index answer buffer′ scratch′ index′
   pub gives : Gives (planNumbers answer) before r after

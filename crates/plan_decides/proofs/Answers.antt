@@ -65,12 +65,12 @@ numbered book width (met b x (Lacks c) w) n e z = apart-lacks c n e
 numbered book width (met b x TooLong w) n e z = let q : 8 ≡ n = same-number 8 n e in omega arith
 
 -- ---- an answer
-record Answered (c : List ℕ) (width root : ℕ) (name : List ℕ) (o : Decision) : Type 0 where
-  answer : Bool
-  final : Ours
-  is : o ≡ decided answer final
-  right : (answer ≡ true) ↔ BlockReached c width name
-  closed : Closed c width root name final
+pub record Answered (c : List ℕ) (width root : ℕ) (name : List ℕ) (o : Decision) : Type 0 where
+  pub answer : Bool
+  pub final : Ours
+  pub is : o ≡ decided answer final
+  pub right : (answer ≡ true) ↔ BlockReached c width name
+  pub closed : Closed c width root name final
 
 no-yes : rmw.No ≡ rmw.Yes → false ≡ true
 no-yes e = cc
@@ -172,7 +172,7 @@ module _ (c : List ℕ) (width root : ℕ) (name : List ℕ) (w : Theirs c width
   step k s a = a
 
   -- the rounds: the last but one sweeps from block 0
-  rounds : (k : ℕ) (s : Ours) → Sound c root name s → Answered c width root name (planFrom c width root (suc (suc k)) s)
+  pub rounds : (k : ℕ) (s : Ours) → Sound c root name s → Answered c width root name (planFrom c width root (suc (suc k)) s)
   rounds zero s o =
       step 1 s (round (planFrom c width root 1) (sweptFrom 1 (bookOf s)) s o
       (λ y z p q e. step 0 z (last (planFrom c width root 0) (sweptFrom 0 (bookOf z)) y z p q (rw (from-first (bookOf s)) at e))))

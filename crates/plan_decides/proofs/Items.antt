@@ -215,10 +215,10 @@ plan-made c width root k s ix sc list i p q = rounds-made c width root ix sc lis
 
 -- ---- our book stays valid
 
-extends-same : (s : Ours) → checkBook (s .buffer) (s .len) ≡ Valid → Extends s s
+pub extends-same : (s : Ours) → checkBook (s .buffer) (s .len) ≡ Valid → Extends s s
 extends-same s v = record { valid = v; more = []; grows = sym (append-nil (bookOf s)) }
 
-extends-then : (s y z : Ours) → Extends s y → Extends y z → Extends s z
+pub extends-then : (s y z : Ours) → Extends s y → Extends y z → Extends s z
 extends-then s y z a b =
     record {
       valid = b .valid;
@@ -240,7 +240,7 @@ module _ (s : Ours) (d : List ℕ) (v : checkBook (s .buffer) (s .len) ≡ Valid
           let h : appendRefusal (s .buffer) (s .len) d ≡ 0 → ⊥ = eqb-false _ _ e in
           rw (buffer-kept (s .buffer) (s .len) d h, call-refused (s .buffer) (s .len) d h) (extends-same s v)
 
-extends-next : (c : List ℕ) (s : Ours) (i : Call) → checkBook (s .buffer) (s .len) ≡ Valid → Extends s (next c i s)
+pub extends-next : (c : List ℕ) (s : Ours) (i : Call) → checkBook (s .buffer) (s .len) ≡ Valid → Extends s (next c i s)
 extends-next c s (ask ix sc ls) v = extends-same s v
 extends-next c s (add n) v = appended-extends s (definitionOf c n) v
 extends-next c s (Call.bytes m) v = appended-extends s m v

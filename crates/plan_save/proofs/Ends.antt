@@ -22,24 +22,17 @@ use Rattle.plan_adds.specs.Adds.{ours}
 use Rattle.plan_save.specs.declared.Plan.{Plan}
 use Rattle.plan_save.specs.declared.Plan.the-variants as plan
 use Rattle.plan_save.specs.Rounds.{Decision, planFrom}
-use Rattle.plan_save.specs.Call.{planNumbers, outcomeNumbers, outcomeOurs, planRefusal, planOf, PlanIs}
-use Rattle.plan_save.specs.State.{planSaid, PlannedIs, PlannedIn}
+use Rattle.plan_save.specs.Call.{planNumbers, outcomeNumbers, outcomeOurs, planRefusal, planOf, PlanDone, PlanIs}
+use Rattle.plan_save.specs.State.{planSaid, PlannedIs}
 use Rattle.plan_save.proofs.Turns.{book-cut}
 
--- ---- where all was checked
-pub in-done : (o : Decision) (sc hints : List ℕ) (r : Plan) (after : List ℕ) → PlannedIs o r after
-    → (sc₁ : List ℕ) → length sc₁ ≡ length sc → (sc′ : List ℕ) → sc′ ≡ replicate (length sc₁) 0
-    → (hints₁ : List ℕ) → length hints₁ ≡ length hints → (hints′ : List ℕ) → hints′ ≡ replicate (length hints₁) 0
-    → PlannedIn o sc hints r after sc′ hints′
-in-done o sc hints r after p sc₁ e sc′ z hints₁ f hints′ y = record { is = p .is; scratch = rw e at z; index = rw f at y }
-
 -- ---- the refusals before the rounds
-or-here : (n k : ℕ) → (n ≡ 0 → ⊥) → orNext n k ≡ n
+pub or-here : (n k : ℕ) → (n ≡ 0 → ⊥) → orNext n k ≡ n
 unfolding orNext
 or-here zero k h = absurd (h refl)
 or-here (suc n) k h = refl
 
-or-next : (n k : ℕ) → n ≡ 0 → orNext n k ≡ k
+pub or-next : (n k : ℕ) → n ≡ 0 → orNext n k ≡ k
 unfolding orNext
 or-next zero k h = refl
 or-next (suc n) k h = absurd (omega arith)
@@ -65,6 +58,14 @@ bytes-said (plan.Yes len) after o e = rw (← e)
 bytes-said (plan.No len) after o e = rw (← e)
 bytes-said (plan.NotFound b len) after o e = rw (← e)
 bytes-said (plan.Refused n len) after o e = rw (← e)
+
+-- ---- where all was checked
+pub in-done : (o : Decision) (sc hints : List ℕ) (r : Plan) (after : List ℕ) → PlannedIs o r after
+    → (sc₁ : List ℕ) → length sc₁ ≡ length sc → (sc′ : List ℕ) → sc′ ≡ replicate (length sc₁) 0
+    → (hints₁ : List ℕ) → length hints₁ ≡ length hints → (hints′ : List ℕ) → hints′ ≡ replicate (length hints₁) 0
+    → PlanDone o sc hints r after sc′ hints′
+in-done o sc hints r after p sc₁ e sc′ z hints₁ f hints′ y =
+    record { answer = numbers-said r after o (p .is); bytes = bytes-said r after o (p .is); scratch = rw e at z; index = rw f at y }
 
 module _ (buffer : List ℕ) (len : ℕ) (root : ℕ) (c : checkRoot buffer len root ≡ checked.Root root) where
   pub at-holds : isType (take len buffer) root ≡ true
@@ -105,14 +106,14 @@ module _ (buffer : List ℕ) (len : ℕ) (root : ℕ) (c : checkRoot buffer len 
           (refused-all 6 buffer len controller theirs width root sc hints (λ q. omega arith))
 
       pub at-done : (g : Bool) → g ≡ scratchFits sc → not g ≡ false → (r : Plan) (after sc′ hints′ : List ℕ)
-          → PlannedIn (planFrom (take theirs controller) width root 18 (ours buffer len)) sc hints r after sc′ hints′
+          → PlanDone (planFrom (take theirs controller) width root 18 (ours buffer len)) sc hints r after sc′ hints′
           → PlanIs (planRefusal buffer len controller theirs root sc) buffer len controller theirs width root sc hints r after sc′ hints′
       unfolding planOf
       at-done g e h r after sc′ hints′ p =
           rw (after-root, or-next k (cond (scratchFits sc) 0 6) z, sym e ∙ not-false g h)
           (record {
-            answer = numbers-said r after _ (p .is);
-            bytes = bytes-said r after _ (p .is);
+            answer = p .answer;
+            bytes = p .bytes;
             scratch = p .scratch;
             index = p .index;
           })

@@ -48,6 +48,14 @@ unfoldable pub planOf : ℕ → List ℕ → ℕ → List ℕ → ℕ → ℕ �
 planOf refusal buffer len controller theirs width root =
     cond (eqb refusal 0) (planFrom (take theirs controller) width root 18 (ours buffer len)) (refused refusal (ours buffer len))
 
+-- what a plan promises once both books, the root and the scratch were checked: the answer, every byte of our buffer, and scratch and index,
+-- which are zero at the end
+pub record PlanDone (o : Decision) (sc hints : List ℕ) (r : Plan) (buffer′ sc′ hints′ : List ℕ) : Type 0 where
+  pub answer : planNumbers r ≡ outcomeNumbers o
+  pub bytes : buffer′ ≡ outcomeOurs o .buffer
+  pub scratch : sc′ ≡ zeroed sc
+  pub index : hints′ ≡ zeroed hints
+
 -- what the call promises: its answer, every byte of our buffer, and scratch and index, zero at the end unless 1 to 6 left them as they were
 pub record PlanIs (refusal : ℕ) (buffer : List ℕ) (len : ℕ) (controller : List ℕ) (theirs width root : ℕ) (sc hints : List ℕ) (r : Plan)
     (buffer′ sc′ hints′ : List ℕ) : Type 0 where

@@ -8,7 +8,6 @@ use lib.ListN.{length, take}
 use Rattle.type_book.specs.Book.{isType}
 use Rattle.type_index.specs.declared.Trust.{Trust}
 use Rattle.type_index.specs.Trust.{Trusted}
-use Rattle.resolve_walk.specs.Scratch.{zeroed}
 use Rattle.resolve_read_modify_write.specs.declared.Rmw.{Rmw}
 use Rattle.resolve_walk.specs.Walk.{Walk, walkOf}
 use Rattle.resolve_walk.specs.Reads.{listed, whole}
@@ -84,9 +83,3 @@ pub record AddedRound (c : List ℕ) (width from : ℕ) (bs buffer : List ℕ) (
 -- what is said of the rounds
 pub record PlannedIs (o : Decision) (r : Plan) (after : List ℕ) : Type 0 where
   pub is : planSaid r after ≡ o
-
--- and of the call where all was checked
-pub record PlannedIn (o : Decision) (sc hints : List ℕ) (r : Plan) (after sc′ hints′ : List ℕ) : Type 0 where
-  pub is : planSaid r after ≡ o
-  pub scratch : sc′ ≡ zeroed sc
-  pub index : hints′ ≡ zeroed hints

@@ -15,8 +15,8 @@ ghost use Rattle.resolve_read_modify_write.specs.Calls.{rmwAnswer};
 ghost use Rattle.plan_save.specs.Rounds.{sweptFrom, planFrom};
 ghost use Rattle.plan_adds.specs.Adds.{ours};
 ghost use Rattle.plan_adds.specs.State.{Ready};
-ghost use Rattle.plan_save.specs.Call.{planRefusal, PlanIs};
-ghost use Rattle.plan_save.specs.State.{halfOf, Prepared, AskedIs, DecidedIs, AfterAdds, AddedRound, RoundIs, PlannedIs, PlannedIn};
+ghost use Rattle.plan_save.specs.Call.{planRefusal, PlanDone, PlanIs};
+ghost use Rattle.plan_save.specs.State.{halfOf, Prepared, AskedIs, DecidedIs, AfterAdds, AddedRound, RoundIs, PlannedIs};
 use enc_zeros::clear_numbers;
 use plan_adds::AddBy;
 use plan_adds::Added;
@@ -258,8 +258,8 @@ fn prepare(book: &[u8], controller: &[u8], index: &mut [u32], known: &mut [u8]) 
     trust
 }
 
-// The plan where both books, the root and the scratch were checked.
-fn plan_in(
+// The rounds where both books, the root and the scratch were checked; the index of the controller's book is made and held against it first.
+fn plan_all(
     buffer: &mut [u8],
     len: usize,
     controller: &[u8],
@@ -286,8 +286,8 @@ fn plan_in(
     )
 }
 
-// The same, and then scratch and index are cleared.
-fn plan_clean(
+// The plan where both books, the root and the scratch were checked. Scratch and index are cleared at the end.
+pub fn plan_in(
     buffer: &mut [u8],
     len: usize,
     controller: &[u8],
@@ -297,23 +297,24 @@ fn plan_clean(
     index: &mut [u32],
 ) -> Plan
     requires { ⌜ ValidBook (now controller) × (checkBook (now buffer) len ≡ Valid) × (isType (take len (now buffer)) root ≡ true) × (8192 ≤ length (now scratch)) ⌝ }
-    ensures { λ r. ⌜ PlannedIn (planFrom (now (controller .entry)) width root 18 (ours (now (buffer .entry)) len)) (now (scratch .entry)) (now (index .entry)) r (now (buffer .exit)) (now (scratch .exit)) (now (index .exit)) ⌝ }
+    ensures { λ r. ⌜ PlanDone (planFrom (now (controller .entry)) width root 18 (ours (now (buffer .entry)) len)) (now (scratch .entry)) (now (index .entry)) r (now (buffer .exit)) (now (scratch .exit)) (now (index .exit)) ⌝ }
 {
-    let plan = plan_in(buffer, len, controller, width, root, scratch, index);
+    let plan = plan_all(buffer, len, controller, width, root, scratch, index);
     clear_numbers(scratch);
     clear_numbers(index);
     plan
 }
 
 // Document 01's number of a refusal of the controller's book, 0 for none.
-fn their_refusal(controller: &[u8], len: usize) -> u8
+pub fn their_refusal(controller: &[u8], len: usize) -> u8
     ensures { λ r. ⌜ r ≡ refusalOf (bookNumbers (checkBook (now (controller .entry)) len)) ⌝ }
 {
     refusal_of(check_book(controller, len))
 }
 
-// The plan for type block `root` of our valid book.
-fn plan_at(
+// The plan for type block `root` of our valid book: 1 to 4 of the controller's book and 6 of the scratch are what is left to refuse before the
+// rounds.
+pub fn plan_at(
     buffer: &mut [u8],
     len: usize,
     controller: &[u8],
@@ -333,7 +334,7 @@ fn plan_at(
     if !scratch_fits(scratch) {
         return Plan::Refused(6, len);
     }
-    plan_clean(
+    plan_in(
         buffer,
         len,
         &controller[..theirs],

@@ -68,7 +68,7 @@ pub fn mark_known(book: &[u8], controller: &[u8], index: &[u32], trust: Trust, k
 }
 
 // The definition of type block n: the type block, its fields and its entries.
-fn definition(controller: &[u8], n: u32) -> &[u8]
+pub fn definition(controller: &[u8], n: u32) -> &[u8]
     requires { ⌜ ValidBook (now controller) × (isType (now controller) n ≡ true) ⌝ }
     ensures { λ r. ⌜ now r ≡ definitionOf (now (controller .entry)) n ⌝ }
 {

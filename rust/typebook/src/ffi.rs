@@ -239,6 +239,23 @@ mod raw {
             values: *mut u64,
             values_len: usize,
         ) -> u8;
+        pub fn gateway_plan_save_named(
+            buffer: *mut u8,
+            buffer_len: usize,
+            len: usize,
+            controller: *const u8,
+            controller_len: usize,
+            theirs: usize,
+            width: u8,
+            name: *const u8,
+            name_len: usize,
+            scratch: *mut u32,
+            scratch_len: usize,
+            index: *mut u32,
+            index_len: usize,
+            values: *mut u64,
+            values_len: usize,
+        ) -> u8;
         pub fn gateway_read(
             buffer: *const u8,
             buffer_len: usize,
@@ -809,6 +826,41 @@ pub mod total {
         }
     }
 
+    /// `plan_save` by a root's name, which our book may lack: then the root too is added from the controller's book, and with 7 the value
+    /// 4,294,967,295 says that neither book has it.
+    #[allow(clippy::too_many_arguments)]
+    pub fn plan_save_named(
+        buffer: &mut [u8],
+        len: usize,
+        controller: &[u8],
+        theirs: usize,
+        width: u8,
+        name: &[u8],
+        scratch: &mut [u32],
+        index: &mut [u32],
+        values: &mut [u64],
+    ) -> u8 {
+        unsafe {
+            raw::gateway_plan_save_named(
+                buffer.as_mut_ptr(),
+                buffer.len(),
+                len,
+                controller.as_ptr(),
+                controller.len(),
+                theirs,
+                width,
+                name.as_ptr(),
+                name.len(),
+                scratch.as_mut_ptr(),
+                scratch.len(),
+                index.as_mut_ptr(),
+                index.len(),
+                values.as_mut_ptr(),
+                values.len(),
+            )
+        }
+    }
+
     /// Values: records on the tape, bytes in the text buffer.
     #[allow(clippy::too_many_arguments)]
     pub fn read(
@@ -1036,6 +1088,26 @@ pub mod total {
                 assert_eq!(
                     raw::gateway_plan_save(m, 0, 0, n, 0, 0, 8, 0, null_mut(), 0, null_mut(), 0, null_mut(), 0),
                     5
+                );
+                assert_eq!(
+                    raw::gateway_plan_save_named(
+                        m,
+                        0,
+                        0,
+                        n,
+                        0,
+                        0,
+                        8,
+                        n,
+                        0,
+                        null_mut(),
+                        0,
+                        null_mut(),
+                        0,
+                        null_mut(),
+                        0
+                    ),
+                    6
                 );
                 assert_eq!(
                     raw::gateway_write(n, 0, 0, 8, 0, n, 0, n, 0, n, 0, m, 0, null_mut(), 0),

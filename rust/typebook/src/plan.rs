@@ -2,7 +2,7 @@
 
 use crate::book::{BLOCK, SCRATCH, TypeBook, told};
 use crate::ffi::total;
-use crate::refusal::Refusal;
+use crate::refusal::{LACKING_ROOT, Refusal};
 use crate::root::{Given, Root};
 use std::error::Error;
 use std::fmt;
@@ -29,7 +29,7 @@ pub enum PlanError {
         /// The name that was looked for.
         name: String,
     },
-    /// Any other refusal: 5, 8, 9 or 15.
+    /// Any other refusal: 5, 8, 9, 15 or 23.
     Refused(Refusal),
 }
 
@@ -109,46 +109,24 @@ impl TypeBook<'_> {
         // Each type of the controller's is added once at most.
         let mut buffer = vec![0; old + theirs.len()];
         buffer[..old].copy_from_slice(self.bytes());
-        let (root, len) = match (root.given(), self.root(root)) {
-            (_, Ok(t)) => (u64::from(t.block()), old),
-            (Given::Name(name), Err(Refusal::NotFound { .. })) => {
-                let len = add_root(&mut buffer, old, controller, name)?;
-                ((old / BLOCK) as u64, len)
-            }
-            (_, Err(refusal)) => return Err(PlanError::Refused(refusal)),
-        };
         let mut index = vec![0; self.slots() + controller.slots()];
         let (mut scratch, mut values) = (vec![0; SCRATCH], [0; 2]);
-        let number = total::plan_save(
-            &mut buffer,
-            len,
-            theirs,
-            theirs.len(),
-            self.width(),
-            root,
-            &mut scratch,
-            &mut index,
-            &mut values,
-        );
-        match number {
-            0 => planned(buffer, old, self.width(), values),
-            7 => Err(PlanError::Missing {
+        let (b, s, i, v) = (&mut buffer, &mut scratch, &mut index, &mut values);
+        let (all, width) = (theirs.len(), self.width());
+        let number = match root.given() {
+            Given::Number(n) => total::plan_save(b, old, theirs, all, width, n, s, i, v),
+            Given::Name(name) => total::plan_save_named(b, old, theirs, all, width, name.as_bytes(), s, i, v),
+        };
+        match (number, root.given()) {
+            (0, _) => planned(buffer, old, width, values),
+            (7, Given::Name(name)) if values[0] == u64::from(LACKING_ROOT) => {
+                Err(PlanError::Missing { name: name.into() })
+            }
+            (7, _) => Err(PlanError::Missing {
                 name: crate::book::name_in(&buffer, values[0] as u32, total::type_name).into(),
             }),
-            n => Err(PlanError::Refused(told(n, 0))),
+            (n, _) => Err(PlanError::Refused(told(n, 0))),
         }
-    }
-}
-
-/// Adds the controller's definition of a root's name that our book lacks: our book's new length.
-fn add_root(buffer: &mut [u8], len: usize, controller: &TypeBook<'_>, name: &str) -> Result<usize, PlanError> {
-    let root = controller
-        .find(name)
-        .ok_or_else(|| PlanError::Missing { name: name.into() })?;
-    let mut values = [0; 1];
-    match total::append(buffer, len, root.blocks(), &mut values) {
-        0 => Ok(values[0] as usize),
-        number => Err(PlanError::Refused(told(number, 0))),
     }
 }
 

@@ -251,3 +251,58 @@ fn plans_from_nothing() {
     }
     assert!(met.contains(&0) && met.contains(&7), "{met:?}");
 }
+
+/// A plan by a name at the boundary, with nothing in our book, with the controller's own or with another: answers, values and every byte of
+/// every buffer as the twin has them.
+#[test]
+fn plans_by_name_as_the_twin_has_them() {
+    let mut met = BTreeSet::new();
+    for seed in 0..4_000 {
+        let rng = &mut Rng::new(seed);
+        let (mut theirs, other) = (made(rng), made(rng));
+        let (name, mine) = (name(rng, &theirs), rng.below(4));
+        let mut ours = match mine {
+            0 => theirs.book.clone(),
+            1 => other.book,
+            _ => Vec::new(),
+        };
+        let (mut len, mut all) = (ours.len(), theirs.book.len());
+        match rng.below(20) {
+            0 => all = damage(rng, &mut theirs.book),
+            1 if mine < 2 => len = damage(rng, &mut ours),
+            _ => {}
+        }
+        let room = rng.pick(&[0, 512, 4_096, theirs.book.len()]);
+        let lent = if rng.chance(50) { 8_191 } else { 8_192 };
+        let start = || {
+            (
+                [&ours[..], &vec![0x77; room]].concat(),
+                vec![7; lent],
+                vec![7; 64],
+                [99; 3],
+            )
+        };
+        let (controller, width) = (&theirs.book[..], theirs.width);
+        let (mut b, mut s, mut i, mut v) = start();
+        let number = calls::plan_save_named(&mut b, len, controller, all, width, &name, &mut s, &mut i, &mut v);
+        let told = (number, v, b, s, i);
+        let (mut b, mut s, mut i, mut v) = start();
+        let number = twin::calls::plan_save(&mut b, len, controller, all, width, &name[..], &mut s, &mut i, &mut v);
+        assert!(told == (number, v, b, s, i), "seed {seed}");
+        if number == 7 && told.1[0] == u64::from(u32::MAX) {
+            assert_eq!(told.1, [u64::from(u32::MAX), len as u64, 99], "seed {seed}");
+        }
+        met.insert((number, mine > 1));
+    }
+    for wanted in [
+        (0, false),
+        (0, true),
+        (6, true),
+        (7, true),
+        (15, true),
+        (23, true),
+        (23, false),
+    ] {
+        assert!(met.contains(&wanted), "{wanted:?} in {met:?}");
+    }
+}

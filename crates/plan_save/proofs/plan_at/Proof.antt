@@ -21,11 +21,11 @@ same-length c = search needs
 returns-2 : tie.Need-returns-2
 returns-2 c = search exits
 
-slice-aggregate-plan-clean : tie.Need-slice-aggregate-plan-clean
-slice-aggregate-plan-clean c = search at-cut
+slice-aggregate-plan-in : tie.Need-slice-aggregate-plan-in
+slice-aggregate-plan-in c = search at-cut
 
-plan-clean-requires : tie.Need-plan-clean-requires
-plan-clean-requires c κs = (search at-book, search at-valid, search at-holds, search scratch-room)
+plan-in-requires : tie.Need-plan-in-requires
+plan-in-requires c κs = (search at-book, search at-valid, search at-holds, search scratch-room)
 
 same-length-2 : tie.Need-same-length-2
 same-length-2 c = search needs
@@ -48,8 +48,8 @@ plan-at-spec =
     scratch-fits-requires
     same-length
     returns-2
-    slice-aggregate-plan-clean
-    plan-clean-requires
+    slice-aggregate-plan-in
+    plan-in-requires
     same-length-2
     same-length-3
     same-length-4

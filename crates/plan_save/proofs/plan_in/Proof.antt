@@ -1,48 +1,43 @@
-use Rattle.plan_save.proofs.Turns.{prepared-trusted, prepared-ready, book-cut, book-fits}
+use Rattle.plan_save.proofs.Ends.{in-done}
 use borrow.Author.Needs.{needs}
 use Rattle.plan_save.proofs.plan_in.Statement.{statement}
 use Rattle.plan_save.proofs.plan_in.Tie as tie
 
-slice-reshare-prefix-prepare : tie.Need-slice-reshare-prefix-prepare
-slice-reshare-prefix-prepare c = search book-fits
+-- src/lib.rt:261:9
+plan-all-requires : tie.Need-plan-all-requires
+plan-all-requires c κs = search needs
 
-slice-aggregate-prepare : tie.Need-slice-aggregate-prepare
-slice-aggregate-prepare c = search book-cut
+-- src/lib.rt:262:5
+clear-numbers-requires : tie.Need-clear-numbers-requires
+clear-numbers-requires c κs = search needs
 
-slice-aggregate-prepare-2 : tie.Need-slice-aggregate-prepare-2
-slice-aggregate-prepare-2 c = search needs
+-- src/lib.rt:263:5
+clear-numbers-requires-2 : tie.Need-clear-numbers-requires-2
+clear-numbers-requires-2 c κs = search needs
 
-prepare-requires : tie.Need-prepare-requires
-prepare-requires c κs = search needs
-
-slice-aggregate-plan-rounds : tie.Need-slice-aggregate-plan-rounds
-slice-aggregate-plan-rounds c = search needs
-
-plan-rounds-requires : tie.Need-plan-rounds-requires
-plan-rounds-requires c κs = (search needs, search prepared-trusted, search prepared-ready, search needs, search needs)
-
+-- src/lib.rt:249:1
 same-length : tie.Need-same-length
 same-length c = search needs
 
+-- src/lib.rt:249:1
 same-length-2 : tie.Need-same-length-2
 same-length-2 c = search needs
 
+-- src/lib.rt:249:1
 same-length-3 : tie.Need-same-length-3
 same-length-3 c = search needs
 
+-- src/lib.rt:249:1
 returns : tie.Need-returns
-returns c = search needs
+returns c = search in-done
 
 pub plan-in-spec : {M : Type 1} → statement M
 plan-in-spec =
     tie.close
     (tie.spec
-    slice-reshare-prefix-prepare
-    slice-aggregate-prepare
-    slice-aggregate-prepare-2
-    prepare-requires
-    slice-aggregate-plan-rounds
-    plan-rounds-requires
+    plan-all-requires
+    clear-numbers-requires
+    clear-numbers-requires-2
     same-length
     same-length-2
     same-length-3
