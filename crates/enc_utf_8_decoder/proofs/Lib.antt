@@ -1,3 +1,3 @@
--- Laws that the functions' proofs cite beside those of `enc_utf_8`. Blocks: ASCII in a text that is tested. Steps: the place after a code point.
+-- Laws that the functions' proofs cite beside those of `enc_utf_8`. Blocks: blocks of ASCII, and those the automaton went through. Steps: the place after a code point.
 pub mod Blocks
 pub mod Steps
