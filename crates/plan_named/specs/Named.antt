@@ -8,6 +8,7 @@ use Prim.Native.Nat.{ℕ}
 use lib.ListN.{take}
 use lib.Dec.{eqb}
 use Rattle.enc_number.specs.Answer.{refusalOf}
+use Rattle.enc_number.specs.Refusals as refusal
 use Rattle.type_book.specs.Book.{blocks}
 use Rattle.type_provider.specs.declared.Found.{Found}
 use Rattle.type_provider.specs.declared.Found.the-variants.{At, Nothing}
@@ -34,7 +35,7 @@ planByName c width name s Nothing = nextRound (planFrom c width (blocks (bookOf 
 unfoldable pub namedRefusal : List ℕ → ℕ → List ℕ → ℕ → List ℕ → List ℕ → ℕ
 namedRefusal buffer len controller theirs name sc =
     orNext (atGiven (λ n. n) 0 (λ t. 0) (checkGiven buffer len (given.name name)))
-    (orNext (refusalOf (bookNumbers (checkBook controller theirs))) (cond (scratchFits sc) 0 6))
+    (orNext (refusalOf (bookNumbers (checkBook controller theirs))) (cond (scratchFits sc) 0 refusal.tooFewLent))
 
 -- the outcome: the refusal, our buffer as it was, or that of the asks and adds
 unfoldable pub planNamedOf : ℕ → List ℕ → ℕ → List ℕ → ℕ → ℕ → List ℕ → Decision
