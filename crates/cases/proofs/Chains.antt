@@ -29,7 +29,7 @@ use Rattle.type_book.proofs.Names.{same-eq}
 use Rattle.resolvers.specs.Resolve.{resolveAlias}
 use Rattle.resolvers.specs.Calls.{resolutionNumbers, resolution}
 use Rattle.resolvers.specs.declared.Resolved.{Resolved}
-use Rattle.resolvers.specs.declared.Resolved.the-variants.{Base, Lacks, TooLong}
+use Rattle.resolvers.specs.declared.Resolved.the-variants.{Base, NotFound, TooLong}
 use Rattle.cases.specs.Blocks.{block}
 use Rattle.cases.specs.Rows.{link, chain, aliases, aliasRow}
 
@@ -144,10 +144,10 @@ target-missing-root : rootOf (aliases 0 32) 0 ≡ root.Root 0
 unfolding aliases block type-block-form-form.sumOf enc-number-le.leValue enc-number-le.leBytes type-book-check-check.rootOf
 target-missing-root = refl
 
-target-missing-goes : resolveAlias (aliases 0 32) 8 0 ≡ Lacks 31
+target-missing-goes : resolveAlias (aliases 0 32) 8 0 ≡ NotFound 31
 unfolding aliases block type-block-form-form.sumOf enc-number-le.leValue enc-number-le.leBytes type-id-typeid.idOf type-names-text.isOneOf type-names-text.startsWith type-names-text.contains type-names-names.isPointerName type-names-names.isSubRangeName type-names-names.isPrimitiveName type-category-category.isPointer type-category-category.isReference type-category-category.isAlias type-category-category.orElse type-category-category.isUnion type-category-category.methodsCategory type-category-category.fieldsCategory type-category-category.isEmptyStruct type-category-category.bareCategory type-category-category.sizeCategory type-category-category.complexCategory type-category-category.simpleCategory type-category-category.categoryOf type-category-number.categoryNumbers type-category-number.categoryAt type-provider-find.findFrom type-provider-find.find resolvers-resolve.resolvedNumbers resolvers-resolve.isFollowed resolvers-resolve.chainOnward resolvers-resolve.follow resolvers-resolve.lookUp type-book-book.sameName type-book-book.isNamed
 target-missing-goes = refl
 
 pub target-missing : _≡_ {A = List ℕ} (aliasRow (aliases 0 32)) (7 ∷ 31 ∷ [])
 unfolding resolvers-calls.resolutionNumbers resolvers-calls.resolution resolvers-resolve.resolvedNumbers
-target-missing = by-parts (aliases 0 32) (Lacks 31) target-missing-size target-missing-sums target-missing-placed (links-distinct (aliases 0 32) target-missing-names) target-missing-root target-missing-goes
+target-missing = by-parts (aliases 0 32) (NotFound 31) target-missing-size target-missing-sums target-missing-placed (links-distinct (aliases 0 32) target-missing-names) target-missing-root target-missing-goes

@@ -116,7 +116,7 @@ module _ (c : Ctx) (f len : ℕ) where
   stopped n b e = record { is = e; value = λ x from to h. absurd (let z : _≡_ {A = ℕ} 0 1 = cc in omega arith) }
 
   module _ (a : Planned) (q : PlannedFieldIs (c .book) (c .width) f a) where
-    pub part-lacks : (b : ℕ) → a ≡ planned.Lacks b → PartIs c f len (part.Stop 7 b)
+    pub part-lacks : (b : ℕ) → a ≡ planned.NotFound b → PartIs c f len (part.Stop 7 b)
     unfolding memberPart
     part-lacks b e = stopped 7 b (rw (q .lacks b e, field-lacks b))
 
@@ -189,9 +189,9 @@ module _ (child : Child) (c : Ctx) (x : Typed) (size : ℕ) (sz : size ≡ sizeO
     unfolding checked
     map-fine e h = from-as (walks.map-even child c mem x size sz ev check.Fine (sym e ∙ check-is _ _ (p .is))) h
 
-    pub map-lacks : (b : ℕ) → k ≡ check.Lacks b → Halts s 7 b r → From (mapOf child c x mem) tape txt s r tape txt
+    pub map-lacks : (b : ℕ) → k ≡ check.NotFound b → Halts s 7 b r → From (mapOf child c x mem) tape txt s r tape txt
     unfolding checked
-    map-lacks b e h = from-as (walks.map-even child c mem x size sz ev (check.Lacks b) (sym e ∙ check-is _ _ (p .is)) ∙ rw (check-lacks b)) (halted h)
+    map-lacks b e h = from-as (walks.map-even child c mem x size sz ev (check.NotFound b) (sym e ∙ check-is _ _ (p .is)) ∙ rw (check-lacks b)) (halted h)
 
     pub map-endless : k ≡ check.TooLong → Halts s 8 0 r → From (mapOf child c x mem) tape txt s r tape txt
     unfolding checked
@@ -208,7 +208,7 @@ module _ (child : Child) (c : Ctx) (x : Typed) (size : ℕ) (sz : size ≡ sizeO
     array-nothing e h = from-as (walks.array-nothing child c mem x size sz ev f (found-is _ _ ef) e) (halted h)
 
     module _ (n : ℕ) (en : f ≡ At n) (k : Resolved) (q : ResolvedIs (c .book) (resolveAlias (c .book) (c .width) n) k) where
-      pub array-lacks : (b : ℕ) → k ≡ resolved.Lacks b → Halts s 7 b r → From (arrayOf child c x mem) tape txt s r tape txt
+      pub array-lacks : (b : ℕ) → k ≡ resolved.NotFound b → Halts s 7 b r → From (arrayOf child c x mem) tape txt s r tape txt
       unfolding elementBy
       array-lacks b e h = from-as (walks.array-at child c mem x size sz ev f (found-is _ _ ef) n en k (resolved-is _ _ (q .is)) ∙ rw (e, lacks-numbers b)) (halted h)
 
@@ -233,9 +233,9 @@ module _ (child : Child) (c : Ctx) (m d t : ℕ) (e : Typed) (mem : List ℕ) {t
   unfolding checked
   dimension-fine z h = from-as (walks.dimension-by child c mem m d t e check.Fine (sym z ∙ p .is)) h
 
-  pub dimension-lacks : (b : ℕ) → k ≡ check.Lacks b → Halts s 7 b r → From (dimensionOf child c m d t e mem) tape txt s r tape txt
+  pub dimension-lacks : (b : ℕ) → k ≡ check.NotFound b → Halts s 7 b r → From (dimensionOf child c m d t e mem) tape txt s r tape txt
   unfolding checked
-  dimension-lacks b z h = from-as (walks.dimension-by child c mem m d t e (check.Lacks b) (sym z ∙ p .is) ∙ rw (check-lacks b)) (halted h)
+  dimension-lacks b z h = from-as (walks.dimension-by child c mem m d t e (check.NotFound b) (sym z ∙ p .is) ∙ rw (check-lacks b)) (halted h)
 
   pub dimension-endless : k ≡ check.TooLong → Halts s 8 0 r → From (dimensionOf child c m d t e mem) tape txt s r tape txt
   unfolding checked

@@ -67,7 +67,7 @@ module _ (child : Child) (c : Ctx) (mem : List ℕ) where
     value-part : (a : FieldAnswer) → fieldValue child c mem a ≡ partWalk (memberPart c (length mem) a)
     unfolding fieldValue memberPart partWalk
     value-part (answer.Field x) = inside (leb (x .offset + x .size) (length mem)) x
-    value-part (answer.Lacks b) = rw (field-lacks b)
+    value-part (answer.NotFound b) = rw (field-lacks b)
     value-part answer.TooLong = rw field-long
 
     module _ (r : Part) (q : r ≡ memberPart c (length mem) (resolveField (c .book) (c .width) f)) where

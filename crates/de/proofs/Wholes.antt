@@ -36,7 +36,7 @@ came : (c : Ctx) (n : ℕ) (k : Resolved) → ResolvedIs (c .book) (resolveAlias
 came c n k q = resolved-is _ _ (q .is)
 
 module _ (c : Ctx) (n : ℕ) (mem : List ℕ) (k : Resolved) (q : ResolvedIs (c .book) (resolveAlias (c .book) (c .width) n) k) {tape txt tape₂ txt₂ : List ℕ} {r : ReadAnswer} where
-  pub root-lacks : (b : ℕ) → k ≡ resolved.Lacks b → Finished (Stop 7 b) tape txt r tape₂ txt₂ → ReadIs (rootTrace c n mem) tape txt r tape₂ txt₂
+  pub root-lacks : (b : ℕ) → k ≡ resolved.NotFound b → Finished (Stop 7 b) tape txt r tape₂ txt₂ → ReadIs (rootTrace c n mem) tape txt r tape₂ txt₂
   unfolding rootTrace rootBy
   root-lacks b e f = read-as (rw (← came c n k q, e, lacks-numbers b)) (read-refused 7 b f)
 

@@ -33,7 +33,7 @@ pub record GivenElement (c : Ctx) (d t e : ℕ) (plan : List ℕ) : Type 0 where
 unfoldable pub memberPart : Ctx → ℕ → FieldAnswer → Part
 memberPart c len (answer.Field f) =
     cond (leb (f .offset + f .size) len) (part.Value (typedOf c (f .named) (f .resolved)) (f .offset) (f .offset + f .size)) (part.Stop refusal.wrongSize 0)
-memberPart c len (answer.Lacks b) = part.Stop (refusalOf (fieldNumbers (answer.Lacks b))) b
+memberPart c len (answer.NotFound b) = part.Stop (refusalOf (fieldNumbers (answer.NotFound b))) b
 memberPart c len answer.TooLong = part.Stop (refusalOf (fieldNumbers answer.TooLong)) 0
 
 -- a type and the bytes of a field block f that resolves to it

@@ -15,7 +15,7 @@ use Rattle.de.specs.Walk.{Ctx, ctx, typedOf, refuseBy, walk}
 -- by what the aliases of root block n come to: its value, with 64 levels; or 7 with its block, or 8
 unfoldable pub rootBy : Ctx → ℕ → List ℕ → Resolved → Trace
 rootBy c n mem (resolved.Base t) = walk c 64 (whole (typedOf c n t)) mem
-rootBy c n mem (resolved.Lacks b) = refuseBy (resolvedNumbers (resolved.Lacks b))
+rootBy c n mem (resolved.NotFound b) = refuseBy (resolvedNumbers (resolved.NotFound b))
 rootBy c n mem resolved.TooLong = refuseBy (resolvedNumbers resolved.TooLong)
 
 -- what is read of root block n: its aliases are resolved first

@@ -58,7 +58,7 @@ refuseBy numbers = refuse (refusalOf numbers) (getD (valuesOf numbers) 0 0)
 -- what follows the test of all fields of a type: 7 with its block, or 8
 unfoldable pub checked : FieldsCheck → Trace → Trace
 checked check.Fine t = t
-checked (check.Lacks b) t = refuseBy (checkNumbers (check.Lacks b))
+checked (check.NotFound b) t = refuseBy (checkNumbers (check.NotFound b))
 checked check.TooLong t = refuseBy (checkNumbers check.TooLong)
 
 -- ---- a struct, union or function block
@@ -67,7 +67,7 @@ checked check.TooLong t = refuseBy (checkNumbers check.TooLong)
 unfoldable pub fieldValue : Child → Ctx → List ℕ → FieldAnswer → Trace
 fieldValue child c mem (answer.Field f) =
     cond (leb (f .offset + f .size) (length mem)) (child (whole (typedOf c (f .named) (f .resolved))) (cut (f .offset) (f .size) mem)) (refuse refusal.wrongSize 0)
-fieldValue child c mem (answer.Lacks b) = refuseBy (fieldNumbers (answer.Lacks b))
+fieldValue child c mem (answer.NotFound b) = refuseBy (fieldNumbers (answer.NotFound b))
 fieldValue child c mem answer.TooLong = refuseBy (fieldNumbers answer.TooLong)
 
 -- field block f: its key, then its value
@@ -112,13 +112,13 @@ dimensionOf child c n d t e mem = checked (elementCheck (c .book) (c .width) d t
 unfoldable pub elementBy : Child → Ctx → Typed → ℕ → List ℕ → Resolved → Trace
 elementBy child c x n mem (resolved.Base e) =
     cond (eqb (arrayBytes (c .book) (x .resolved) e) (length mem)) (dimensionOf child c (x .named) 0 (x .resolved) (typedOf c n e) mem) (refuse refusal.wrongSize 0)
-elementBy child c x n mem (resolved.Lacks b) = refuseBy (resolvedNumbers (resolved.Lacks b))
+elementBy child c x n mem (resolved.NotFound b) = refuseBy (resolvedNumbers (resolved.NotFound b))
 elementBy child c x n mem resolved.TooLong = refuseBy (resolvedNumbers resolved.TooLong)
 
 -- by what the look-up of the element's name found: nothing is 7 with the resolved array's block
 unfoldable pub arrayBy : Child → Ctx → Typed → List ℕ → Found → Trace
 arrayBy child c x mem (At n) = elementBy child c x n mem (resolveAlias (c .book) (c .width) n)
-arrayBy child c x mem Nothing = refuseBy (resolvedNumbers (resolved.Lacks (x .resolved)))
+arrayBy child c x mem Nothing = refuseBy (resolvedNumbers (resolved.NotFound (x .resolved)))
 
 -- 10 unless the bytes are as many as the type says; then the element's type is looked up
 unfoldable pub arrayOf : Child → Ctx → Typed → List ℕ → Trace

@@ -75,7 +75,7 @@ pub(crate) fn array(
             }
             stop(s, 10, 0)
         }
-        Resolved::Lacks(b) => stop(s, 7, b),
+        Resolved::NotFound(b) => stop(s, 7, b),
         Resolved::TooLong => stop(s, 8, 0),
     }
 }
@@ -108,7 +108,7 @@ pub(crate) fn dimension(
     );
     match fields {
         FieldsCheck::Fine => elements(s, book, index, p, &plan, bytes, tape, text),
-        FieldsCheck::Lacks(b) => stop(s, 7, b),
+        FieldsCheck::NotFound(b) => stop(s, 7, b),
         FieldsCheck::TooLong => stop(s, 8, 0),
     }
 }

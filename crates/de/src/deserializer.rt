@@ -99,7 +99,7 @@ pub fn read_in(
             );
             finish(s, tape, text)
         }
-        Resolved::Lacks(b) => finish(Step::Stop(7, b), tape, text),
+        Resolved::NotFound(b) => finish(Step::Stop(7, b), tape, text),
         Resolved::TooLong => finish(Step::Stop(8, 0), tape, text),
     }
 }

@@ -51,7 +51,7 @@ pub(crate) fn map(
     let fields = resolve_field_plan::plan_fields_in(book, index, v.width, t, &mut own);
     match fields {
         FieldsCheck::Fine => members(s, book, index, v, &own, bytes, tape, text),
-        FieldsCheck::Lacks(b) => stop(s, 7, b),
+        FieldsCheck::NotFound(b) => stop(s, 7, b),
         FieldsCheck::TooLong => stop(s, 8, 0),
     }
 }
@@ -111,7 +111,7 @@ fn part_of(book: &[u8], index: &[u32], m: Member, bytes: &[u8]) -> Part
             };
             Part::Value(typed, from, to)
         }
-        Planned::Lacks(b) => Part::Stop(7, b),
+        Planned::NotFound(b) => Part::Stop(7, b),
         Planned::TooLong => Part::Stop(8, 0),
     }
 }

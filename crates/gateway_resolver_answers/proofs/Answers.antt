@@ -19,7 +19,7 @@ module _ {before after : List ℕ} {r : ℕ} where
   unfolding resolvedNumbers
   resolved-base x b e g = rw e g
 
-  pub resolved-lacks : (x : Resolved) (b : ℕ) → x ≡ resolved.Lacks b → Gives (7 ∷ b ∷ []) before r after → Gives (resolvedNumbers x) before r after
+  pub resolved-lacks : (x : Resolved) (b : ℕ) → x ≡ resolved.NotFound b → Gives (7 ∷ b ∷ []) before r after → Gives (resolvedNumbers x) before r after
   unfolding resolvedNumbers
   resolved-lacks x b e g = rw e g
 

@@ -15,7 +15,7 @@ pub fn give_resolved(answer: Resolved, values: &mut [u64]) -> u8
 {
     match answer {
         Resolved::Base(b) => done_1(values, b as u64),
-        Resolved::Lacks(b) => lacks(values, b),
+        Resolved::NotFound(b) => lacks(values, b),
         Resolved::TooLong => 8,
     }
 }

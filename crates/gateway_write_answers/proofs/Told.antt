@@ -168,7 +168,7 @@ mild-fine next bytes (leaf.refused n) p = fine-refused n 0 bytes (p .each n refl
 checked-fine : (f : FieldsCheck) (bytes : List ℕ) (o : Outcome) → Fine o → Fine (checked f bytes o)
 unfolding checked checkNumbers
 checked-fine check.Fine bytes o p = p
-checked-fine (check.Lacks b) bytes o p = fine-refused 7 b bytes is-7
+checked-fine (check.NotFound b) bytes o p = fine-refused 7 b bytes is-7
 checked-fine check.TooLong bytes o p = fine-refused 8 0 bytes is-8
 
 module _ (book : List ℕ) (width : ℕ) (tape text : List ℕ) where
@@ -182,7 +182,7 @@ module _ (book : List ℕ) (width : ℕ) (tape text : List ℕ) where
     unfolding fieldValue fieldNumbers
     field-fine at bytes (answer.Field f) =
         fine-cond (leb (f .offset + f .size) (length bytes)) _ _ (fine-placed _ _ bytes _ (ih (whole (f .resolved)) at _)) (fine-refused 10 0 bytes is-10)
-    field-fine at bytes (answer.Lacks b) = fine-refused 7 b bytes is-7
+    field-fine at bytes (answer.NotFound b) = fine-refused 7 b bytes is-7
     field-fine at bytes answer.TooLong = fine-refused 8 0 bytes is-8
 
     found-fine : (at : Cursor) (bytes : List ℕ) (f : Found) → Fine (foundValue child c at bytes f)
@@ -239,7 +239,7 @@ module _ (book : List ℕ) (width : ℕ) (tape text : List ℕ) where
     element-fine : (t : ℕ) (at : Cursor) (bytes : List ℕ) (r : Resolved) → Fine (arrayBy child c t at bytes (elementType book t (length bytes) r))
     unfolding elementType arrayBy resolvedNumbers
     element-fine t at bytes (resolved.Base e) = entered-cond t at bytes (eqb (arrayBytes book t e) (length bytes)) _ (dimension-fine 0 t e at bytes)
-    element-fine t at bytes (resolved.Lacks b) = fine-refused 7 b bytes is-7
+    element-fine t at bytes (resolved.NotFound b) = fine-refused 7 b bytes is-7
     element-fine t at bytes resolved.TooLong = fine-refused 8 0 bytes is-8
 
     array-by : (t : ℕ) (at : Cursor) (bytes : List ℕ) (s : Shape) → Fine (arrayBy child c t at bytes (enteredBy book width t (length bytes) s))
@@ -272,7 +272,7 @@ module _ (book : List ℕ) (width : ℕ) (tape text : List ℕ) where
   root-by : (image : List ℕ) (r : Resolved) → Fine (rootBy c image r)
   unfolding rootBy typeWrite resolvedNumbers
   root-by image (resolved.Base t) = walk-fine 64 (whole t) (record { at = 0 }) image
-  root-by image (resolved.Lacks b) = fine-refused 7 b image is-7
+  root-by image (resolved.NotFound b) = fine-refused 7 b image is-7
   root-by image resolved.TooLong = fine-refused 8 0 image is-8
 
   book-fine : (n room : ℕ) (image : List ℕ) → Fine (bookWrite c n room image)

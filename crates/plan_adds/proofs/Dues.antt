@@ -79,7 +79,7 @@ module _ (c : List ℕ) (width i due : ℕ) (buffer : List ℕ) (len : ℕ) (d :
     unfolding fetchedSaid passing
     block-more l e = record { is = λ go. sym (named go ∙ rw e); ready = rw e at (o .ready); kept = rw e at (o .kept) }
 
-    pub block-lacks : f ≡ fetched.Lacks → SweptIs c width i due buffer len (swept len k) after known
+    pub block-lacks : f ≡ fetched.NotFound → SweptIs c width i due buffer len (swept len k) after known
     unfolding fetchedSaid passing
     block-lacks e = record { is = λ go. sym (named go ∙ rw e); ready = rw e at (o .ready); kept = rw e at (o .kept) }
 

@@ -23,7 +23,7 @@ use Rattle.type_cache.proofs.Appends.{refused-cut, done-none, buffer-kept}
 use Rattle.plan_type_adds.specs.Knows.{Knows, AppendedIn}
 use Rattle.resolvers.proofs.Chains.{found-valid, found-type}
 use Rattle.type_provider.proofs.Numbers.{found-is}
-use Rattle.plan_adds.specs.declared.Fetched.the-variants.{More, Lacks, Full}
+use Rattle.plan_adds.specs.declared.Fetched.the-variants.{More, NotFound, Full}
 use Rattle.plan_adds.specs.Adds.{ours, appendOf, fetchBy, fetchOf, on, room}
 use Rattle.plan_adds.specs.State.{Ready, Kept, fetchedSaid, FetchedIs}
 
@@ -57,7 +57,7 @@ refused-is buffer len d k h = by (eqb (appendRefusal buffer len d) 0) refl h
     by false e g = (cc, eqb-false _ _ e)
 
 module _ (c : List ℕ) (b : ℕ) (buffer : List ℕ) (len : ℕ) (f : Found) (ef : f ≡ find c (typeNameOf (take len buffer) b)) where
-  pub fetch-lacks : f ≡ Nothing → (known : List ℕ) → Ready c buffer len known → FetchedIs c b buffer len Lacks buffer known
+  pub fetch-lacks : f ≡ Nothing → (known : List ℕ) → Ready c buffer len known → FetchedIs c b buffer len NotFound buffer known
   unfolding fetchedSaid fetchBy
   fetch-lacks h known o = record { is = rw (← ef, h); ready = o; kept = kept-all buffer len }
 

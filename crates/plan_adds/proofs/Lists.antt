@@ -61,7 +61,7 @@ module _ (adding : Adding) (c list buffer₀ : List ℕ) (len₀ n i : ℕ) (buf
           kept = kept-then buffer₀ len₀ buffer at after k (o .kept) (rw e at (g .kept));
         }
 
-    pub adds-lacks : f ≡ fetched.Lacks → AddedIs adding c buffer₀ len₀ (NotFound (getD list i 0) at) after known′
+    pub adds-lacks : f ≡ fetched.NotFound → AddedIs adding c buffer₀ len₀ (NotFound (getD list i 0) at) after known′
     unfolding fetchedSaid thenOn addedSaid
     adds-lacks e =
         record {

@@ -28,13 +28,13 @@ pub record Kept (buffer : List ℕ) (len : ℕ) (after : List ℕ) (len′ : ℕ
 -- what is said of one type: its definition is added, or it was known; or the controller's book lacks it, or there is no room
 abbrev pub fetchedLength : ℕ → Fetched → ℕ
 fetchedLength len (fetched.More l) = l
-fetchedLength len fetched.Lacks = len
+fetchedLength len fetched.NotFound = len
 fetchedLength len fetched.Full = len
 
 -- the same with our buffer, as an adding
 unfoldable pub fetchedSaid : ℕ → ℕ → Fetched → List ℕ → Adding
 fetchedSaid b len (fetched.More l) buffer = on (ours buffer l)
-fetchedSaid b len fetched.Lacks buffer = lacks b (ours buffer len)
+fetchedSaid b len fetched.NotFound buffer = lacks b (ours buffer len)
 fetchedSaid b len fetched.Full buffer = room (ours buffer len)
 
 -- the promise of adding one type: what is said of it, that all is ready for the next, and that our types are kept

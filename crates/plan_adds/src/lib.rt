@@ -27,7 +27,7 @@ const MAX_BLOCKS: u32 = 65536;
 // The length of our book with the type, if it was not known; or the controller's book lacks it, or there is no room for it.
 enum Fetched {
     More(usize),
-    Lacks,
+    NotFound,
     Full,
 }
 
@@ -82,7 +82,7 @@ fn fetch(
 {
     let found = find_theirs(&buffer[..len], controller, index, trust, b);
     let Found::At(n) = found else {
-        return Fetched::Lacks;
+        return Fetched::NotFound;
     };
     let answer = append_in(buffer, len, controller, n, known);
     match answer {
@@ -119,7 +119,7 @@ fn add_listed(
             Fetched::More(l) => {
                 at = l;
             }
-            Fetched::Lacks => {
+            Fetched::NotFound => {
                 return Added::NotFound(b, at);
             }
             Fetched::Full => {
@@ -184,7 +184,7 @@ fn sweep_block(
             let fetched = fetch(buffer, len, controller, index, trust, known, i);
             match fetched {
                 Fetched::More(l) => Swept { len: l, due: k },
-                Fetched::Lacks => Swept { len, due: k },
+                Fetched::NotFound => Swept { len, due: k },
                 Fetched::Full => Swept { len, due: k },
             }
         }

@@ -12,7 +12,7 @@ use Rattle.type_category.specs.Category.{categoryOf}
 use Rattle.type_book_check.specs.Check.{bookNumbers, rootNumbers}
 use Rattle.type_cache.specs.Append.{orNext}
 use Rattle.enc_number.specs.Answer.{refusalOf}
-use Rattle.resolvers.specs.declared.Resolved.the-variants.{Base, Lacks, TooLong}
+use Rattle.resolvers.specs.declared.Resolved.the-variants.{Base, NotFound, TooLong}
 use Rattle.resolvers.specs.Resolve.{resolvedNumbers}
 use Rattle.type_book_check.specs.Check.{atRoot}
 use Rattle.resolve_walk.specs.Walk.{Walk, over, full, met}
@@ -61,7 +61,7 @@ numbered book width (met b x (Base t) w) n e z = by (keepsState (categoryOf book
     by : (g : Bool) → (rmwOf book width w ≡ rmw.Refused n → ⊥) → cond g rmw.Yes (rmwOf book width w) ≡ rmw.Refused n → ⊥
     by true ih e = apart-yes n e
     by false ih e = ih e
-numbered book width (met b x (Lacks c) w) n e z = apart-lacks c n e
+numbered book width (met b x (NotFound c) w) n e z = apart-lacks c n e
 numbered book width (met b x TooLong w) n e z = let q : 8 ≡ n = same-number 8 n e in omega arith
 
 -- ---- an answer

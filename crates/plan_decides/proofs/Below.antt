@@ -15,7 +15,7 @@ use Rattle.type_category.specs.Category.{categoryOf}
 use Rattle.type_book_check.specs.Check.{ValidBook}
 use Rattle.type_book_check.proofs.Valid.{valid-type, valid-below, valid-own}
 use Rattle.resolvers.specs.declared.Resolved.{Resolved}
-use Rattle.resolvers.specs.declared.Resolved.the-variants.{Base, Lacks, TooLong}
+use Rattle.resolvers.specs.declared.Resolved.the-variants.{Base, NotFound, TooLong}
 use Rattle.resolvers.specs.Resolve.{isFollowed, chainOnward, resolveAlias}
 use Rattle.resolvers.proofs.Chains.{found-type, follow-ends, follow-breaks}
 use Rattle.resolve_walk_scratch.specs.declared.Parts.{Parts}
@@ -25,10 +25,10 @@ use Rattle.resolve_walk.specs.Walk.{Walk, over, full, met, comesTo, push, meet,
 use Rattle.resolve_walk.specs.Reads.{listed}
 use Rattle.resolve_walk.proofs.Goes.{Goes, goes}
 
-listed-cases : (c b : ℕ) (x : List ℕ) (f : Resolved) (w : Walk) {X : Type 0} → List·Memᴰ c (listed (met b x f w)) → (f ≡ Lacks c → X) → (List·Memᴰ c (listed w) → X) → X
+listed-cases : (c b : ℕ) (x : List ℕ) (f : Resolved) (w : Walk) {X : Type 0} → List·Memᴰ c (listed (met b x f w)) → (f ≡ NotFound c → X) → (List·Memᴰ c (listed w) → X) → X
 unfolding listed
 listed-cases c b x (Base t) w m p q = q m
-listed-cases c b x (Lacks d) w m p q = ⊎-elim (λ e. p (ap Lacks (sym e))) q (List·Memᴰ·cases-cons m)
+listed-cases c b x (NotFound d) w m p q = ⊎-elim (λ e. p (ap NotFound (sym e))) q (List·Memᴰ·cases-cons m)
 listed-cases c b x TooLong w m p q = q m
 
 over-none : (c : ℕ) → List·Memᴰ c (listed over) → ⊥
@@ -44,13 +44,13 @@ unfolding blocksAfter
 in-after t zero b m = absurd (List·Memᴰ·not-nil m)
 in-after t (suc k) b m = ⊎-elim (λ e. omega arith) (λ n. let r = in-after t k b n in omega (arith, r)) (List·Memᴰ·cases-cons m)
 
-lacks-apart : (c u : ℕ) → Base u ≡ Lacks c → ⊥
+lacks-apart : (c u : ℕ) → Base u ≡ NotFound c → ⊥
 lacks-apart c u e = let z : _≡_ {A = ℕ} 0 1 = cc in omega arith
 
 found-apart : (n : ℕ) → At n ≡ Nothing → ⊥
 found-apart n e = let z : _≡_ {A = ℕ} 0 1 = cc in omega arith
 
-lacks-same : (b c : ℕ) → Lacks b ≡ Lacks c → b ≡ c
+lacks-same : (b c : ℕ) → NotFound b ≡ NotFound c → b ≡ c
 lacks-same b c e = cc
 
 module _ (book : List ℕ) (width : ℕ) (v : ValidBook book) where
@@ -80,12 +80,12 @@ module _ (book : List ℕ) (width : ℕ) (v : ValidBook book) where
     comes-typed b u (At t) q e = follow-ends (isFollowed false book width) book 32 t u e .typed (found-type book (typeNameOf book b) t q)
     comes-typed b u Nothing q e = absurd (lacks-apart b u (sym e))
 
-    chain-breaks : (t c : ℕ) → isType book t ≡ true → resolveAlias book width t ≡ Lacks c → P c
+    chain-breaks : (t c : ℕ) → isType book t ≡ true → resolveAlias book width t ≡ NotFound c → P c
     chain-breaks t c y e =
         let r = follow-breaks (isFollowed false book width) book 32 t c e in
         of-alias c (r .typed y) (r .goes-on)
 
-    comes-to : (b c : ℕ) → P b → (f : Found) → find book (typeNameOf book b) ≡ f → comesTo book width b f ≡ Lacks c → P c
+    comes-to : (b c : ℕ) → P b → (f : Found) → find book (typeNameOf book b) ≡ f → comesTo book width b f ≡ NotFound c → P c
     unfolding chainOnward
     comes-to b c h (At t) q e = chain-breaks t c (found-type book (typeNameOf book b) t q) e
     comes-to b c h Nothing q e = subst (λ (x : ℕ). P x) (lacks-same b c e) h
@@ -94,7 +94,7 @@ module _ (book : List ℕ) (width : ℕ) (v : ValidBook book) where
         → (b : ℕ) → List·Memᴰ b (push book width r s) → P b
     unfolding push
     push-all s (Base t) y p b m = either (partsOf book width t) s (of-parts t (y t refl)) p b m
-    push-all s (Lacks d) y p b m = p b m
+    push-all s (NotFound d) y p b m = p b m
     push-all s TooLong y p b m = p b m
 
     goes-all : {left : ℕ} {vs : List (List ℕ)} {s : List ℕ} {w : Walk} → Goes book width left vs s w → ((b : ℕ) → List·Memᴰ b s → P b)
@@ -114,7 +114,7 @@ module _ (book : List ℕ) (width : ℕ) (v : ValidBook book) where
       root-typed u (At t) q e = follow-ends (isFollowed false book width) book 32 t u e .typed (found-type book (nameOf book root) t q)
       root-typed u Nothing q e = absurd (lacks-apart root u (sym e))
 
-      root-to : (c : ℕ) (f : Found) → find book (nameOf book root) ≡ f → comesTo book width root f ≡ Lacks c → P c
+      root-to : (c : ℕ) (f : Found) → find book (nameOf book root) ≡ f → comesTo book width root f ≡ NotFound c → P c
       unfolding chainOnward
       root-to c (At t) q e = chain-breaks t c (found-type book (nameOf book root) t q) e
       root-to c Nothing q e = absurd (found-apart root (sym (valid-own book v root y) ∙ q))

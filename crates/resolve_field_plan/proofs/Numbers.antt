@@ -21,13 +21,13 @@ same x y o s n r c =
 pub planned-is : (r a : Planned) → plannedNumbers r ≡ plannedNumbers a → r ≡ a
 unfolding plannedNumbers
 planned-is (planned.Field x) (planned.Field y) e = ap planned.Field (same x y (cc) (cc) (cc) (cc) (cc))
-planned-is (planned.Field x) (planned.Lacks c) e = absurd (let z : _≡_ {A = ℕ} 0 7 = cc in omega arith)
+planned-is (planned.Field x) (planned.NotFound c) e = absurd (let z : _≡_ {A = ℕ} 0 7 = cc in omega arith)
 planned-is (planned.Field x) planned.TooLong e = absurd (let z : _≡_ {A = ℕ} 0 8 = cc in omega arith)
-planned-is (planned.Lacks b) (planned.Field y) e = absurd (let z : _≡_ {A = ℕ} 7 0 = cc in omega arith)
-planned-is (planned.Lacks b) (planned.Lacks c) e = let q : b ≡ c = cc in ap planned.Lacks q
-planned-is (planned.Lacks b) planned.TooLong e = absurd (let z : _≡_ {A = ℕ} 7 8 = cc in omega arith)
+planned-is (planned.NotFound b) (planned.Field y) e = absurd (let z : _≡_ {A = ℕ} 7 0 = cc in omega arith)
+planned-is (planned.NotFound b) (planned.NotFound c) e = let q : b ≡ c = cc in ap planned.NotFound q
+planned-is (planned.NotFound b) planned.TooLong e = absurd (let z : _≡_ {A = ℕ} 7 8 = cc in omega arith)
 planned-is planned.TooLong (planned.Field y) e = absurd (let z : _≡_ {A = ℕ} 8 0 = cc in omega arith)
-planned-is planned.TooLong (planned.Lacks c) e = absurd (let z : _≡_ {A = ℕ} 8 7 = cc in omega arith)
+planned-is planned.TooLong (planned.NotFound c) e = absurd (let z : _≡_ {A = ℕ} 8 7 = cc in omega arith)
 planned-is planned.TooLong planned.TooLong e = refl
 
 -- the same answer has the same numbers

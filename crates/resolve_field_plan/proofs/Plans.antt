@@ -50,7 +50,7 @@ module _ (book : List ℕ) (width f : ℕ) (x : ResolvedField) where
   parts-of n (resolved.Base u) e =
       let a : _≡_ {A = ResolvedField} (record { offset = offsetOf book f; size = sizeOf book f; named = n; resolved = u; field = f }) x = cc in
       record { offset-is = sym (ap (λ (z : ResolvedField). z .offset) a); size-is = sym (ap (λ (z : ResolvedField). z .size) a) }
-  parts-of n (resolved.Lacks c) e = absurd (let z : _≡_ {A = ℕ} 0 1 = cc in omega arith)
+  parts-of n (resolved.NotFound c) e = absurd (let z : _≡_ {A = ℕ} 0 1 = cc in omega arith)
   parts-of n resolved.TooLong e = absurd (let z : _≡_ {A = ℕ} 0 1 = cc in omega arith)
 
   parts-found : (u : Found) → fieldFound book width f u ≡ answer.Field x → Parts book f x
@@ -62,12 +62,12 @@ module _ (book : List ℕ) (width f : ℕ) (x : ResolvedField) where
   unfolding resolveField
   parts e = parts-found (find book (typeNameOf book f)) e
 
-lacks-only : {book : List ℕ} {width f : ℕ} (b : ℕ) → resolveField book width f ≡ answer.Lacks b → PlannedFieldIs book width f (planned.Lacks b)
+lacks-only : {book : List ℕ} {width f : ℕ} (b : ℕ) → resolveField book width f ≡ answer.NotFound b → PlannedFieldIs book width f (planned.NotFound b)
 unfolding plannedOf
 lacks-only b h = record {
   is = planned-says _ _ (rw h);
   field = λ y g. absurd (let z : _≡_ {A = ℕ} 0 1 = cc in omega arith);
-  lacks = λ d g. let z : b ≡ d = cc in h ∙ ap answer.Lacks z;
+  lacks = λ d g. let z : b ≡ d = cc in h ∙ ap answer.NotFound z;
   endless = λ g. absurd (let z : _≡_ {A = ℕ} 0 1 = cc in omega arith);
 }
 
@@ -102,7 +102,7 @@ module _ (book : List ℕ) (width f n : ℕ) (w : find book (typeNameOf book f) 
         category-is = k;
       })
 
-  pub alias-lacks : (b : ℕ) → r ≡ resolved.Lacks b → PlannedFieldIs book width f (planned.Lacks b)
+  pub alias-lacks : (b : ℕ) → r ≡ resolved.NotFound b → PlannedFieldIs book width f (planned.NotFound b)
   unfolding fieldOf
   alias-lacks b e = lacks-only b (at ∙ ap (fieldOf book f n) e)
 
@@ -123,7 +123,7 @@ alias-typed book f n w = found-type book (typeNameOf book f) n w
 
 -- by what the field's type name finds
 module _ (book : List ℕ) (width f : ℕ) (x : Found) (ex : x ≡ find book (typeNameOf book f)) where
-  pub plan-nothing : x ≡ Nothing → PlannedFieldIs book width f (planned.Lacks f)
+  pub plan-nothing : x ≡ Nothing → PlannedFieldIs book width f (planned.NotFound f)
   plan-nothing h = lacks-only f (field-nothing book width f (sym ex ∙ h))
 
   module _ (n : ℕ) (h : x ≡ At n) where
@@ -237,7 +237,7 @@ ready-none book width t = record { entries = record { at = λ i l. entry-none bo
 
 -- the plan after a field, by what it came to
 module _ (book : List ℕ) (width f i k : ℕ) (plan : List ℕ) where
-  plan-lacks : (b : ℕ) → resolveField book width f ≡ answer.Lacks b → fieldPlanFrom book width f i (suc k) plan ≡ plan
+  plan-lacks : (b : ℕ) → resolveField book width f ≡ answer.NotFound b → fieldPlanFrom book width f i (suc k) plan ≡ plan
   unfolding fieldPlanFrom noted
   plan-lacks b e = rw e
 
@@ -302,7 +302,7 @@ module _ (book : List ℕ) (width t n : ℕ) where
       fill : fieldPlanOf book width t before ≡ fieldPlanFrom book width (t + 1 + i) i (suc (n - (i + 1))) now
       fill = p .rest ∙ ap (λ (m : ℕ). fieldPlanFrom book width (t + 1 + i) i m now) one-more
 
-      pub planning-lacks : (b : ℕ) → a ≡ planned.Lacks b → FieldPlanIs book width t before (check.Lacks b) now
+      pub planning-lacks : (b : ℕ) → a ≡ planned.NotFound b → FieldPlanIs book width t before (check.NotFound b) now
       planning-lacks b e = record {
         is = check-says _ _ (sym (turn ∙ fields-lacks book width (t + 1 + i) (n - (i + 1)) b (q .lacks b e)));
         plan = sym (fill ∙ plan-lacks book width (t + 1 + i) i (n - (i + 1)) now b (q .lacks b e));

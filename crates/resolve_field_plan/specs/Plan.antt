@@ -31,14 +31,14 @@ planEntryOf x = planEntryBy (x .named) (x .resolved) (x .category)
 -- type name is not found, or 8
 unfoldable pub plannedNumbers : Planned → List ℕ
 plannedNumbers (planned.Field x) = 0 ∷ x .offset ∷ x .size ∷ x .named ∷ x .resolved ∷ categoryNumber (x .category) ∷ []
-plannedNumbers (planned.Lacks b) = refusal.notFound ∷ b ∷ []
+plannedNumbers (planned.NotFound b) = refusal.notFound ∷ b ∷ []
 plannedNumbers planned.TooLong = refusal.chainTooLong ∷ []
 
 -- what a field came to, with the category of its type
 unfoldable pub plannedOf : List ℕ → ℕ → FieldAnswer → Planned
 plannedOf book width (answer.Field x) =
     planned.Field (record { offset = x .offset; size = x .size; named = x .named; resolved = x .resolved; category = categoryOf book width (x .resolved) })
-plannedOf book width (answer.Lacks b) = planned.Lacks b
+plannedOf book width (answer.NotFound b) = planned.NotFound b
 plannedOf book width answer.TooLong = planned.TooLong
 
 -- x is what field block f resolves to, with the category of its type
@@ -57,7 +57,7 @@ pub record FieldIs (book : List ℕ) (width f : ℕ) (x : PlannedField) : Type 0
 pub record PlannedFieldIs (book : List ℕ) (width f : ℕ) (r : Planned) : Type 0 where
   pub is : plannedNumbers r ≡ plannedNumbers (plannedOf book width (resolveField book width f))
   pub field : (x : PlannedField) → r ≡ planned.Field x → FieldIs book width f x
-  pub lacks : (b : ℕ) → r ≡ planned.Lacks b → resolveField book width f ≡ answer.Lacks b
+  pub lacks : (b : ℕ) → r ≡ planned.NotFound b → resolveField book width f ≡ answer.NotFound b
   pub endless : r ≡ planned.TooLong → resolveField book width f ≡ answer.TooLong
 
 -- an entry that is not 0 is the entry of what the field resolves to
@@ -82,7 +82,7 @@ pub record PlanServes (book : List ℕ) (width t : ℕ) (plan : List ℕ) : Type
 -- a plan after field i was resolved: with its entry the plan is filled further, after a refusal it stays
 unfoldable pub noted : List ℕ → ℕ → (List ℕ → List ℕ) → ℕ → List ℕ → FieldAnswer → List ℕ
 noted book width further i plan (answer.Field x) = further (set plan i (planEntryBy (x .named) (x .resolved) (categoryOf book width (x .resolved))))
-noted book width further i plan (answer.Lacks b) = plan
+noted book width further i plan (answer.NotFound b) = plan
 noted book width further i plan answer.TooLong = plan
 
 -- a plan with the entries of the k field blocks from block f on, the first at place i, up to the first field that is refused; what has no place is left out

@@ -29,7 +29,7 @@ pub struct PlannedField {
 pub enum Planned {
     Field(PlannedField),
     // The block whose type name is not in the book.
-    Lacks(u32),
+    NotFound(u32),
     // More look-ups than allowed.
     TooLong,
 }
@@ -48,7 +48,7 @@ fn plan_alias(book: &[u8], index: &[u32], width: u8, f: u32, named: u32) -> Plan
             resolved,
             category: AdsTypeCategory::determine(book, width, resolved),
         }),
-        Resolved::Lacks(b) => Planned::Lacks(b),
+        Resolved::NotFound(b) => Planned::NotFound(b),
         Resolved::TooLong => Planned::TooLong,
     }
 }
@@ -60,7 +60,7 @@ fn plan_field(book: &[u8], index: &[u32], width: u8, f: u32) -> Planned
 {
     let found = resolvers::named_in(book, index, f);
     let Found::At(named) = found else {
-        return Planned::Lacks(f);
+        return Planned::NotFound(f);
     };
     let category = AdsTypeCategory::determine(book, width, named);
     if resolvers::goes_on(category, false) {
@@ -131,7 +131,7 @@ pub fn plan_fields_in(
         let found = plan_field(book, index, width, t + 1 + i);
         match found {
             Planned::Field(x) => note(plan, i, x),
-            Planned::Lacks(b) => return FieldsCheck::Lacks(b),
+            Planned::NotFound(b) => return FieldsCheck::NotFound(b),
             Planned::TooLong => return FieldsCheck::TooLong,
         }
         i += 1;

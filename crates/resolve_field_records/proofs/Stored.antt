@@ -33,7 +33,7 @@ module _ (a : FieldAnswer) where
       → _≡_ {A = Rec} (record { offset = x .offset; size = x .size; «type_block» = x .resolved; «field_block» = x .field }) (resolvedRecord a)
   record-field x h = rw h
 
-  pub record-lacks : (c : ℕ) → a ≡ answer.Lacks c → noRecord ≡ resolvedRecord a
+  pub record-lacks : (c : ℕ) → a ≡ answer.NotFound c → noRecord ≡ resolvedRecord a
   record-lacks c h = rw h
 
   pub record-endless : a ≡ answer.TooLong → noRecord ≡ resolvedRecord a

@@ -19,7 +19,7 @@ noRecord = record { offset = 0; size = 0; «type_block» = 0; «field_block» = 
 -- a field's record: offset, size, resolved type's block, field's block
 abbrev pub resolvedRecord : FieldAnswer → ResolvedField
 resolvedRecord (answer.Field x) = record { offset = x .offset; size = x .size; «type_block» = x .resolved; «field_block» = x .field }
-resolvedRecord (answer.Lacks c) = noRecord
+resolvedRecord (answer.NotFound c) = noRecord
 resolvedRecord answer.TooLong = noRecord
 
 -- the record of field i of the root

@@ -55,7 +55,7 @@ fn record_of(answer: FieldAnswer) -> ResolvedField
             type_block: x.resolved,
             field_block: x.field,
         },
-        FieldAnswer::Lacks(_) => ResolvedField {
+        FieldAnswer::NotFound(_) => ResolvedField {
             offset: 0,
             size: 0,
             type_block: 0,

@@ -13,7 +13,7 @@ use Rattle.type_provider.specs.Find.{find}
 use Rattle.type_book_check.specs.Check.{ValidBook}
 use Rattle.type_book_check.proofs.Valid.{valid-size, valid-type}
 use Rattle.resolvers.specs.declared.Resolved.{Resolved}
-use Rattle.resolvers.specs.declared.Resolved.the-variants.{Base, Lacks, TooLong}
+use Rattle.resolvers.specs.declared.Resolved.the-variants.{Base, NotFound, TooLong}
 use Rattle.resolve_field_types.specs.declared.ResolvedField.{ResolvedField}
 use Rattle.resolve_field_types.specs.declared.FieldAnswer.{FieldAnswer}
 use Rattle.resolve_field_types.specs.declared.FieldAnswer.the-variants as answer
@@ -31,12 +31,12 @@ module _ (book : List ℕ) (width f : ℕ) where
   unfolding resolveField fieldFound
   field-at n e = rw e
 
-  pub field-nothing : find book (typeNameOf book f) ≡ Nothing → resolveField book width f ≡ answer.Lacks f
+  pub field-nothing : find book (typeNameOf book f) ≡ Nothing → resolveField book width f ≡ answer.NotFound f
   unfolding resolveField fieldFound
   field-nothing e = rw e
 
   module _ (x : Found) (ex : x ≡ find book (typeNameOf book f)) where
-    pub resolved-nothing : x ≡ Nothing → FieldResolved book width f (answer.Lacks f)
+    pub resolved-nothing : x ≡ Nothing → FieldResolved book width f (answer.NotFound f)
     resolved-nothing h =
         record {
           is = field-says _ _ (sym (field-nothing (sym ex ∙ h)));
@@ -47,7 +47,7 @@ module _ (book : List ℕ) (width f : ℕ) where
       found : resolveField book width f ≡ fieldOf book f n r
       found = field-at n (sym ex ∙ h) ∙ ap (fieldOf book f n) (sym (resolved-is _ _ (q .is)))
 
-      pub resolved-lacks : (c : ℕ) → r ≡ Lacks c → FieldResolved book width f (answer.Lacks c)
+      pub resolved-lacks : (c : ℕ) → r ≡ NotFound c → FieldResolved book width f (answer.NotFound c)
       unfolding fieldOf
       resolved-lacks c e =
           record {
@@ -82,7 +82,7 @@ module _ (book : List ℕ) (width f k : ℕ) where
   unfolding fieldsFrom fieldThen
   fields-more x e = rw e
 
-  pub fields-lacks : (c : ℕ) → resolveField book width f ≡ answer.Lacks c → fieldsFrom book width f (suc k) ≡ check.Lacks c
+  pub fields-lacks : (c : ℕ) → resolveField book width f ≡ answer.NotFound c → fieldsFrom book width f (suc k) ≡ check.NotFound c
   unfolding fieldsFrom fieldThen
   fields-lacks c e = rw e
 
@@ -112,7 +112,7 @@ module _ (book : List ℕ) (width t n : ℕ) (whole : FieldsCheck) where
       turn : whole ≡ fieldsFrom book width (t + 1 + i) (suc (n - (i + 1)))
       turn = let k : n - i ≡ suc (n - (i + 1)) = omega arith in inv ∙ ap (fieldsFrom book width (t + 1 + i)) k
 
-      pub first-lacks : (c : ℕ) → a ≡ answer.Lacks c → check.Lacks c ≡ whole
+      pub first-lacks : (c : ℕ) → a ≡ answer.NotFound c → check.NotFound c ≡ whole
       first-lacks c h = sym (turn ∙ fields-lacks book width (t + 1 + i) (n - (i + 1)) c (sym (field-is _ _ (q .is)) ∙ h))
 
       pub first-endless : a ≡ answer.TooLong → check.TooLong ≡ whole

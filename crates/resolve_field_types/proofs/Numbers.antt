@@ -25,13 +25,13 @@ same x y o s n r f =
 pub field-is : (r a : FieldAnswer) → fieldNumbers r ≡ fieldNumbers a → r ≡ a
 unfolding fieldNumbers
 field-is (answer.Field x) (answer.Field y) e = ap answer.Field (same x y (cc) (cc) (cc) (cc) (cc))
-field-is (answer.Field x) (answer.Lacks c) e = absurd (let z : _≡_ {A = ℕ} 0 7 = cc in omega arith)
+field-is (answer.Field x) (answer.NotFound c) e = absurd (let z : _≡_ {A = ℕ} 0 7 = cc in omega arith)
 field-is (answer.Field x) answer.TooLong e = absurd (let z : _≡_ {A = ℕ} 0 8 = cc in omega arith)
-field-is (answer.Lacks b) (answer.Field y) e = absurd (let z : _≡_ {A = ℕ} 7 0 = cc in omega arith)
-field-is (answer.Lacks b) (answer.Lacks c) e = let q : b ≡ c = cc in ap answer.Lacks q
-field-is (answer.Lacks b) answer.TooLong e = absurd (let z : _≡_ {A = ℕ} 7 8 = cc in omega arith)
+field-is (answer.NotFound b) (answer.Field y) e = absurd (let z : _≡_ {A = ℕ} 7 0 = cc in omega arith)
+field-is (answer.NotFound b) (answer.NotFound c) e = let q : b ≡ c = cc in ap answer.NotFound q
+field-is (answer.NotFound b) answer.TooLong e = absurd (let z : _≡_ {A = ℕ} 7 8 = cc in omega arith)
 field-is answer.TooLong (answer.Field y) e = absurd (let z : _≡_ {A = ℕ} 8 0 = cc in omega arith)
-field-is answer.TooLong (answer.Lacks c) e = absurd (let z : _≡_ {A = ℕ} 8 7 = cc in omega arith)
+field-is answer.TooLong (answer.NotFound c) e = absurd (let z : _≡_ {A = ℕ} 8 7 = cc in omega arith)
 field-is answer.TooLong answer.TooLong e = refl
 
 -- the same answer has the same numbers
@@ -39,7 +39,7 @@ pub field-says : (r a : FieldAnswer) → r ≡ a → fieldNumbers r ≡ fieldNum
 field-says r a e = ap fieldNumbers e
 
 -- the numbers of a field whose type the book lacks, and of one whose chain is too long
-pub field-lacks : (b : ℕ) → fieldNumbers (answer.Lacks b) ≡ 7 ∷ b ∷ []
+pub field-lacks : (b : ℕ) → fieldNumbers (answer.NotFound b) ≡ 7 ∷ b ∷ []
 unfolding fieldNumbers
 field-lacks b = refl
 
@@ -51,13 +51,13 @@ field-long = refl
 pub check-is : (r a : FieldsCheck) → checkNumbers r ≡ checkNumbers a → r ≡ a
 unfolding checkNumbers
 check-is check.Fine check.Fine e = refl
-check-is check.Fine (check.Lacks c) e = absurd (let z : _≡_ {A = ℕ} 0 7 = cc in omega arith)
+check-is check.Fine (check.NotFound c) e = absurd (let z : _≡_ {A = ℕ} 0 7 = cc in omega arith)
 check-is check.Fine check.TooLong e = absurd (let z : _≡_ {A = ℕ} 0 8 = cc in omega arith)
-check-is (check.Lacks b) check.Fine e = absurd (let z : _≡_ {A = ℕ} 7 0 = cc in omega arith)
-check-is (check.Lacks b) (check.Lacks c) e = let q : b ≡ c = cc in ap check.Lacks q
-check-is (check.Lacks b) check.TooLong e = absurd (let z : _≡_ {A = ℕ} 7 8 = cc in omega arith)
+check-is (check.NotFound b) check.Fine e = absurd (let z : _≡_ {A = ℕ} 7 0 = cc in omega arith)
+check-is (check.NotFound b) (check.NotFound c) e = let q : b ≡ c = cc in ap check.NotFound q
+check-is (check.NotFound b) check.TooLong e = absurd (let z : _≡_ {A = ℕ} 7 8 = cc in omega arith)
 check-is check.TooLong check.Fine e = absurd (let z : _≡_ {A = ℕ} 8 0 = cc in omega arith)
-check-is check.TooLong (check.Lacks c) e = absurd (let z : _≡_ {A = ℕ} 8 7 = cc in omega arith)
+check-is check.TooLong (check.NotFound c) e = absurd (let z : _≡_ {A = ℕ} 8 7 = cc in omega arith)
 check-is check.TooLong check.TooLong e = refl
 
 -- the same check has the same numbers
@@ -65,7 +65,7 @@ pub check-says : (r a : FieldsCheck) → r ≡ a → checkNumbers r ≡ checkNum
 check-says r a e = ap checkNumbers e
 
 -- the numbers of a check that found such a field
-pub check-lacks : (b : ℕ) → checkNumbers (check.Lacks b) ≡ 7 ∷ b ∷ []
+pub check-lacks : (b : ℕ) → checkNumbers (check.NotFound b) ≡ 7 ∷ b ∷ []
 unfolding checkNumbers
 check-lacks b = refl
 

@@ -37,7 +37,7 @@ module _ (book : List ℕ) (width t room n : ℕ) (en : n ≡ fieldsOf book t) (
     unfolding fieldsAnswer
     answer-is = rw (← en, ← ef, ← ek)
 
-    pub answer-lacks : (c : ℕ) → k ≡ check.Lacks c → fields.NotFound c ≡ fieldsAnswer book width t room
+    pub answer-lacks : (c : ℕ) → k ≡ check.NotFound c → fields.NotFound c ≡ fieldsAnswer book width t room
     unfolding fieldsEnd
     answer-lacks c h = rw h at answer-is
 
@@ -73,7 +73,7 @@ module _ (book : List ℕ) (width t room m : ℕ) where
       → fieldsEnd (fieldsOf book t) room k ≡ fields.Done m → Fit book width t room m
   unfolding fieldsEnd
   done-of check.Fine h e = done-by (leb (fieldsOf book t) room) refl h e
-  done-of (check.Lacks c) h e = absurd (let z : _≡_ {A = ℕ} 0 1 = cc in omega arith)
+  done-of (check.NotFound c) h e = absurd (let z : _≡_ {A = ℕ} 0 1 = cc in omega arith)
   done-of check.TooLong h e = absurd (let z : _≡_ {A = ℕ} 0 1 = cc in omega arith)
 
   pub done-fit : fieldsAnswer book width t room ≡ fields.Done m → Fit book width t room m
@@ -127,7 +127,7 @@ module _ (book : List ℕ) (width t n : ℕ) (en : n ≡ fieldsOf book t) (recor
         left = omega arith
 
         -- no field left is refused
-        pub store-lacks : (c : ℕ) → a ≡ answer.Lacks c → now ≡ sets records 0 (fieldRecords book width t)
+        pub store-lacks : (c : ℕ) → a ≡ answer.NotFound c → now ≡ sets records 0 (fieldRecords book width t)
         store-lacks c h =
             let w : fieldsFrom book width (t + 1 + i) (suc (n - (i + 1))) ≡ check.Fine = rw left at (s .fine) in
             let y = fields-lacks book width (t + 1 + i) (n - (i + 1)) c (sym (field-is _ _ (q .is)) ∙ h) in
@@ -166,7 +166,7 @@ records-length book width f (suc k) = by (resolveField book width f) (records-le
   where
     by : (a : FieldAnswer) → length (recordsFrom book width (f + 1) k) ≤ k * 4 → length (fieldRecord a ++ recordsFrom book width (f + 1) k) ≤ suc k * 4
     by (answer.Field x) h = omega arith
-    by (answer.Lacks c) h = omega arith
+    by (answer.NotFound c) h = omega arith
     by answer.TooLong h = omega arith
 
 module _ (book : List ℕ) (width t : ℕ) (before : List ℕ) (r : FieldsAnswer) (e : r ≡ fieldsAnswer book width t (length before / 4)) where

@@ -29,7 +29,7 @@ module _ (book : List ℕ) (width t room : ℕ) where
       let k : ℕ = recordsThatFit (fieldsOf book t) room - 1 in
       let f : suc k ≡ recordsThatFit (fieldsOf book t) room = omega arith in
       sym
-      (answer-lacks book width t room (fieldsOf book t) refl (suc k) f (check.Lacks (t + 1))
+      (answer-lacks book width t room (fieldsOf book t) refl (suc k) f (check.NotFound (t + 1))
       (sym (fields-lacks book width (t + 1) k (t + 1) (field-nothing book width (t + 1) e)))
       (t + 1)
       refl)

@@ -31,7 +31,7 @@ recordsThatFit n room = min n room
 -- after the fields whose records fit: 15 if another record is due
 unfoldable pub fieldsEnd : ℕ → ℕ → FieldsCheck → FieldsAnswer
 fieldsEnd n room check.Fine = cond (leb n room) (fields.Done n) (fields.Refused refusal.noRoom)
-fieldsEnd n room (check.Lacks c) = fields.NotFound c
+fieldsEnd n room (check.NotFound c) = fields.NotFound c
 fieldsEnd n room check.TooLong = fields.Refused (refusalOf (checkNumbers check.TooLong))
 
 -- the fields of type block t in order, with room for that many records, each record's 15 before its field's 7 or 8: the fields whose records fit are resolved, and at the
@@ -47,7 +47,7 @@ recordRoom numbers = numbers / 4
 -- a field's record: offset, size, resolved type's block, field's block
 abbrev pub fieldRecord : FieldAnswer → List ℕ
 fieldRecord (answer.Field x) = x .offset ∷ x .size ∷ x .resolved ∷ x .field ∷ []
-fieldRecord (answer.Lacks c) = []
+fieldRecord (answer.NotFound c) = []
 fieldRecord answer.TooLong = []
 
 -- the records of the k field blocks from block f on

@@ -9,7 +9,7 @@ use Rattle.type_provider.specs.declared.Found.the-variants.{At, Nothing}
 use Rattle.type_book.specs.Book.{isType, offsetOf, sizeOf, fieldsOf, typeNameOf}
 use Rattle.type_provider.specs.Find.{find}
 use Rattle.resolvers.specs.declared.Resolved.{Resolved}
-use Rattle.resolvers.specs.declared.Resolved.the-variants.{Base, Lacks, TooLong}
+use Rattle.resolvers.specs.declared.Resolved.the-variants.{Base, NotFound, TooLong}
 use Rattle.resolvers.specs.Resolve.{resolveAlias}
 use Rattle.resolve_field_types.specs.declared.ResolvedField.{ResolvedField}
 use Rattle.resolve_field_types.specs.declared.FieldAnswer.{FieldAnswer}
@@ -23,13 +23,13 @@ use Rattle.resolve_field_types.specs.declared.FieldsCheck.the-variants a
 -- name is not found, or 8
 unfoldable pub fieldNumbers : FieldAnswer → List ℕ
 fieldNumbers (answer.Field x) = 0 ∷ x .offset ∷ x .size ∷ x .named ∷ x .resolved ∷ x .field ∷ []
-fieldNumbers (answer.Lacks b) = refusal.notFound ∷ b ∷ []
+fieldNumbers (answer.NotFound b) = refusal.notFound ∷ b ∷ []
 fieldNumbers answer.TooLong = refusal.chainTooLong ∷ []
 
 -- of the first refusal of several fields, 0 where there is none
 unfoldable pub checkNumbers : FieldsCheck → List ℕ
 checkNumbers check.Fine = 0 ∷ []
-checkNumbers (check.Lacks b) = refusal.notFound ∷ b ∷ []
+checkNumbers (check.NotFound b) = refusal.notFound ∷ b ∷ []
 checkNumbers check.TooLong = refusal.chainTooLong ∷ []
 
 -- ---- one field
@@ -38,13 +38,13 @@ checkNumbers check.TooLong = refusal.chainTooLong ∷ []
 unfoldable pub fieldOf : List ℕ → ℕ → ℕ → Resolved → FieldAnswer
 fieldOf book f n (Base u) =
     answer.Field (record { offset = offsetOf book f; size = sizeOf book f; named = n; resolved = u; field = f })
-fieldOf book f n (Lacks c) = answer.Lacks c
+fieldOf book f n (NotFound c) = answer.NotFound c
 fieldOf book f n TooLong = answer.TooLong
 
 -- field block f, by what the look-up of its type name found; nothing is 7 with block f
 unfoldable pub fieldFound : List ℕ → ℕ → ℕ → Found → FieldAnswer
 fieldFound book width f (At n) = fieldOf book f n (resolveAlias book width n)
-fieldFound book width f Nothing = answer.Lacks f
+fieldFound book width f Nothing = answer.NotFound f
 
 -- field block f: its offset and size as they stand, and its type, with aliases resolved
 unfoldable pub resolveField : List ℕ → ℕ → ℕ → FieldAnswer
@@ -60,7 +60,7 @@ pub record FieldResolved (book : List ℕ) (width f : ℕ) (r : FieldAnswer) : T
 -- a field's refusal comes before what the fields after it give
 unfoldable pub fieldThen : FieldsCheck → FieldAnswer → FieldsCheck
 fieldThen rest (answer.Field x) = rest
-fieldThen rest (answer.Lacks c) = check.Lacks c
+fieldThen rest (answer.NotFound c) = check.NotFound c
 fieldThen rest answer.TooLong = check.TooLong
 
 -- the first refusal of the k field blocks from block f on

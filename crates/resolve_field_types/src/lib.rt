@@ -32,13 +32,13 @@ pub struct ResolvedField {
 
 pub enum FieldAnswer {
     Field(ResolvedField),
-    Lacks(u32),
+    NotFound(u32),
     TooLong,
 }
 
 pub enum FieldsCheck {
     Fine,
-    Lacks(u32),
+    NotFound(u32),
     TooLong,
 }
 
@@ -59,7 +59,7 @@ pub fn resolve_field_in(book: &[u8], index: &[u32], width: u8, f: u32) -> FieldA
 {
     let found = resolvers::named_in(book, index, f);
     let Found::At(named) = found else {
-        return FieldAnswer::Lacks(f);
+        return FieldAnswer::NotFound(f);
     };
     let answer = resolvers::resolve_alias_in(book, index, width, named);
     match answer {
@@ -70,7 +70,7 @@ pub fn resolve_field_in(book: &[u8], index: &[u32], width: u8, f: u32) -> FieldA
             resolved,
             field: f,
         }),
-        Resolved::Lacks(c) => FieldAnswer::Lacks(c),
+        Resolved::NotFound(c) => FieldAnswer::NotFound(c),
         Resolved::TooLong => FieldAnswer::TooLong,
     }
 }
@@ -85,7 +85,7 @@ fn check_first(book: &[u8], index: &[u32], width: u8, t: u32, n: u32) -> FieldsC
         let answer = resolve_field_in(book, index, width, t + 1 + i);
         match answer {
             FieldAnswer::Field(_) => {}
-            FieldAnswer::Lacks(c) => return FieldsCheck::Lacks(c),
+            FieldAnswer::NotFound(c) => return FieldsCheck::NotFound(c),
             FieldAnswer::TooLong => return FieldsCheck::TooLong,
         }
         i += 1;
@@ -124,7 +124,7 @@ pub fn fields_answer(book: &[u8], index: &[u32], width: u8, t: u32, room: usize)
     let check = check_first(book, index, width, t, fit);
     match check {
         FieldsCheck::Fine => {}
-        FieldsCheck::Lacks(c) => return FieldsAnswer::NotFound(c),
+        FieldsCheck::NotFound(c) => return FieldsAnswer::NotFound(c),
         FieldsCheck::TooLong => return FieldsAnswer::Refused(8),
     }
     if fit < n {
@@ -154,7 +154,7 @@ fn store_fields(book: &[u8], index: &[u32], width: u8, t: u32, records: &mut [u3
         let answer = resolve_field_in(book, index, width, t + 1 + i);
         match answer {
             FieldAnswer::Field(field) => store_field(records, i as usize * RECORD, field),
-            FieldAnswer::Lacks(_) => return,
+            FieldAnswer::NotFound(_) => return,
             FieldAnswer::TooLong => return,
         }
         i += 1;

@@ -8,7 +8,7 @@ use native.Mathlib.Numerals.{add-one}
 use lib.ListN.{length, take, drop, set, take-append-drop, length-set}
 use lib.Seq.{take-suc-set, drop-set-lt, drop-drop, length-take-le}
 use Rattle.resolvers.specs.declared.Resolved.{Resolved}
-use Rattle.resolvers.specs.declared.Resolved.the-variants.{Base, Lacks, TooLong}
+use Rattle.resolvers.specs.declared.Resolved.the-variants.{Base, NotFound, TooLong}
 use Rattle.type_category.specs.declared.type_category.AdsTypeCategory.{AdsTypeCategory}
 use Rattle.resolve_walk_events.specs.declared.Event.{Event}
 use Rattle.resolve_walk_events.specs.declared.Event.the-variants.{Old, New, Full}
@@ -38,7 +38,7 @@ module _ {w next : Walk} {b t : ℕ} {x : List ℕ} (e : w ≡ met b x (Base t) 
   unfolding whole
   whole-new = ap whole e
 
-module _ {w next : Walk} {b c : ℕ} {x : List ℕ} (e : w ≡ met b x (Lacks c) next) where
+module _ {w next : Walk} {b c : ℕ} {x : List ℕ} (e : w ≡ met b x (NotFound c) next) where
   listed-lacking : listed w ≡ c ∷ listed next
   unfolding listed
   listed-lacking = ap listed e
@@ -58,7 +58,7 @@ module _ {w next : Walk} {b : ℕ} {x : List ℕ} (e : w ≡ met b x TooLong nex
 
 -- ---- an event is applied
 
-pub due-room : (left : ℕ) {e : Event} → IsDue left e → (c d : ℕ) {n m : ℕ} → e ≡ event.Lacks c d → n + left ≤ 4096 → 4096 ≤ m → n < m
+pub due-room : (left : ℕ) {e : Event} → IsDue left e → (c d : ℕ) {n m : ℕ} → e ≡ event.NotFound c d → n + left ≤ 4096 → 4096 ≤ m → n < m
 due-room left p c d h r z = let q = due-lacking left p c d h in omega arith
 
 module _ (list : List ℕ) (left n : ℕ) (ok : Bool) {e : Event} (p : IsDue left e) where
@@ -115,7 +115,7 @@ module _ (list : List ℕ) (left n : ℕ) (ok : Bool) {e : Event} (p : IsDue lef
         falls = λ sc m f. subst (λ (y : Event). Falls sc left m y) h f .1;
       }
 
-  listed-block : (b d : ℕ) → e ≡ event.Lacks b d → 4096 ≤ length list → n + left ≤ 4096 → Applied e list left n ok (turn.More (left - 1) d (n + 1) ok) (set list n b)
+  listed-block : (b d : ℕ) → e ≡ event.NotFound b d → 4096 ≤ length list → n + left ≤ 4096 → Applied e list left n ok (turn.More (left - 1) d (n + 1) ok) (set list n b)
   listed-block b d h z r =
       let l = due-lacking left p b d h in
       let i : n < length list = omega arith in
@@ -142,7 +142,7 @@ module _ (list : List ℕ) (left n : ℕ) (ok : Bool) {e : Event} (p : IsDue lef
         falls = λ sc m f. subst (λ (y : Event). Falls sc left m y) h f .1;
       }
 
-  pub apply-lacking : (b d : ℕ) → e ≡ event.Lacks b d → 4096 ≤ length list → n + left ≤ 4096 → {k : ℕ} {list′ : List ℕ} → OneMore list n b k list′ → Applied e list left n ok (turn.More (left - 1) d k ok) list′
+  pub apply-lacking : (b d : ℕ) → e ≡ event.NotFound b d → 4096 ≤ length list → n + left ≤ 4096 → {k : ℕ} {list′ : List ℕ} → OneMore list n b k list′ → Applied e list left n ok (turn.More (left - 1) d k ok) list′
   apply-lacking b d h z r o = rw (o .count, o .blocks) (listed-block b d h z r)
 
   pub apply-full : e ≡ Full → Applied e list left n ok turn.Full list
@@ -207,7 +207,7 @@ reading-all all list = record { counts = omega arith; lists = refl; ends = refl;
 pend-falls : (sc : List ℕ) (left : ℕ) (e : Event) → Due left e → Falls sc left (pend sc left e) e
 unfolding pend
 pend-falls sc left (Old d) p = omega arith
-pend-falls sc left (event.Lacks c d) p = (p, omega arith)
+pend-falls sc left (event.NotFound c d) p = (p, omega arith)
 pend-falls sc left (New t d c) p = (p, omega arith)
 pend-falls sc left (event.TooLong d) p = (p, omega arith)
 pend-falls sc left Full p = p
@@ -215,7 +215,7 @@ pend-falls sc left Full p = p
 falls-pend : (sc : List ℕ) (left m : ℕ) (e : Event) → Falls sc left m e → pend sc left e ≤ m
 unfolding pend
 falls-pend sc left m (Old d) f = omega arith
-falls-pend sc left m (event.Lacks c d) f = let g = f .1 in omega arith
+falls-pend sc left m (event.NotFound c d) f = let g = f .1 in omega arith
 falls-pend sc left m (New t d c) f = let g = f .1 in omega arith
 falls-pend sc left m (event.TooLong d) f = let g = f .1 in omega arith
 falls-pend sc left m Full f = omega arith

@@ -13,7 +13,7 @@ use Rattle.type_provider.specs.Find.{find}
 use Rattle.type_book_check.specs.Check.{ValidBook}
 use Rattle.type_book_check.proofs.Valid.{valid-own}
 use Rattle.resolvers.specs.declared.Resolved.{Resolved}
-use Rattle.resolvers.specs.declared.Resolved.the-variants.{Base, Lacks, TooLong}
+use Rattle.resolvers.specs.declared.Resolved.the-variants.{Base, NotFound, TooLong}
 use Rattle.resolvers.specs.Resolve.{isFollowed, chainOnward, follow, resolveAlias}
 use Rattle.resolvers.proofs.Chains.{follow-none, follow-base, follow-on, follow-lacks, follow-breaks}
 use Rattle.resolve_walk.specs.Walk.{Walk, over, full, met, comesTo, push, meet, walk, walkOf}
@@ -47,13 +47,13 @@ module _ (book : List ℕ) (width : ℕ) where
       by Nothing q = let z = follow-lacks (isFollowed false book width) book k t g q in different cc
 
   -- the name at which a needed name's chain breaks is needed
-  break-needed : (root : List ℕ) (k : ℕ) (x : List ℕ) (t c : ℕ) → Needed book width root x → find book x ≡ At t → follow (isFollowed false book width) book k t ≡ Lacks c → Needed book width root (typeNameOf book c)
+  break-needed : (root : List ℕ) (k : ℕ) (x : List ℕ) (t c : ℕ) → Needed book width root x → find book x ≡ At t → follow (isFollowed false book width) book k t ≡ NotFound c → Needed book width root (typeNameOf book c)
   break-needed root zero x t c n f e = let z = follow-none (isFollowed false book width) book t in different cc
   break-needed root (suc k) x t c n f e =
       by (isFollowed false book width t) refl (find book (typeNameOf book t)) refl (λ m u. break-needed root k (typeNameOf book t) u c m)
     where
       by : (g : Bool) → isFollowed false book width t ≡ g → (q : Found) → find book (typeNameOf book t) ≡ q
-          → (Needed book width root (typeNameOf book t) → (u : ℕ) → find book (typeNameOf book t) ≡ At u → follow (isFollowed false book width) book k u ≡ Lacks c → Needed book width root (typeNameOf book c))
+          → (Needed book width root (typeNameOf book t) → (u : ℕ) → find book (typeNameOf book t) ≡ At u → follow (isFollowed false book width) book k u ≡ NotFound c → Needed book width root (typeNameOf book c))
           → Needed book width root (typeNameOf book c)
       by false g q h ih = let z = follow-base (isFollowed false book width) book k t g in different cc
       by true g (At u) h ih = ih (chain n f g refl) u h (sym (follow-on (isFollowed false book width) book k t u g h) ∙ e)
@@ -64,10 +64,10 @@ module _ (book : List ℕ) (width : ℕ) where
 
 -- ---- what is listed
 
-listed-cases : (c b : ℕ) (x : List ℕ) (f : Resolved) (w : Walk) {X : Type 0} → List·Memᴰ c (listed (met b x f w)) → (f ≡ Lacks c → X) → (List·Memᴰ c (listed w) → X) → X
+listed-cases : (c b : ℕ) (x : List ℕ) (f : Resolved) (w : Walk) {X : Type 0} → List·Memᴰ c (listed (met b x f w)) → (f ≡ NotFound c → X) → (List·Memᴰ c (listed w) → X) → X
 unfolding listed
 listed-cases c b x (Base t) w m p q = q m
-listed-cases c b x (Lacks d) w m p q = ⊎-elim (λ e. p (ap Lacks (sym e))) q (List·Memᴰ·cases-cons m)
+listed-cases c b x (NotFound d) w m p q = ⊎-elim (λ e. p (ap NotFound (sym e))) q (List·Memᴰ·cases-cons m)
 listed-cases c b x TooLong w m p q = q m
 
 over-none : (c : ℕ) → List·Memᴰ c (listed over) → ⊥
@@ -81,16 +81,16 @@ full-none c b x m = List·Memᴰ·not-nil m
 listed-rest : (c b : ℕ) (x : List ℕ) (f : Resolved) (w : Walk) → List·Memᴰ c (listed w) → List·Memᴰ c (listed (met b x f w))
 unfolding listed
 listed-rest c b x (Base t) w m = m
-listed-rest c b x (Lacks d) w m = List·Memᴰ·tail m
+listed-rest c b x (NotFound d) w m = List·Memᴰ·tail m
 listed-rest c b x TooLong w m = m
 
-listed-here : (c b : ℕ) (x : List ℕ) (f : Resolved) (w : Walk) → f ≡ Lacks c → List·Memᴰ c (listed (met b x f w))
+listed-here : (c b : ℕ) (x : List ℕ) (f : Resolved) (w : Walk) → f ≡ NotFound c → List·Memᴰ c (listed (met b x f w))
 unfolding listed
 listed-here c b x f w e = rw e (List·Memᴰ·head refl)
 
 module _ (book : List ℕ) (width : ℕ) (root : List ℕ) where
   -- a reached name of block b that comes to nothing at block c
-  comes-lacking : (b c : ℕ) → Reached book width root (typeNameOf book b) → (f : Found) → find book (typeNameOf book b) ≡ f → comesTo book width b f ≡ Lacks c → Unresolved book book width root c
+  comes-lacking : (b c : ℕ) → Reached book width root (typeNameOf book b) → (f : Found) → find book (typeNameOf book b) ≡ f → comesTo book width b f ≡ NotFound c → Unresolved book book width root c
   unfolding chainOnward
   comes-lacking b c r (At t) q e =
       record {
@@ -121,7 +121,7 @@ module _ (book : List ℕ) (width root : ℕ) (v : ValidBook book) (y : isType b
       let name = nameOf book root in
       listed-cases c root name (comesTo book width root (find book name)) (walk book width 4095 (name ∷ []) (push book width (comesTo book width root (find book name)) [])) m
       (λ q.
-      let e : resolveAlias book width root ≡ Lacks c = ap (comesTo book width root) (sym own) ∙ q in
+      let e : resolveAlias book width root ≡ NotFound c = ap (comesTo book width root) (sym own) ∙ q in
       record {
         lacking = follow-breaks (isFollowed false book width) book 32 root c e .nothing;
         needed = break-needed book width name 32 name root c (reached (met-is-reached book width root name (List·Memᴰ·head refl))) own e;
@@ -163,7 +163,7 @@ module _ (book : List ℕ) (width : ℕ) where
   goes-listing (stop e) h x m q = different cc
 
   goes-broken : {left : ℕ} {v : List (List ℕ)} {s : List ℕ} {w : Walk} → Goes book width left v s w → whole w ≡ true → (x : List ℕ) → List·Memᴰ x (names w)
-      → (t c : ℕ) → find book x ≡ At t → resolveAlias book width t ≡ Lacks c → List·Memᴰ c (listed w)
+      → (t c : ℕ) → find book x ≡ At t → resolveAlias book width t ≡ NotFound c → List·Memᴰ c (listed w)
   unfolding names whole chainOnward
   goes-broken none h x m t c q k = absurd (List·Memᴰ·not-nil m)
   goes-broken (old e g) h x m t c q k = goes-broken g h x m t c q k
@@ -178,7 +178,7 @@ module _ (book : List ℕ) (width : ℕ) where
 
 module _ (book : List ℕ) (width root : ℕ) (h : whole (walkOf book width root) ≡ true) (x : List ℕ) (r : Reached book width (nameOf book root) x) where
   -- a reached name whose chain breaks at block c: block c is listed
-  pub broken-listed : (t c : ℕ) → find book x ≡ At t → resolveAlias book width t ≡ Lacks c → List·Memᴰ c (listed (walkOf book width root))
+  pub broken-listed : (t c : ℕ) → find book x ≡ At t → resolveAlias book width t ≡ NotFound c → List·Memᴰ c (listed (walkOf book width root))
   unfolding walkOf meet names chainOnward
   broken-listed t c q k =
       let y = nameOf book root in

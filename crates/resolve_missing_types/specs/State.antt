@@ -71,7 +71,7 @@ pub record Pending (book : List ℕ) (width : ℕ) (all : Walk) (list₀ sc list
 -- the measure of the loop: the event, and what is left to do after it
 unfoldable pub pend : List ℕ → ℕ → Event → ℕ
 pend sc left (Old d) = 1 + work sc left d
-pend sc left (event.Lacks c d) = 1 + work sc (left - 1) d
+pend sc left (event.NotFound c d) = 1 + work sc (left - 1) d
 pend sc left (New t d c) = 1 + work sc (left - 1) d
 pend sc left (event.TooLong d) = 1 + work sc (left - 1) d
 pend sc left Full = 0

@@ -62,7 +62,7 @@ fn apply(e: Event, list: &mut [u32], left: usize, n: usize, ok: bool) -> Turn
             let rest = left - 1;
             Turn::More(rest, d, n, ok)
         }
-        Event::Lacks(b, d) => {
+        Event::NotFound(b, d) => {
             let rest = left - 1;
             Turn::More(rest, d, list_block(list, n, b), ok)
         }

@@ -7,7 +7,7 @@ use native.Mathlib.Omega.{arith}
 use lib.ListN.{length}
 use Rattle.enc_number.specs.Answer.{refusalOf}
 use Rattle.type_category.specs.Category.{categoryOf}
-use Rattle.resolvers.specs.declared.Resolved.the-variants.{Base, Lacks, TooLong}
+use Rattle.resolvers.specs.declared.Resolved.the-variants.{Base, NotFound, TooLong}
 use Rattle.resolve_walk.specs.Walk.{Walk, over, full, met}
 use Rattle.resolve_walk.specs.Reads.{listed, whole}
 use Rattle.resolve_walk.proofs.Reach.{true-false}
@@ -50,5 +50,5 @@ rmw-number book width (met b x (Base t) w) h l = by (keepsState (categoryOf book
     by : (g : Bool) → refusalOf (rmwNumbers (rmwOf book width w)) ≡ 0 → refusalOf (rmwNumbers (cond g rmw.Yes (rmwOf book width w))) ≡ 0
     by true q = refl
     by false q = q
-rmw-number book width (met b x (Lacks c) w) h l = absurd (let z = ap length l in omega arith)
+rmw-number book width (met b x (NotFound c) w) h l = absurd (let z = ap length l in omega arith)
 rmw-number book width (met b x TooLong w) h l = true-false (sym h)

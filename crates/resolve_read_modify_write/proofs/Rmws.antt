@@ -6,7 +6,7 @@ use Prim.Native.Nat.{ℕ, _+_, _-_, _≤_, _<_}
 use native.Mathlib.Omega.{arith}
 use Rattle.type_category.specs.declared.type_category.AdsTypeCategory.{AdsTypeCategory}
 use Rattle.type_category.specs.Category.{categoryOf}
-use Rattle.resolvers.specs.declared.Resolved.the-variants.{Base, Lacks, TooLong}
+use Rattle.resolvers.specs.declared.Resolved.the-variants.{Base, NotFound, TooLong}
 use Rattle.resolvers.proofs.Numbers.{long-numbers}
 use Rattle.resolve_walk_events.specs.declared.Event.{Event}
 use Rattle.resolve_walk_events.specs.declared.Event.the-variants.{Old, New, Full}
@@ -33,7 +33,7 @@ module _ (book : List ℕ) (width : ℕ) {w next : Walk} {b : ℕ} {x : List ℕ
   unfolding rmwOf
   rmw-other e h = ap (rmwOf book width) e ∙ rw h
 
-  rmw-lacking : {c : ℕ} → w ≡ met b x (Lacks c) next → rmwOf book width w ≡ rmw.NotFound c
+  rmw-lacking : {c : ℕ} → w ≡ met b x (NotFound c) next → rmwOf book width w ≡ rmw.NotFound c
   unfolding rmwOf
   rmw-lacking e = ap (rmwOf book width) e
 
@@ -83,11 +83,11 @@ module _ (left : ℕ) {e : Event} where
           falls = λ sc m f. omega (arith, falls-as (New t d c) h sc m f .1);
         }
 
-  pub decide-lacking : (c d : ℕ) → e ≡ event.Lacks c d → Decided e left (turn.Is (rmw.NotFound c))
+  pub decide-lacking : (c d : ℕ) → e ≡ event.NotFound c d → Decided e left (turn.Is (rmw.NotFound c))
   unfolding loopWork
   decide-lacking c d h =
       record {
-        goes = λ book width all sc w q a. sym (q ∙ rmw-lacking book width (after-as (event.Lacks c d) h book width sc w a .is));
+        goes = λ book width all sc w q a. sym (q ∙ rmw-lacking book width (after-as (event.NotFound c d) h book width sc w a .is));
         falls = λ sc m f. omega arith;
       }
 

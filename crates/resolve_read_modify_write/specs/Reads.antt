@@ -7,7 +7,7 @@ use Rattle.enc_number.specs.Refusals as refusal
 use Rattle.type_category.specs.declared.type_category.AdsTypeCategory.{AdsTypeCategory}
 use Rattle.type_category.specs.declared.type_category.AdsTypeCategory.the-variants as category
 use Rattle.type_category.specs.Category.{categoryOf}
-use Rattle.resolvers.specs.declared.Resolved.the-variants.{Base, Lacks, TooLong}
+use Rattle.resolvers.specs.declared.Resolved.the-variants.{Base, NotFound, TooLong}
 use Rattle.resolvers.specs.Resolve.{resolvedNumbers}
 use Rattle.resolve_walk.specs.Walk.{Walk, over, full, met}
 use Rattle.resolve_read_modify_write.specs.declared.Rmw.{Rmw}
@@ -37,5 +37,5 @@ unfoldable pub rmwOf : List ℕ → ℕ → Walk → Rmw
 rmwOf book width over = rmw.No
 rmwOf book width (full b x) = rmw.Refused refusal.tooManyNames
 rmwOf book width (met b x (Base t) w) = cond (keepsState (categoryOf book width t)) rmw.Yes (rmwOf book width w)
-rmwOf book width (met b x (Lacks c) w) = rmw.NotFound c
+rmwOf book width (met b x (NotFound c) w) = rmw.NotFound c
 rmwOf book width (met b x TooLong w) = rmw.Refused (refusalOf (resolvedNumbers TooLong))

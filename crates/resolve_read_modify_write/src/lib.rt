@@ -81,7 +81,7 @@ fn decide(e: Event, left: usize) -> Turn
             }
             Turn::More(left - 1, d)
         }
-        Event::Lacks(b, _) => Turn::Is(Rmw::NotFound(b)),
+        Event::NotFound(b, _) => Turn::Is(Rmw::NotFound(b)),
         Event::TooLong(_) => Turn::Is(Rmw::Refused(8)),
         Event::Full => Turn::Is(Rmw::Refused(9)),
     }

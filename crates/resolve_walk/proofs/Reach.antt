@@ -13,7 +13,7 @@ use Rattle.type_book.specs.Book.{nameOf, typeNameOf, sameName}
 use Rattle.type_provider.specs.Find.{find}
 use Rattle.type_book.proofs.Names.{same-eq, same-refl}
 use Rattle.resolvers.specs.declared.Resolved.{Resolved}
-use Rattle.resolvers.specs.declared.Resolved.the-variants.{Base, Lacks, TooLong}
+use Rattle.resolvers.specs.declared.Resolved.the-variants.{Base, NotFound, TooLong}
 use Rattle.resolvers.specs.Resolve.{chainOnward, resolveAlias}
 use Rattle.resolve_walk_scratch.specs.Parts.{partsOf}
 use Rattle.resolve_walk.specs.Walk.{Walk, over, met, comesTo, has, push, meet, walk, walkFrom, walkOf}
@@ -36,7 +36,7 @@ has-cases y x v h = by (sameName y x) refl h
 push-cases : (book : List ℕ) (width : ℕ) (s : List ℕ) (f : Resolved) {b : ℕ} {X : Type 0} → List·Memᴰ b (push book width f s) → ((t : ℕ) → f ≡ Base t → List·Memᴰ b (partsOf book width t) → X) → (List·Memᴰ b s → X) → X
 unfolding push
 push-cases book width s (Base t) m p q = ⊎-elim (p t refl) q (List·Memᴰ·append-cases (partsOf book width t) m)
-push-cases book width s (Lacks c) m p q = q m
+push-cases book width s (NotFound c) m p q = q m
 push-cases book width s TooLong m p q = q m
 
 -- a name comes to a type: the book defines it, and its aliases end there
@@ -125,7 +125,7 @@ met-once book width root = from-once book width (nameOf book root) root
 pub whole-rest : (b : ℕ) (x : List ℕ) (f : Resolved) (w : Walk) → whole (met b x f w) ≡ true → whole w ≡ true
 unfolding whole
 whole-rest b x (Base u) w h = h
-whole-rest b x (Lacks c) w h = h
+whole-rest b x (NotFound c) w h = h
 whole-rest b x TooLong w h = true-false (sym h)
 
 whole-count : (book : List ℕ) (width : ℕ) {left : ℕ} {v : List (List ℕ)} {s : List ℕ} {w : Walk} → Goes book width left v s w → whole w ≡ true → count w ≤ left
@@ -153,13 +153,13 @@ push-part book width s f {b} {t} e m = rw e (Memᴰ·append-left s m)
 push-rest : (book : List ℕ) (width : ℕ) (s : List ℕ) (f : Resolved) {b : ℕ} → List·Memᴰ b s → List·Memᴰ b (push book width f s)
 unfolding push
 push-rest book width s (Base t) m = Memᴰ·append-right (partsOf book width t) m
-push-rest book width s (Lacks c) m = m
+push-rest book width s (NotFound c) m = m
 push-rest book width s TooLong m = m
 
 listed-none : (b : ℕ) (x : List ℕ) (f : Resolved) (w : Walk) → whole (met b x f w) ≡ true → listed (met b x f w) ≡ [] → ((u : ℕ) × (f ≡ Base u)) × (listed w ≡ [])
 unfolding listed whole
 listed-none b x (Base u) w k h = ((u, refl), h)
-listed-none b x (Lacks c) w k h = absurd (let z = ap length h in omega arith)
+listed-none b x (NotFound c) w k h = absurd (let z = ap length h in omega arith)
 listed-none b x TooLong w k h = true-false (sym k)
 
 module _ (book : List ℕ) (width : ℕ) where
@@ -256,6 +256,6 @@ unfolding walkOf
 count-whole book width root = from-count book width (nameOf book root) root
 
 -- a walk from a name that the book lacks meets that name alone: its block is listed, or 7 is answered with it
-pub from-lacking : (book : List ℕ) (width : ℕ) (name : List ℕ) (block : ℕ) → find book name ≡ Nothing → walkFrom book width name block ≡ met block name (Lacks block) over
+pub from-lacking : (book : List ℕ) (width : ℕ) (name : List ℕ) (block : ℕ) → find book name ≡ Nothing → walkFrom book width name block ≡ met block name (NotFound block) over
 unfolding meet push chainOnward
 from-lacking book width name block h = rw (h, walk-none book width 4095 (name ∷ []))

@@ -16,7 +16,7 @@ use Rattle.resolve_walk.proofs.Goes.{walk-none}
 
 falls-due : (sc : List ℕ) (left m : ℕ) (e : Event) → Falls sc left m e → Due left e
 falls-due sc left m (Old d) f = tt
-falls-due sc left m (event.Lacks c d) f = f .0
+falls-due sc left m (event.NotFound c d) f = f .0
 falls-due sc left m (New t d c) f = f .0
 falls-due sc left m (event.TooLong d) f = f .0
 falls-due sc left m Full f = f
@@ -34,8 +34,8 @@ module _ (left : ℕ) {e : Event} (p : IsDue left e) where
   pub due-new : (t d : ℕ) (c : AdsTypeCategory) → e ≡ New t d c → 0 < left
   due-new t d c h = due-as (New t d c) h
 
-  pub due-lacking : (c d : ℕ) → e ≡ event.Lacks c d → 0 < left
-  due-lacking c d h = due-as (event.Lacks c d) h
+  pub due-lacking : (c d : ℕ) → e ≡ event.NotFound c d → 0 < left
+  due-lacking c d h = due-as (event.NotFound c d) h
 
   pub due-long : (d : ℕ) → e ≡ event.TooLong d → 0 < left
   due-long d h = due-as (event.TooLong d) h

@@ -17,7 +17,7 @@ use Rattle.type_book.proofs.Names.{same-eq, eq-same}
 use Rattle.type_book_check.specs.Check.{ValidBook}
 use Rattle.type_book_check.proofs.Valid.{valid-own}
 use Rattle.resolvers.specs.declared.Resolved.{Resolved}
-use Rattle.resolvers.specs.declared.Resolved.the-variants.{Base, Lacks, TooLong}
+use Rattle.resolvers.specs.declared.Resolved.the-variants.{Base, NotFound, TooLong}
 use Rattle.resolvers.specs.Resolve.{chainOnward, resolveAlias}
 use Rattle.resolve_walk_scratch.specs.declared.Taken.{Taken}
 use Rattle.resolve_walk_scratch.specs.Scratch.{stackOf, markedIn, lackingBit, isPart, namesIt, hasRef, wasListed, Took, BlockMarked}
@@ -168,12 +168,12 @@ module _ (book : List ℕ) (width : ℕ) (ls : List ℕ) (v : List (List ℕ)) (
   settled-after : (r : Event) (sc′ : List ℕ) → Settled book width sc d t r sc′ → After book width sc′ ls left w r
   unfolding push
   settled-after (Old k) sc′ s = absurd s
-  settled-after (event.Lacks c k) sc′ s =
+  settled-after (event.NotFound c k) sc′ s =
       record {
         by = b;
         name = y;
         next = walk book width (left - 1) (y ∷ v) (stackOf sc d);
-        is = met-as (Lacks c) (s .to);
+        is = met-as (NotFound c) (s .to);
         left-over = dead-left (s .dead) (ls ++ (c ∷ [])) (seen-alias book ls sc′ c (s .alias)) (ref-alias book ls c (s .alias));
       }
   settled-after (New u k c) sc′ x =
@@ -206,7 +206,7 @@ module _ (book : List ℕ) (width : ℕ) (ls : List ℕ) (v : List (List ℕ)) (
 settled-falls : (book : List ℕ) (width : ℕ) (sc : List ℕ) (left d t m : ℕ) → 0 < left → left * 65536 + suc (length (stackOf sc d)) ≤ m → (r : Event) (sc′ : List ℕ) → Settled book width sc d t r sc′ → Falls sc′ left m r
 unfolding work
 settled-falls book width sc left d t m n h (Old k) sc′ s = absurd s
-settled-falls book width sc left d t m n h (event.Lacks c k) sc′ s = (n, omega (arith, ap length (s .dead .top)))
+settled-falls book width sc left d t m n h (event.NotFound c k) sc′ s = (n, omega (arith, ap length (s .dead .top)))
 settled-falls book width sc left d t m n h (New u k c) sc′ x = (n, omega (arith, x .few))
 settled-falls book width sc left d t m n h (event.TooLong k) sc′ s = (n, omega (arith, ap length (s .dead .top)))
 settled-falls book width sc left d t m n h Full sc′ s = absurd s
@@ -330,7 +330,7 @@ module _ (book : List ℕ) (width : ℕ) (ls : List ℕ) (left : ℕ) {sc sc′ 
         step-full′ z = stepped-stop fresh′ z
 
         pub step-lacking : (left ≡ 0 → ⊥) → depth + left ≤ 4096 → (u : ℕ) → u ≡ lackingBit name → {sc″ : List ℕ} → BlockMarked sc′ u sc″
-            → Stepped book width sc ls left depth (event.Lacks (k .block) (k .depth)) sc″
+            → Stepped book width sc ls left depth (event.NotFound (k .block) (k .depth)) sc″
         unfolding push chainOnward work turnEvent turnOn newOn settledEvent
         step-lacking n lim u eu {sc″} x =
             let ey : find book (typeNameOf book (k .block)) ≡ Nothing = sym ef ∙ ft in
@@ -385,7 +385,7 @@ none-told book sc x h = absurd (let z : _≡_ {A = ℕ} 0 1 = cc in omega arith)
 
 settled-due : (book : List ℕ) (width : ℕ) (sc : List ℕ) (d t left : ℕ) → 0 < left → (r : Event) (sc′ : List ℕ) → Settled book width sc d t r sc′ → Due left r
 settled-due book width sc d t left n (Old k) sc′ s = absurd s
-settled-due book width sc d t left n (event.Lacks c k) sc′ s = n
+settled-due book width sc d t left n (event.NotFound c k) sc′ s = n
 settled-due book width sc d t left n (New u k c) sc′ x = n
 settled-due book width sc d t left n (event.TooLong k) sc′ s = n
 settled-due book width sc d t left n Full sc′ s = absurd s

@@ -13,7 +13,7 @@ use Rattle.type_provider.specs.Find.{find}
 use Rattle.type_category.specs.declared.type_category.AdsTypeCategory.{AdsTypeCategory}
 use Rattle.type_category.specs.Category.{categoryOf}
 use Rattle.type_book_check.specs.Check.{ValidBook}
-use Rattle.resolvers.specs.declared.Resolved.the-variants.{Base, Lacks, TooLong}
+use Rattle.resolvers.specs.declared.Resolved.the-variants.{Base, NotFound, TooLong}
 use Rattle.resolvers.specs.Resolve.{resolveAlias}
 use Rattle.resolve_walk_scratch.specs.declared.Taken.{Taken}
 use Rattle.resolve_walk_scratch.specs.Scratch.{stackOf, markedIn, markedOn, lackingBit, isPart, hasRef, wasListed, takenAt, takenFrom}
@@ -82,7 +82,7 @@ pub record AfterLacking (book : List ℕ) (width : ℕ) (sc ls : List ℕ) (left
   pub by : ℕ
   pub name : List ℕ
   pub next : Walk
-  pub is : w ≡ met by name (Lacks b) next
+  pub is : w ≡ met by name (NotFound b) next
   pub left-over : LeftToWalk book width sc (ls ++ (b ∷ [])) left depth next
 
 -- the walk w meets a name whose alias chain is too long; the rest of w is what is left to walk
@@ -102,7 +102,7 @@ pub record AfterFull (w : Walk) : Type 0 where
 -- what an event tells of the walk w, whose next event it is, or which it leaves as it is where the name was visited
 abbrev pub After : List ℕ → ℕ → List ℕ → List ℕ → ℕ → Walk → Event → Type 0
 After book width sc ls left w (Old d) = LeftToWalk book width sc ls left d w
-After book width sc ls left w (event.Lacks b d) = AfterLacking book width sc ls (left - 1) b d w
+After book width sc ls left w (event.NotFound b d) = AfterLacking book width sc ls (left - 1) b d w
 After book width sc ls left w (New t d c) = AfterNew book width sc ls (left - 1) t d c w
 After book width sc ls left w (event.TooLong d) = AfterLong book width sc ls (left - 1) d w
 After book width sc ls left w Full = AfterFull w
@@ -114,7 +114,7 @@ work sc left depth = left * 65536 + length (stackOf sc depth)
 -- less than n is left to do after an event
 abbrev pub Falls : List ℕ → ℕ → ℕ → Event → Type 0
 Falls sc left n (Old d) = work sc left d < n
-Falls sc left n (event.Lacks b d) = (0 < left) × (work sc (left - 1) d < n)
+Falls sc left n (event.NotFound b d) = (0 < left) × (work sc (left - 1) d < n)
 Falls sc left n (New t d c) = (0 < left) × (work sc (left - 1) d < n)
 Falls sc left n (event.TooLong d) = (0 < left) × (work sc (left - 1) d < n)
 Falls sc left n Full = left ≡ 0
@@ -130,7 +130,7 @@ pub record Stepped (book : List ℕ) (width : ℕ) (sc ls : List ℕ) (left dept
 -- an event after which `left - 1` names are left, and one after which none was
 abbrev pub Due : ℕ → Event → Type 0
 Due left (Old d) = Unit {0}
-Due left (event.Lacks c d) = 0 < left
+Due left (event.NotFound c d) = 0 < left
 Due left (New t d c) = 0 < left
 Due left (event.TooLong d) = 0 < left
 Due left Full = left ≡ 0

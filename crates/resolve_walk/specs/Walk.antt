@@ -7,7 +7,7 @@ use Rattle.type_provider.specs.declared.Found.{Found}
 use Rattle.type_book.specs.Book.{nameOf, typeNameOf, sameName}
 use Rattle.type_provider.specs.Find.{find}
 use Rattle.resolvers.specs.declared.Resolved.{Resolved}
-use Rattle.resolvers.specs.declared.Resolved.the-variants.{Base, Lacks, TooLong}
+use Rattle.resolvers.specs.declared.Resolved.the-variants.{Base, NotFound, TooLong}
 use Rattle.resolvers.specs.Resolve.{chainOnward, resolveAlias}
 use Rattle.resolve_walk_scratch.specs.Parts.{partsOf}
 
@@ -36,7 +36,7 @@ skip book v (b ∷ s) = cond (has v (typeNameOf book b)) (skip book v s) (b ∷ 
 -- what is taken next after a name
 unfoldable pub push : List ℕ → ℕ → Resolved → List ℕ → List ℕ
 push book width (Base t) s = partsOf book width t ++ s
-push book width (Lacks b) s = s
+push book width (NotFound b) s = s
 push book width TooLong s = s
 
 -- the rest of a walk, by the names visited and the stack

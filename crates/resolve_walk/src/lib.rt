@@ -78,7 +78,7 @@ pub fn step(
             return Event::Full;
         }
         mark(scratch, lacking_bit(name));
-        return Event::Lacks(b, d);
+        return Event::NotFound(b, d);
     };
     if marked(scratch, t) {
         return Event::Old(d);

@@ -9,7 +9,7 @@ use Rattle.type_category.specs.declared.type_category.AdsTypeCategory.{AdsTypeC
 use Rattle.type_category.specs.Category.{categoryOf}
 use Rattle.type_category.proofs.Categories.{alias-type}
 use Rattle.resolvers.specs.declared.Resolved.{Resolved}
-use Rattle.resolvers.specs.declared.Resolved.the-variants.{Base, Lacks, TooLong}
+use Rattle.resolvers.specs.declared.Resolved.the-variants.{Base, NotFound, TooLong}
 use Rattle.resolvers.specs.Resolve.{goesOn, isFollowed, resolveAlias, ResolvedIs}
 use Rattle.resolvers.proofs.Chains.{follow-base, alias-breaks, follow-breaks}
 use Rattle.resolvers.proofs.Numbers.{resolved-is}
@@ -21,7 +21,7 @@ use Rattle.resolve_walk_events.specs.declared.Event.the-variants as even
 use Rattle.resolve_walk_events.specs.Events.{settledEvent, settledOn, Dead, Settles}
 
 -- the alias at which a chain breaks is no part
-pub alias-not-part : (book : List ℕ) (width t c : ℕ) → isType book t ≡ true → resolveAlias book width t ≡ Lacks c → isPart book c ≡ false
+pub alias-not-part : (book : List ℕ) (width t c : ℕ) → isType book t ≡ true → resolveAlias book width t ≡ NotFound c → isPart book c ≡ false
 alias-not-part book width t c y e =
     let k : isType book c ≡ true = follow-breaks (isFollowed false book width) book 32 t c e .typed y in
     let d : dimensionsOf book c ≡ 0 = alias-type book c width (alias-breaks book width t c e) .dimensions in
@@ -62,7 +62,7 @@ module _ (book : List ℕ) (width : ℕ) (sc : List ℕ) (depth t : ℕ) (y : is
     dead : Dead sc depth t depth sc₁
     dead = record { top = m .stack depth (omega arith); marks = m .marks; more = omega arith }
 
-    pub settle-lacks : (c : ℕ) → a ≡ Lacks c → Settles book width sc depth t (event.Lacks c depth) sc₁
+    pub settle-lacks : (c : ℕ) → a ≡ NotFound c → Settles book width sc depth t (event.NotFound c depth) sc₁
     unfolding settledEvent settledOn
     settle-lacks c e =
         let q = sym (resolved-is _ _ (ra .is)) ∙ e in

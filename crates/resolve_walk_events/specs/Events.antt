@@ -10,7 +10,7 @@ use Rattle.type_book.specs.Book.{isType}
 use Rattle.type_category.specs.declared.type_category.AdsTypeCategory.{AdsTypeCategory}
 use Rattle.type_category.specs.Category.{categoryOf}
 use Rattle.resolvers.specs.declared.Resolved.{Resolved}
-use Rattle.resolvers.specs.declared.Resolved.the-variants.{Base, Lacks, TooLong}
+use Rattle.resolvers.specs.declared.Resolved.the-variants.{Base, NotFound, TooLong}
 use Rattle.resolvers.specs.Resolve.{resolveAlias}
 use Rattle.resolve_walk_scratch.specs.Parts.{partsKind, partsOf}
 use Rattle.resolve_walk_scratch.specs.Scratch.{stackOf, markedIn, isPart, markedOn, pushedTo, pushedOn}
@@ -23,13 +23,13 @@ use Rattle.resolve_walk_events.specs.declared.Event.the-variants as even
 -- the event of a new name, by what it comes to: a type with its category, the alias at which 7 is due, or a chain that is too long
 unfoldable pub settledEvent : List ℕ → ℕ → ℕ → Resolved → Event
 settledEvent book width depth (Base u) = New u (pushedTo book depth u (partsKind (categoryOf book width u))) (categoryOf book width u)
-settledEvent book width depth (Lacks c) = event.Lacks c depth
+settledEvent book width depth (NotFound c) = event.NotFound c depth
 settledEvent book width depth TooLong = event.TooLong depth
 
 -- the scratch then: type block t is marked, and the parts of the type that it comes to are laid on
 unfoldable pub settledOn : List ℕ → ℕ → List ℕ → ℕ → ℕ → Resolved → List ℕ
 settledOn book width sc depth t (Base u) = pushedOn book (markedOn sc t) depth u (partsKind (categoryOf book width u))
-settledOn book width sc depth t (Lacks c) = markedOn sc t
+settledOn book width sc depth t (NotFound c) = markedOn sc t
 settledOn book width sc depth t TooLong = markedOn sc t
 
 -- ---- what they stand for
@@ -52,7 +52,7 @@ pub record Dead (sc : List ℕ) (depth t r : ℕ) (sc′ : List ℕ) : Type 0 wh
 
 -- it comes to nothing at alias c, whose type name is not in the book
 pub record Broken (book : List ℕ) (width : ℕ) (sc : List ℕ) (depth t c r : ℕ) (sc′ : List ℕ) : Type 0 where
-  pub to : resolveAlias book width t ≡ Lacks c
+  pub to : resolveAlias book width t ≡ NotFound c
   pub alias : isPart book c ≡ false
   pub dead : Dead sc depth t r sc′
 
@@ -64,7 +64,7 @@ pub record Unending (book : List ℕ) (width : ℕ) (sc : List ℕ) (depth t r :
 -- type block t is marked, by the event that it gives
 abbrev pub Settled : List ℕ → ℕ → List ℕ → ℕ → ℕ → Event → List ℕ → Type 0
 Settled book width sc depth t (Old d) sc′ = ⊥
-Settled book width sc depth t (event.Lacks c d) sc′ = Broken book width sc depth t c d sc′
+Settled book width sc depth t (event.NotFound c d) sc′ = Broken book width sc depth t c d sc′
 Settled book width sc depth t (New u d c) sc′ = Expanded book width sc depth t u c d sc′
 Settled book width sc depth t (event.TooLong d) sc′ = Unending book width sc depth t d sc′
 Settled book width sc depth t Full sc′ = ⊥

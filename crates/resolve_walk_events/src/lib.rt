@@ -19,7 +19,7 @@ pub enum Event {
     // The name was visited before.
     Old(usize),
     // The type name of this block is not in the book.
-    Lacks(u32, usize),
+    NotFound(u32, usize),
     // The name is new, and comes to this type, of this category.
     New(u32, usize, AdsTypeCategory),
     // Its alias chain is too long.
@@ -47,9 +47,9 @@ fn settle_alias(
             let category = AdsTypeCategory::determine(book, width, u);
             Event::New(u, expand(book, scratch, depth, t, u, category), category)
         }
-        Resolved::Lacks(c) => {
+        Resolved::NotFound(c) => {
             mark(scratch, t);
-            Event::Lacks(c, depth)
+            Event::NotFound(c, depth)
         }
         Resolved::TooLong => {
             mark(scratch, t);

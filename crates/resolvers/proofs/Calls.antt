@@ -31,7 +31,7 @@ module _ {book : List ℕ} (whole r : Resolved) (q : ResolvedIs book whole r) wh
   unfolding resolution
   resolution-base u h = rw (← resolved-is r whole (q .is), h)
 
-  pub resolution-lacks : (c : ℕ) → r ≡ resolved.Lacks c → NotFound c ≡ resolution whole
+  pub resolution-lacks : (c : ℕ) → r ≡ resolved.NotFound c → NotFound c ≡ resolution whole
   unfolding resolution
   resolution-lacks c h = rw (← resolved-is r whole (q .is), h)
 

@@ -17,7 +17,7 @@ use Rattle.type_category.specs.Category.{categoryOf}
 use Rattle.type_book_check.specs.Check.{ValidBook}
 use Rattle.type_book_check.proofs.Valid.{valid-unique}
 use Rattle.resolvers.specs.declared.Resolved.{Resolved}
-use Rattle.resolvers.specs.declared.Resolved.the-variants.{Base, Lacks, TooLong}
+use Rattle.resolvers.specs.declared.Resolved.the-variants.{Base, NotFound, TooLong}
 use Rattle.resolvers.proofs.Numbers.{resolved-is, resolved-says}
 use Rattle.resolvers.specs.Resolve.{goesOn, isFollowed, chainOnward, follow, resolveAlias, lookUp, ResolvedIs, LookedUp}
 
@@ -71,7 +71,7 @@ module _ (goes : ℕ → Bool) (book : List ℕ) where
   unfolding follow chainOnward
   follow-on k t u h e = rw (h, e)
 
-  pub follow-lacks : (k t : ℕ) → goes t ≡ true → find book (typeNameOf book t) ≡ Nothing → follow goes book (suc k) t ≡ Lacks t
+  pub follow-lacks : (k t : ℕ) → goes t ≡ true → find book (typeNameOf book t) ≡ Nothing → follow goes book (suc k) t ≡ NotFound t
   unfolding follow chainOnward
   follow-lacks k t h e = rw (h, e)
 
@@ -108,18 +108,18 @@ module _ (goes : ℕ → Bool) (book : List ℕ) where
           record { stops = r .stops; typed = λ y. r .typed (found-type book (typeNameOf book t) n q) }
       by true h Nothing q ih = absurd (let z = follow-lacks goes book k t h q in let z : _≡_ {A = ℕ} 0 1 = cc in omega arith)
 
-  pub follow-breaks : (k t c : ℕ) → follow goes book k t ≡ Lacks c → Breaks goes book t c
+  pub follow-breaks : (k t c : ℕ) → follow goes book k t ≡ NotFound c → Breaks goes book t c
   follow-breaks zero t c e = absurd (let z = follow-none goes book t in let z : _≡_ {A = ℕ} 0 1 = cc in omega arith)
   follow-breaks (suc k) t c e = by (goes t) refl (find book (typeNameOf book t)) refl (λ n. follow-breaks k n c)
     where
       by : (g : Bool) → goes t ≡ g → (f : Found) → find book (typeNameOf book t) ≡ f
-          → ((n : ℕ) → follow goes book k n ≡ Lacks c → Breaks goes book n c) → Breaks goes book t c
+          → ((n : ℕ) → follow goes book k n ≡ NotFound c → Breaks goes book n c) → Breaks goes book t c
       by false h f q ih = absurd (let z = follow-base goes book k t h in let z : _≡_ {A = ℕ} 0 1 = cc in omega arith)
       by true h (At n) q ih =
           let r = ih n (sym (follow-on goes book k t n h q) ∙ e) in
           record { goes-on = r .goes-on; nothing = r .nothing; typed = λ y. r .typed (found-type book (typeNameOf book t) n q) }
       by true h Nothing q ih =
-          let z : follow goes book (suc k) t ≡ Lacks t = follow-lacks goes book k t h q in
+          let z : follow goes book (suc k) t ≡ NotFound t = follow-lacks goes book k t h q in
           let o : t ≡ c = cc in
           record { goes-on = rw (← o) h; nothing = rw (← o) q; typed = λ y. rw (← o) y }
 
@@ -131,7 +131,7 @@ alias-ends book width t u e h =
     let z : _≡_ {A = ℕ} 0 1 = cc in
     omega arith
 
-pub alias-breaks : (book : List ℕ) (width t c : ℕ) → resolveAlias book width t ≡ Lacks c → categoryOf book width c ≡ category.Alias
+pub alias-breaks : (book : List ℕ) (width t c : ℕ) → resolveAlias book width t ≡ NotFound c → categoryOf book width c ≡ category.Alias
 alias-breaks book width t c e = followed-alias book width c (follow-breaks (isFollowed false book width) book 32 t c e .goes-on)
 
 -- ---- the look-up by an index, in a valid book
@@ -169,7 +169,7 @@ module _ (references : Bool) (book : List ℕ) (width : ℕ) (whole : Resolved) 
       goes-on : isFollowed references book width at ≡ true
       goes-on = sym eg ∙ not-false g h
 
-      pub chain-lacks : f ≡ Nothing → ResolvedIs book whole (Lacks at)
+      pub chain-lacks : f ≡ Nothing → ResolvedIs book whole (NotFound at)
       chain-lacks n =
           record {
             is = resolved-says _ _ (sym (turn ∙ follow-lacks (isFollowed references book width) book (left - 1) at goes-on (sym ef ∙ n)));
@@ -186,7 +186,7 @@ module _ (book : List ℕ) (width b : ℕ) where
   unfolding lookUp chainOnward
   look-at u e = rw e
 
-  pub look-nothing : find book (typeNameOf book b) ≡ Nothing → lookUp book width b ≡ Lacks b
+  pub look-nothing : find book (typeNameOf book b) ≡ Nothing → lookUp book width b ≡ NotFound b
   unfolding lookUp chainOnward
   look-nothing e = rw e
 
@@ -199,15 +199,15 @@ module _ (book : List ℕ) (width b : ℕ) where
           follow-ends (isFollowed false book width) book 32 n u (sym (look-at n q) ∙ e) .typed (found-type book (typeNameOf book b) n q)
       by Nothing q = let z = look-nothing q in cc
 
-  pub look-lacks : (c : ℕ) → lookUp book width b ≡ Lacks c → find book (typeNameOf book c) ≡ Nothing
+  pub look-lacks : (c : ℕ) → lookUp book width b ≡ NotFound c → find book (typeNameOf book c) ≡ Nothing
   look-lacks c e = by (find book (typeNameOf book b)) refl
     where
       by : (f : Found) → find book (typeNameOf book b) ≡ f → find book (typeNameOf book c) ≡ Nothing
       by (At n) q = follow-breaks (isFollowed false book width) book 32 n c (sym (look-at n q) ∙ e) .nothing
-      by Nothing q = let z : lookUp book width b ≡ Lacks b = look-nothing q in let o : b ≡ c = cc in rw (← o) q
+      by Nothing q = let z : lookUp book width b ≡ NotFound b = look-nothing q in let o : b ≡ c = cc in rw (← o) q
 
   module _ (f : Found) (ef : f ≡ find book (typeNameOf book b)) where
-    pub looked-nothing : f ≡ Nothing → LookedUp book width b (Lacks b)
+    pub looked-nothing : f ≡ Nothing → LookedUp book width b (NotFound b)
     looked-nothing n =
         record {
           is = resolved-says _ _ (sym (look-nothing (sym ef ∙ n)));

@@ -5,7 +5,8 @@ use Prim.Native.Nat.{ℕ}
 use native.Mathlib.Omega.{arith}
 use lib.ListN.{length}
 use Rattle.resolvers.specs.declared.Resolved.{Resolved}
-use Rattle.resolvers.specs.declared.Resolved.the-variants.{Base, Lacks, TooLong}
+use Rattle.resolvers.specs.declared.Resolved.the-variants.{Base, TooLong}
+use Rattle.resolvers.specs.declared.Resolved.the-variants as chain
 use Rattle.resolvers.specs.declared.Resolution.{Resolution}
 use Rattle.resolvers.specs.declared.Resolution.the-variants.{Block, NotFound, Refused}
 use Rattle.resolvers.specs.Resolve.{resolvedNumbers}
@@ -15,13 +16,13 @@ use Rattle.resolvers.specs.Calls.{resolutionNumbers, resolution}
 pub resolved-is : (r a : Resolved) → resolvedNumbers r ≡ resolvedNumbers a → r ≡ a
 unfolding resolvedNumbers
 resolved-is (Base u) (Base v) e = let q : u ≡ v = cc in ap Base q
-resolved-is (Base u) (Lacks v) e = absurd (let z : _≡_ {A = ℕ} 0 7 = cc in omega arith)
+resolved-is (Base u) (chain.NotFound v) e = absurd (let z : _≡_ {A = ℕ} 0 7 = cc in omega arith)
 resolved-is (Base u) TooLong e = absurd (let z : _≡_ {A = ℕ} 0 8 = cc in omega arith)
-resolved-is (Lacks u) (Base v) e = absurd (let z : _≡_ {A = ℕ} 7 0 = cc in omega arith)
-resolved-is (Lacks u) (Lacks v) e = let q : u ≡ v = cc in ap Lacks q
-resolved-is (Lacks u) TooLong e = absurd (let z : _≡_ {A = ℕ} 7 8 = cc in omega arith)
+resolved-is (chain.NotFound u) (Base v) e = absurd (let z : _≡_ {A = ℕ} 7 0 = cc in omega arith)
+resolved-is (chain.NotFound u) (chain.NotFound v) e = let q : u ≡ v = cc in ap chain.NotFound q
+resolved-is (chain.NotFound u) TooLong e = absurd (let z : _≡_ {A = ℕ} 7 8 = cc in omega arith)
 resolved-is TooLong (Base v) e = absurd (let z : _≡_ {A = ℕ} 8 0 = cc in omega arith)
-resolved-is TooLong (Lacks v) e = absurd (let z : _≡_ {A = ℕ} 8 7 = cc in omega arith)
+resolved-is TooLong (chain.NotFound v) e = absurd (let z : _≡_ {A = ℕ} 8 7 = cc in omega arith)
 resolved-is TooLong TooLong e = refl
 
 -- what is the same has the same numbers
@@ -29,7 +30,7 @@ pub resolved-says : (r a : Resolved) → r ≡ a → resolvedNumbers r ≡ resol
 resolved-says r a e = ap resolvedNumbers e
 
 -- the numbers of a type that the book lacks, and of a chain that is too long
-pub lacks-numbers : (b : ℕ) → resolvedNumbers (Lacks b) ≡ 7 ∷ b ∷ []
+pub lacks-numbers : (b : ℕ) → resolvedNumbers (chain.NotFound b) ≡ 7 ∷ b ∷ []
 unfolding resolvedNumbers
 lacks-numbers b = refl
 
@@ -58,5 +59,5 @@ resolution-says r a e = ap resolutionNumbers e
 pub resolution-number : (r : Resolved) → resolutionNumbers (resolution r) ≡ resolvedNumbers r
 unfolding resolution resolutionNumbers resolvedNumbers
 resolution-number (Base u) = refl
-resolution-number (Lacks c) = refl
+resolution-number (chain.NotFound c) = refl
 resolution-number TooLong = refl

@@ -8,7 +8,7 @@ use native.Mathlib.Omega.{arith}
 use Rattle.type_provider.specs.declared.Found.the-variants.{At, Nothing}
 use Rattle.type_book.specs.Book.{typeNameOf}
 use Rattle.type_provider.specs.Find.{find}
-use Rattle.resolvers.specs.declared.Resolved.the-variants.{Base, Lacks, TooLong}
+use Rattle.resolvers.specs.declared.Resolved.the-variants.{Base, NotFound, TooLong}
 use Rattle.resolvers.specs.Resolve.{isFollowed, follow, resolveType}
 use Rattle.resolvers.specs.Hops.{Hops, none, hop}
 use Rattle.resolvers.proofs.Chains.{follow-none, follow-base, follow-on, follow-lacks}
@@ -35,7 +35,7 @@ module _ (references : Bool) (book : List ℕ) (width : ℕ) where
   hops-32 t u r = hops-follow (isFollowed references book width) book 32 0 t u r ∙ follow-none (isFollowed references book width) book u
 
   pub hops-missing : (t u : ℕ) → Hops (isFollowed references book width) book 31 t u → isFollowed references book width u ≡ true
-      → find book (typeNameOf book u) ≡ Nothing → resolveType references book width t ≡ Lacks u
+      → find book (typeNameOf book u) ≡ Nothing → resolveType references book width t ≡ NotFound u
   hops-missing t u r h e = hops-follow (isFollowed references book width) book 31 1 t u r ∙ follow-lacks (isFollowed references book width) book 0 u h e
 
   pub self-endless : (t : ℕ) → isFollowed references book width t ≡ true → find book (typeNameOf book t) ≡ At t → resolveType references book width t ≡ TooLong

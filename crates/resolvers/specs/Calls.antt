@@ -24,7 +24,7 @@ resolutionNumbers (Refused n) = n ∷ []
 -- what a chain comes to, as a call answers it: the block, 7 with its block, or 8
 unfoldable pub resolution : Resolved → Resolution
 resolution (resolved.Base u) = Block u
-resolution (resolved.Lacks c) = NotFound c
+resolution (resolved.NotFound c) = NotFound c
 resolution resolved.TooLong = Refused (refusalOf (resolvedNumbers resolved.TooLong))
 
 -- the root with aliases resolved, and references too where they are followed: 1 to 5 first, then 7 or 8

@@ -12,12 +12,12 @@ use Rattle.type_category.specs.declared.type_category.AdsTypeCategory.{AdsTypeC
 use Rattle.type_category.specs.declared.type_category.AdsTypeCategory.the-variants as category
 use Rattle.type_category.specs.Category.{categoryOf}
 use Rattle.resolvers.specs.declared.Resolved.{Resolved}
-use Rattle.resolvers.specs.declared.Resolved.the-variants.{Base, Lacks, TooLong}
+use Rattle.resolvers.specs.declared.Resolved.the-variants.{Base, NotFound, TooLong}
 
 -- document 01's number and value of what a chain comes to: 0 and the block, 7 and the block whose type name is not found, or 8
 unfoldable pub resolvedNumbers : Resolved → List ℕ
 resolvedNumbers (Base u) = 0 ∷ u ∷ []
-resolvedNumbers (Lacks c) = refusal.notFound ∷ c ∷ []
+resolvedNumbers (NotFound c) = refusal.notFound ∷ c ∷ []
 resolvedNumbers TooLong = refusal.chainTooLong ∷ []
 
 -- ---- chains
@@ -48,7 +48,7 @@ isFollowed references book width n = goesOn references (categoryOf book width n)
 -- on to the block that the type name of block b was found at, or 7 with block b
 unfoldable pub chainOnward : (ℕ → Resolved) → ℕ → Found → Resolved
 chainOnward go b (At u) = go u
-chainOnward go b Nothing = Lacks b
+chainOnward go b Nothing = NotFound b
 
 -- the block at which the chain from block t ends, in at most k look-ups, where `goes` says from which blocks it goes on
 unfoldable pub follow : (ℕ → Bool) → List ℕ → ℕ → ℕ → Resolved

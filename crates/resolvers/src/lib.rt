@@ -25,7 +25,7 @@ pub enum Resolved {
     // The block at which it ends.
     Base(u32),
     // The block whose type name is not in the book: of a chain its last alias.
-    Lacks(u32),
+    NotFound(u32),
     // More look-ups than allowed.
     TooLong,
 }
@@ -100,7 +100,7 @@ fn follow(book: &[u8], index: &[u32], trust: Trust, width: u8, t: u32, reference
         }
         let found = named_by(book, index, trust, at);
         let Found::At(u) = found else {
-            return Resolved::Lacks(at);
+            return Resolved::NotFound(at);
         };
         at = u;
         left -= 1;
@@ -139,7 +139,7 @@ pub fn look_up_in(book: &[u8], index: &[u32], width: u8, b: u32) -> Resolved
 {
     let found = named_in(book, index, b);
     let Found::At(u) = found else {
-        return Resolved::Lacks(b);
+        return Resolved::NotFound(b);
     };
     resolve_alias_in(book, index, width, u)
 }
@@ -155,7 +155,7 @@ fn resolve_root(book: &[u8], width: u8, t: u32, references: bool) -> Resolution
     let resolved = follow(book, &index, Trust::Unknown, width, t, references);
     match resolved {
         Resolved::Base(u) => Resolution::Block(u),
-        Resolved::Lacks(c) => Resolution::NotFound(c),
+        Resolved::NotFound(c) => Resolution::NotFound(c),
         Resolved::TooLong => Resolution::Refused(8),
     }
 }

@@ -221,7 +221,7 @@ entered-if false x m = record { never = λ e. omega arith }
 element-mild : (book : List ℕ) (t len : ℕ) (r : Resolved) → EnteredMild (elementType book t len r)
 unfolding elementType resolvedNumbers
 element-mild book t len (resolved.Base e) = entered-if (eqb (arrayBytes book t e) len) (entered.Element e) (record { never = λ e. omega arith })
-element-mild book t len (resolved.Lacks b) = record { never = λ e. omega arith }
+element-mild book t len (resolved.NotFound b) = record { never = λ e. omega arith }
 element-mild book t len resolved.TooLong = record { never = λ e. omega arith }
 
 entered-mild : (book : List ℕ) (width t len : ℕ) (s : Shape) → EnteredMild (enteredBy book width t len s)
@@ -259,7 +259,7 @@ ends-closing c k at next bytes h =
 ends-checked : (n : ℕ) (bytes : List ℕ) (f : FieldsCheck) (o : Outcome) → EndsAt n o → EndsAt n (checked f bytes o)
 unfolding checked checkNumbers
 ends-checked n bytes check.Fine o p = p
-ends-checked n bytes (check.Lacks b) o p = ends-refused n 7 b bytes (λ e. omega arith)
+ends-checked n bytes (check.NotFound b) o p = ends-refused n 7 b bytes (λ e. omega arith)
 ends-checked n bytes check.TooLong o p = ends-refused n 8 0 bytes (λ e. omega arith)
 
 module _ (c : Ctx) (left : ℕ) (child : Child) (ih : Follows c left child) where
@@ -270,7 +270,7 @@ module _ (c : Ctx) (left : ℕ) (child : Child) (ih : Follows c left child) wher
   field-ends at next bytes h (answer.Field f) =
       ends-if (next .at) (leb (f .offset + f .size) (length bytes)) _ 10 0 bytes (λ e. omega arith)
       (ends-placed (next .at) _ _ bytes _ (ih (whole (f .resolved)) at next _ h))
-  field-ends at next bytes h (answer.Lacks b) = ends-refused (next .at) 7 b bytes (λ e. omega arith)
+  field-ends at next bytes h (answer.NotFound b) = ends-refused (next .at) 7 b bytes (λ e. omega arith)
   field-ends at next bytes h answer.TooLong = ends-refused (next .at) 8 0 bytes (λ e. omega arith)
 
   found-ends : (at next : Cursor) (bytes : List ℕ) → valueAt (formCtx c) left at ≡ At next → (f : Found) → EndsAt (next .at) (foundValue child c at bytes f)
@@ -402,7 +402,7 @@ not-sixteen n (refused k b bytes) p e = by (eqb k 7) e
 root-sixteen : (c : Ctx) (image : List ℕ) (r : Resolved) → formed (c .book) (c .tape) (c .text) ≡ true → answerOf (rootBy c image r) ≡ Refused 16 → ⊥
 unfolding rootBy resolvedNumbers
 root-sixteen c image (resolved.Base t) f e = not-sixteen (length (c .tape)) (typeWrite c t image) (formed-ends c t image f) e
-root-sixteen c image (resolved.Lacks b) f e = different cc
+root-sixteen c image (resolved.NotFound b) f e = different cc
 root-sixteen c image resolved.TooLong f e = different cc
 
 pub sixteen-is-form : SixteenIsForm

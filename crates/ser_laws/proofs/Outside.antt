@@ -155,7 +155,7 @@ module _ (c : Ctx) (child : Child) (marks : touched.Child) (ih : Children c chil
       let l = leb-true (f .offset + f .size) (length bytes) h in
       agrees-placed from (f .offset) (f .size) bytes l _ _
       (ih (whole (f .resolved)) at (from + f .offset) (f .size) _ (sym (length-cut (f .offset) (f .size) bytes l)) tt))
-  field-agrees at from bytes (answer.Lacks b) = agrees-refused from bytes 7 b bytes nowhere
+  field-agrees at from bytes (answer.NotFound b) = agrees-refused from bytes 7 b bytes nowhere
   field-agrees at from bytes answer.TooLong = agrees-refused from bytes 8 0 bytes nowhere
 
   found-agrees : (at : Cursor) (from : ℕ) (bytes : List ℕ) (f : Found) → Agrees from bytes (foundValue child c at bytes f) (foundTouched marks c at from f)
@@ -178,7 +178,7 @@ module _ (c : Ctx) (child : Child) (marks : touched.Child) (ih : Children c chil
   checked-agrees : (from : ℕ) (bytes : List ℕ) (f : FieldsCheck) (o : Outcome) (t : Touched) → Agrees from bytes o t → Agrees from bytes (checked f bytes o) t
   unfolding checked checkNumbers
   checked-agrees from bytes check.Fine o t a = a
-  checked-agrees from bytes (check.Lacks b) o t a = agrees-refused from bytes 7 b bytes t
+  checked-agrees from bytes (check.NotFound b) o t a = agrees-refused from bytes 7 b bytes t
   checked-agrees from bytes check.TooLong o t a = agrees-refused from bytes 8 0 bytes t
 
   map-agrees : (t n : ℕ) (at : Cursor) (from : ℕ) (bytes : List ℕ) (s : Shape) → Agrees from bytes (mapBy child c t n at bytes s) (keysTouched marks c t n at from)
@@ -238,7 +238,7 @@ module _ (c : Ctx) (child : Child) (marks : touched.Child) (ih : Children c chil
       → Agrees from bytes (arrayBy child c t at bytes (elementType (c .book) t (length bytes) r)) (arrayTouched marks c t at from r)
   unfolding arrayBy elementType arrayTouched resolvedNumbers
   element-agrees t at from bytes (resolved.Base e) = sized-agrees t e at from bytes (eqb (arrayBytes (c .book) t e) (length bytes)) refl
-  element-agrees t at from bytes (resolved.Lacks b) = agrees-refused from bytes 7 b bytes nowhere
+  element-agrees t at from bytes (resolved.NotFound b) = agrees-refused from bytes 7 b bytes nowhere
   element-agrees t at from bytes resolved.TooLong = agrees-refused from bytes 8 0 bytes nowhere
 
   entered-agrees : (t : ℕ) (at : Cursor) (from : ℕ) (bytes : List ℕ) (b : Bool)

@@ -51,7 +51,7 @@ by-root : (book : List ℕ) (width n : ℕ) (mem : List ℕ) → ValidBook book 
     → ((u : ℕ) → r ≡ resolved.Base u → isType book u ≡ true) → Reads book (rootBy (ctx book width) n mem r)
 unfolding rootBy resolvedNumbers
 by-root book width n mem v p b y (resolved.Base t) h = record { forms = λ buffer l. walk-emits book buffer l v p width 64 (whole (typedOf (ctx book width) n t)) mem (record { resolved = h t refl; named = y }) b }
-by-root book width n mem v p b y (resolved.Lacks k) h = reads-refused book 7 k
+by-root book width n mem v p b y (resolved.NotFound k) h = reads-refused book 7 k
 by-root book width n mem v p b y resolved.TooLong h = reads-refused book 8 0
 
 by-check : (buffer : List ℕ) (len width n : ℕ) (mem : List ℕ) → Bytes buffer → Bytes mem → Reads (take len buffer) (readTrace buffer len width n mem)

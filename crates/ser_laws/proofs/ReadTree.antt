@@ -71,7 +71,7 @@ pow-most w h = pow-mono {i = 8 * w} {j = 64} (omega arith)
 
 abbrev TypedBy : List ℕ → FieldAnswer → Type 0
 TypedBy book (answer.Field f) = (isType book (f .resolved) ≡ true) × (isType book (f .named) ≡ true)
-TypedBy book (answer.Lacks b) = Unit {0}
+TypedBy book (answer.NotFound b) = Unit {0}
 TypedBy book answer.TooLong = Unit {0}
 
 -- a type whose block is a type block, resolved and as it was named
@@ -85,7 +85,7 @@ pub record TypedField (book : List ℕ) (a : FieldAnswer) : Type 0 where
 of-typed : (book : List ℕ) (f n : ℕ) (r : Resolved) → isType book n ≡ true → ((u : ℕ) → r ≡ resolved.Base u → isType book u ≡ true) → TypedField book (fieldOf book f n r)
 unfolding fieldOf
 of-typed book f n (resolved.Base u) y h = record { typed = (h u refl, y) }
-of-typed book f n (resolved.Lacks b) y h = record { typed = tt }
+of-typed book f n (resolved.NotFound b) y h = record { typed = tt }
 of-typed book f n resolved.TooLong y h = record { typed = tt }
 
 -- where aliases lead from a type block
@@ -181,7 +181,7 @@ module _ (book buffer : List ℕ) where
   emits-checked : (P : ℕ → List Event → Type 0) (f : FieldsCheck) (t : Trace) → Emits P t → Emits P (checked f t)
   unfolding checked checkNumbers
   emits-checked P check.Fine t p = p
-  emits-checked P (check.Lacks b) t p = emits-refused P 7 b
+  emits-checked P (check.NotFound b) t p = emits-refused P 7 b
   emits-checked P check.TooLong t p = emits-refused P 8 0
 
   -- one trace after another
@@ -317,7 +317,7 @@ module _ (book buffer : List ℕ) where
         field-emits mem b (answer.Field f) y =
             emits-if (Value left) (leb (f .offset + f .size) (length mem)) _ 10 0
             (ih (whole (typedOf c (f .named) (f .resolved))) _ (record { resolved = y .typed .0; named = y .typed .1 }) (bytes-take (f .size) (drop (f .offset) mem) (bytes-drop (f .offset) mem b)))
-        field-emits mem b (answer.Lacks n) y = emits-refused (Value left) 7 n
+        field-emits mem b (answer.NotFound n) y = emits-refused (Value left) 7 n
         field-emits mem b answer.TooLong y = emits-refused (Value left) 8 0
 
         member-emits : (mem : List ℕ) → Bytes mem → (f : ℕ) → Emits (OneKey left f) (memberOf child c mem f)
@@ -423,7 +423,7 @@ module _ (book buffer : List ℕ) where
         element-by x g n y mem b (resolved.Base e) h =
             emits-if (Value (suc left)) (eqb (arrayBytes book (x .resolved) e) (length mem)) _ 10 0
             (dimension-emits (x .named) 0 (x .resolved) (typedOf c n e) (g .named) (record { resolved = h e refl; named = y }) (g .resolved) mem b)
-        element-by x g n y mem b (resolved.Lacks k) h = emits-refused (Value (suc left)) 7 k
+        element-by x g n y mem b (resolved.NotFound k) h = emits-refused (Value (suc left)) 7 k
         element-by x g n y mem b resolved.TooLong h = emits-refused (Value (suc left)) 8 0
 
         array-by : (x : Typed) → GoodType book x → (mem : List ℕ) → Bytes mem → (f : Found) → find book (typeNameOf book (x .resolved)) ≡ f → Emits (Value (suc left)) (arrayBy child c x mem f)

@@ -50,7 +50,7 @@ module _ (book buffer tape : List ℕ) (small : length buffer < 2 ^ 64) (width :
       → reading.rootBy (de.ctx book width) n mem r ≡ done es → Same (rootBy (ser.ctx book width tape buffer) mem r) mem
   unfolding reading.rootBy rootBy trip.rootKept resolvedNumbers
   by-root v p n x (resolved.Base t) y h e = by-type v p n t x (y t refl) h e
-  by-root v p n x (resolved.Lacks k) y h e = different cc
+  by-root v p n x (resolved.NotFound k) y h e = different cc
   by-root v p n x resolved.TooLong y h e = different cc
 
   book-same : ValidBook book → Bytes book → (n : ℕ) → isType book n ≡ true → trip.isKept (de.ctx book width) n mem ≡ true → reading.rootTrace (de.ctx book width) n mem ≡ done es

@@ -141,7 +141,7 @@ module _ (book buffer tape : List ℕ) where
   emits-fine : (P : ℕ → List Event → Type 0) (f : FieldsCheck) (t : Trace) → (f ≡ check.Fine → Emits book buffer P t) → Emits book buffer P (de.checked f t)
   unfolding de.checked checkNumbers
   emits-fine P check.Fine t p = p refl
-  emits-fine P (check.Lacks b) t p = emits-refused book buffer P 7 b
+  emits-fine P (check.NotFound b) t p = emits-refused book buffer P 7 b
   emits-fine P check.TooLong t p = emits-refused book buffer P 8 0
 
   -- the end record of a kind
@@ -190,7 +190,7 @@ module _ (book buffer tape : List ℕ) where
           emits-map (Back (write (whole (f .resolved))) (cut (f .offset) (f .size) mem)) _ _
           (λ from es x. back-as _ _ mem (λ at. rw q) from es (back-placed _ (f .offset) (f .size) mem from es x))
           (ih (whole (de.typedOf rc (f .named) (f .resolved))) _ (record { resolved = y .typed .0; named = y .typed .1 }) (bytes-take (f .size) (drop (f .offset) mem) (bytes-drop (f .offset) mem b)) h))
-      field-back mem b (answer.Lacks n) y h = emits-refused book buffer _ 7 n
+      field-back mem b (answer.NotFound n) y h = emits-refused book buffer _ 7 n
       field-back mem b answer.TooLong y h = emits-refused book buffer _ 8 0
 
       finds-is : (f : ℕ) (x : Found) → trip.finds f x ≡ true → x ≡ found.At f
@@ -298,7 +298,7 @@ module _ (book buffer tape : List ℕ) where
           emits-where _ (eqb (arrayBytes book (x .resolved) e) (length mem)) _ 10 0 (λ z.
           dimension-back (x .named) 0 (x .resolved) (de.typedOf rc n e) (g .named) (record { resolved = look-typed book width (x .resolved) e l; named = y }) (g .resolved) mem b h
           (ser.itemWalk write sc (whole (x .resolved))) (λ at i. rw (i, s, q, l, z)))
-      element-by x g s mem b q n y (resolved.Lacks k) l h = emits-refused book buffer _ 7 k
+      element-by x g s mem b q n y (resolved.NotFound k) l h = emits-refused book buffer _ 7 k
       element-by x g s mem b q n y resolved.TooLong l h = emits-refused book buffer _ 8 0
 
       -- a name that is found leads where its aliases do

@@ -47,7 +47,7 @@ by-root : (c : Ctx) (image : List ℕ) (r : Resolved) (at : Cursor) (new : List 
 unfolding rootBy rootTouched typeWrite
 by-root c image (resolved.Base t) at new e =
     agrees-only image _ _ (walk-agrees c 64 (whole t) (record { at = 0 }) 0 (length image) image refl tt) at new e
-by-root c image (resolved.Lacks b) at new e = different cc
+by-root c image (resolved.NotFound b) at new e = different cc
 by-root c image resolved.TooLong at new e = different cc
 
 book-whole : (c : Ctx) (n room : ℕ) (image : List ℕ) → Whole c n image (bookWrite c n room image)

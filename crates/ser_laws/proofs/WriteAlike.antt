@@ -81,7 +81,7 @@ same-placed from size bytes (refused k b part) o′ p = rw (sym (p .is)) (same-r
 same-checked : (f : FieldsCheck) (bytes : List ℕ) (o o′ : Outcome) → Same o o′ → Same (checked f bytes o) (checked f bytes o′)
 unfolding checked
 same-checked check.Fine bytes o o′ p = p
-same-checked (check.Lacks b) bytes o o′ p = same-refused _ _ bytes
+same-checked (check.NotFound b) bytes o o′ p = same-refused _ _ bytes
 same-checked check.TooLong bytes o o′ p = same-refused _ _ bytes
 
 -- ---- a record
@@ -156,7 +156,7 @@ module _ (book : List ℕ) (width : ℕ) (text tape tape′ : List ℕ) (alike :
     unfolding fieldValue
     field-same at bytes h (answer.Field f) =
         same-cond (leb (f .offset + f .size) (length bytes)) (same-placed _ _ bytes _ _ (ih (whole (f .resolved)) at _ h)) (same-refused 10 0 bytes)
-    field-same at bytes h (answer.Lacks b) = same-refused _ _ bytes
+    field-same at bytes h (answer.NotFound b) = same-refused _ _ bytes
     field-same at bytes h answer.TooLong = same-refused _ _ bytes
 
     found-same : (at : Cursor) (bytes : List ℕ) → at .at % 24 ≡ 0 → (f : Found) → Same (foundValue child c at bytes f) (foundValue child′ c′ at bytes f)
@@ -239,7 +239,7 @@ module _ (book : List ℕ) (width : ℕ) (text tape tape′ : List ℕ) (alike :
   root-by-same : (image : List ℕ) (r : Resolved) → rootBy c image r ≡ rootBy c′ image r
   unfolding rootBy
   root-by-same image (resolved.Base t) = type-same t image
-  root-by-same image (resolved.Lacks b) = refl
+  root-by-same image (resolved.NotFound b) = refl
   root-by-same image resolved.TooLong = refl
 
   -- and of a root

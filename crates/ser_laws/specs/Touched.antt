@@ -87,7 +87,7 @@ endAt c at = recordBy (λ r next. upto next []) (stepAt (c .tape) (at .at))
 -- the ranges of a key's value, by what its field's look-up came to: at the field's place, or no write is accepted
 unfoldable pub fieldTouched : Child → Cursor → ℕ → FieldAnswer → Touched
 fieldTouched child at from (answer.Field f) = child (whole (f .resolved)) at (from + f .offset) (f .size)
-fieldTouched child at from (answer.Lacks b) = nowhere
+fieldTouched child at from (answer.NotFound b) = nowhere
 fieldTouched child at from answer.TooLong = nowhere
 
 -- the same by the field of the key's name, where there is one
@@ -120,7 +120,7 @@ dimensionTouched child c d t e at from =
 -- the first dimension of array t, by what its element's type comes to
 unfoldable pub arrayTouched : Child → Ctx → ℕ → Cursor → ℕ → Resolved → Touched
 arrayTouched child c t at from (resolved.Base e) = dimensionTouched child c 0 t e at from
-arrayTouched child c t at from (resolved.Lacks b) = nowhere
+arrayTouched child c t at from (resolved.NotFound b) = nowhere
 arrayTouched child c t at from resolved.TooLong = nowhere
 
 -- ---- a value
@@ -151,7 +151,7 @@ rangesOf nowhere = []
 -- by what the root's aliases come to
 unfoldable pub rootTouched : Ctx → ℕ → Resolved → Touched
 rootTouched c size (resolved.Base t) = walkTouched c 64 (whole t) (record { at = 0 }) 0 size
-rootTouched c size (resolved.Lacks b) = nowhere
+rootTouched c size (resolved.NotFound b) = nowhere
 rootTouched c size resolved.TooLong = nowhere
 
 -- the leaves that a tape names: their ranges in an output of so many bytes of root block n

@@ -78,7 +78,7 @@ finds f found.Nothing = false
 -- a field's value
 unfoldable pub fieldKept : Child → List ℕ → FieldAnswer → Bool
 fieldKept child mem (answer.Field f) = child (whole (f .resolved)) (cut (f .offset) (f .size) mem)
-fieldKept child mem (answer.Lacks b) = true
+fieldKept child mem (answer.NotFound b) = true
 fieldKept child mem answer.TooLong = true
 
 -- the k fields from block f on: each is the first of type t that has its name, and its value is kept
@@ -100,7 +100,7 @@ dimensionKept child c d t e mem = elementsKept child (elementItem (c .book) d t 
 -- array t, by what its element's type comes to
 unfoldable pub arrayKept : Child → Ctx → ℕ → List ℕ → Resolved → Bool
 arrayKept child c t mem (resolved.Base e) = dimensionKept child c 0 t e mem
-arrayKept child c t mem (resolved.Lacks b) = true
+arrayKept child c t mem (resolved.NotFound b) = true
 arrayKept child c t mem resolved.TooLong = true
 
 -- a value by its fields, by its elements, or as a whole
@@ -122,7 +122,7 @@ walkKept c (suc left) i mem = itemKept (walkKept c left) c i mem
 -- by what the root's aliases come to
 unfoldable pub rootKept : Ctx → List ℕ → Resolved → Bool
 rootKept c mem (resolved.Base t) = walkKept c 64 (whole t) mem
-rootKept c mem (resolved.Lacks b) = true
+rootKept c mem (resolved.NotFound b) = true
 rootKept c mem resolved.TooLong = true
 
 -- the bytes of root block n come back from a write of what is read of them
