@@ -26,7 +26,7 @@ use Rattle.closure.proofs.Steps.{Sound, base, ours}
 use Rattle.closure.proofs.Asks.{Theirs, root-check}
 use Rattle.closure.proofs.Lists.{each-first, each-rest, sound-next, found-next, found-after}
 use Rattle.closure_named.specs.Named.{Premises, NamedCallIs, NamedFetched, NamedNone, here, later, NamedClosed, Claim, FromNothing}
-use Rattle.closure_named.proofs.NotFound.{given-found}
+use Rattle.closure_named.proofs.Lacks.{given-found}
 use Rattle.closure_named.proofs.Nothing.{listing-at, name-formed}
 
 -- what the call by a block promises is what the call by a root that stands for that block does

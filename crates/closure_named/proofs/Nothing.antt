@@ -29,7 +29,7 @@ use Rattle.closure.proofs.Asks.{Theirs}
 use Rattle.closure.proofs.Lists.{each-first, each-rest, sound-next, found-next, sound-after, found-after, bounded}
 use Rattle.closure.proofs.Demand.{demand3}
 use Rattle.closure_named.specs.Named.{Premises, FetchedBy, NamedFetched, anyBy, namedListing, Bound, NamedNone, here, later, NamedClosed, Claim, FromNothing}
-use Rattle.closure_named.proofs.NotFound.{given-found, sound-at, base-next, calls-are}
+use Rattle.closure_named.proofs.Lacks.{given-found, sound-at, base-next, calls-are}
 
 module _ (c : List ℕ) (width : ℕ) (name : List ℕ) (w : Theirs c width name) (formed : isRootName name ≡ true) where
   -- ---- a book that has the root's name: the asks are those of demand 3 for its block

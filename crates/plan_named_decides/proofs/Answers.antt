@@ -30,7 +30,7 @@ use Rattle.closure.specs.Calls.{Ours, bookOf, add, next}
 use Rattle.closure.proofs.Bases.{Base, base-add, add-none, add-longer, add-added}
 use Rattle.closure.proofs.Asks.{Theirs}
 use Rattle.closure_named.specs.Named.{Premises, NamedClosed}
-use Rattle.closure_named.proofs.NotFound.{given-found, given-lacks, sound-at}
+use Rattle.closure_named.proofs.Lacks.{given-found, given-lacks, sound-at}
 use Rattle.closure_named.proofs.Nothing.{name-formed}
 use Rattle.plan_adds.specs.Adds.{on, appendOf, fetchBy}
 use Rattle.plan_save.specs.Rounds.{nextRound, planFrom}
