@@ -8,6 +8,7 @@ ghost use Rattle.resolve_walk.specs.Scratch.{scratchFits, listFits};
 ghost use Rattle.gateway.specs.Calls.{RmwGiven, RmwNamedGiven, RmwInGiven, MissingGiven, MissingNamedGiven, MissingInGiven};
 use gateway_walk_answers::give_missing;
 use gateway_walk_answers::give_rmw;
+use resolve_read_modify_write::requires_read_modify_write_named;
 
 // 1 where a value's memory must be read before it is written, else 0.
 #[no_mangle]
@@ -49,14 +50,7 @@ pub extern "C" fn gateway_requires_read_modify_write_named(
     ensures { λ r. ⌜ RmwNamedGiven (now (buffer .entry)) len (now (index .entry)) width (now (name .entry)) (now (scratch .entry)) (now (values .entry)) r (now (scratch .exit)) (now (values .exit)) ⌝ }
 {
     give_rmw(
-        resolve_read_modify_write::requires_read_modify_write_named(
-            buffer,
-            len,
-            index,
-            width,
-            name,
-            scratch,
-        ),
+        requires_read_modify_write_named(buffer, len, index, width, name, scratch),
         values,
     )
 }

@@ -33,8 +33,8 @@ pub(crate) fn told(number: u8, block: u64) -> Refusal {
 /// these only make it longer.
 ///
 /// A book, its types and its tapes are [`Send`] and [`Sync`]: one book serves many threads, by an `Arc` or by a clone, which shares the
-/// bytes that the book owns. Its types' names live as long as the book, also those of a tape's records: by their block numbers
-/// ([`Record::block`](crate::Record::block), [`name`](TypeBook::name)).
+/// bytes that the book owns. Its types' names live as long as the book, also those of a tape's records
+/// ([`Record::name_in`](crate::Record::name_in), [`Record::declared_in`](crate::Record::declared_in)).
 #[derive(Clone)]
 pub struct TypeBook<'a> {
     pub(crate) checked: Checked<'a>,

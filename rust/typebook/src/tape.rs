@@ -1,6 +1,6 @@
 //! What a read gives and a write takes: records, each with its value and, for keys and enumeration entries, its name.
 
-use crate::book::name_in;
+use crate::book::{TypeBook, name_in};
 use crate::bytes::Bytes;
 use crate::category::Category;
 use crate::ffi::total;
@@ -126,6 +126,41 @@ impl<'t> Record<'t> {
     /// ```
     pub fn declared(&self) -> Option<&'t str> {
         Some(name_in(self.book, self.declared_block?, total::name))
+    }
+
+    /// The name of a key or of an enumeration's entry, as [`value`](Record::value) has it, but lent from the book: it lives as long as the
+    /// book, so it can be kept where the tape is gone. None of other records, and by a book whose block has another name.
+    ///
+    /// ```
+    /// use std::sync::Arc;
+    /// use typebook::{TypeBook, TypeBuilder};
+    ///
+    /// let types = TypeBook::builder()
+    ///     .with(TypeBuilder::new("S").size(2).field("Temp", "INT", 0, 2))
+    ///     .with(TypeBuilder::new("INT").id(2).size(2));
+    /// let book = Arc::new(types.build(8)?);
+    /// let tape = book.root(0)?.read(&[5, 0])?.into_owned();
+    /// let (keys, declared): (Vec<&str>, Vec<&str>) = (
+    ///     tape.iter().filter_map(|r| r.name_in(&book)).collect(),
+    ///     tape.iter().filter_map(|r| r.declared_in(&book)).collect(),
+    /// );
+    /// drop(tape);
+    /// assert_eq!(keys, ["Temp"]);
+    /// assert_eq!(declared, ["S", "INT"]);
+    /// # Ok::<(), Box<dyn std::error::Error>>(())
+    /// ```
+    pub fn name_in<'n>(&self, book: &'n TypeBook<'_>) -> Option<&'n str> {
+        let name = book.name(self.block?);
+        match self.value {
+            Value::Key(said) | Value::Enum(said) if said == name => Some(name),
+            _ => None,
+        }
+    }
+
+    /// The declared type's name, as [`declared`](Record::declared) has it, but lent from the book, as with [`name_in`](Record::name_in).
+    pub fn declared_in<'n>(&self, book: &'n TypeBook<'_>) -> Option<&'n str> {
+        let name = book.name(self.declared_block?);
+        (self.declared()? == name).then_some(name)
     }
 
     /// The moment or the time of day that the value counts; none of a value whose type counts none.

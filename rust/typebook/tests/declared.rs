@@ -119,3 +119,24 @@ fn names_outlive_the_tape() {
     assert_eq!(declared, said);
     assert_eq!(declared, ["S", "COLOUR", "COLOUR"]);
 }
+
+/// Names that are lent from the book outlive the tape; another book's block of another name gives none.
+#[test]
+fn names_of_the_book() {
+    let book = TypeBook::new(types(), 8).expect("valid");
+    let tape = book.root(0).expect("a type").read(&[0; 11]).expect("read").into_owned();
+    let other = TypeBook::builder().with(TypeBuilder::new("INT").id(type_id::INT16).size(2));
+    let other = other.build(8).expect("valid");
+    for record in &tape {
+        let said = match record.value {
+            Value::Key(name) | Value::Enum(name) => Some(name),
+            _ => None,
+        };
+        assert_eq!(record.name_in(&book), said);
+        assert_eq!(record.declared_in(&book), record.declared());
+        assert_eq!((record.name_in(&other), record.declared_in(&other)), (None, None));
+    }
+    let kept: Vec<&str> = tape.iter().filter_map(|r| r.name_in(&book)).collect();
+    drop(tape);
+    assert_eq!(kept, ["r", "t", "u"]);
+}
