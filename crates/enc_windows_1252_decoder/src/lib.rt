@@ -14,7 +14,7 @@ use enc_utf_8::Put;
 use enc_utf_8::Room;
 use enc_windows_1252::code_point;
 
-// Whether a number is at least another, as a number that can be added: a branch for each byte would be slow.
+// 1 where a number is at least another, else 0: to be added, since a branch for each byte would be slow.
 fn at_least(number: u32, least: u32) -> u32
     ensures { λ r. ⌜ (r ≡ cond (ltb number least) 0 1) × (r ≤ 1) ⌝ }
 {
@@ -24,7 +24,8 @@ fn at_least(number: u32, least: u32) -> u32
     1
 }
 
-// How many bytes a byte's code point takes in UTF-8. It follows from the code point: 1 below 80h, 2 below 800h, else 3.
+// How many bytes a byte's code point takes in UTF-8. It follows from the code point: 1 below 80h, 2 below 800h, else 3. The code point is asked for
+// twice, so that each comparison becomes a mask of bits and no branch.
 fn utf8_length_of(byte: u8) -> usize
     ensures { λ r. ⌜ (r ≡ length (decodeByte byte)) × (r ≤ 3) ⌝ }
 {
@@ -68,7 +69,8 @@ pub fn decoded_len(bytes: &[u8], room: usize) -> Room
     Room::Fits(n)
 }
 
-// Writes a code point of two or three bytes, without a branch. The first byte of three is written in any case: for two, the next write replaces it.
+// Writes a code point of two or three bytes, without a branch. From 800h on it is 2000h to 3FFFh, so that a division tells which. The first byte
+// of three is written in any case: for two, the next write replaces it.
 fn put_wide(code: u32, out: &mut [u8], at: usize) -> usize
     requires { ⌜ (0x80 ≤ code) × (code < 0x4000) × (code / 0x2000 ≡ cond (ltb code 0x800) 0 1) ⌝ }
     requires { ⌜ at + length (utf8Of code) ≤ length (now out) ⌝ }
