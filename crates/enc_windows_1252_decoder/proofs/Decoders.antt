@@ -1,23 +1,25 @@
 -- The exits and the loops of the decoder's functions, a law for each. Assumes nothing.
-use mathlib.Core.Path.{_≡_, sym, ap, _∙_}
-use mathlib.Core.Bool.{Bool, true, false}
-use mathlib.Core.List.{List}
-use Prim.Native.Nat.{ℕ, _+_, _-_, _/_, _%_, _≤_, _<_}
+use mathlib.Core.Path.{_≡_, refl, sym, ap, _∙_}
+use mathlib.Core.Bool.{Bool, true, false, cond}
+use mathlib.Core.List.{List, [], _∷_}
+use Prim.Native.Nat.{ℕ, _+_, _*_, _-_, _/_, _%_, _≤_, _<_}
+use native.Mathlib.Nat.{add-zero}
 use native.Mathlib.Omega.{arith}
 use lib.ListN.{length, getD, take, drop, set, length-append, length-take, length-set}
-use lib.Dec.{leb}
-use borrow.Author.Tests.{leb-true, leb-false, le-leb, lt-leb}
+use lib.Seq.{set-set}
+use lib.Dec.{leb, ltb}
+use borrow.Author.Tests.{leb-true, leb-false, le-leb, lt-leb, ltb-true, ltb-false}
 use Rattle.enc_utf_8.specs.declared.Put.{Put}
 use Rattle.enc_utf_8.specs.declared.Put.the-variants.{Next, Full}
 use Rattle.enc_utf_8.specs.declared.Room.{Room}
 use Rattle.enc_utf_8.specs.declared.Room.the-variants.{Fits, Over}
 use Rattle.enc_utf_8.specs.Buffer.{Wrote, Laid, roomFor}
 use Rattle.enc_utf_8.specs.Utf8.{utf8Of}
-use Rattle.enc_utf_8.proofs.Splices.{wrote-as, wrote-none}
+use Rattle.enc_utf_8.proofs.Splices.{wrote-as, wrote-none, went, stored-3}
+use Rattle.enc_utf_8.proofs.Encodes.{utf8-two, utf8-three-low}
 use Rattle.enc_ascii.specs.Ascii.{isAscii}
-use Rattle.enc_windows_1252.specs.Index.{codePoints}
+use Rattle.enc_windows_1252.specs.Index.{codePoint}
 use Rattle.enc_windows_1252.specs.Text.{decodeByte, decodeText}
-use Rattle.enc_windows_1252.proofs.Indexes.{point-is}
 use Rattle.enc_windows_1252_decoder.proofs.Texts.{ascii-byte, high-byte, ascii-text, ascii-length, decode-next, decode-end, decode-cut, decode-some}
 use Rattle.enc_utf_8.proofs.Lays.{laid-one, laid-two, laid-as, Rest, rest-room, rest-next, rest-end, put-went, put-never, room-fits, room-over, count-part, count-over, count-all, count-fits, wrote-laid, wrote-over}
 
@@ -39,6 +41,51 @@ module _ (bytes : List ℕ) (i n all : ℕ) (inv : n + length (decodeText (drop 
 
   pub length-fits : (room : ℕ) → n ≤ room → length bytes ≤ i → Fits n ≡ roomFor all room
   length-fits room l h = count-fits n all _ inv (decode-end bytes i h) room l
+
+-- ---- put_wide: m is 0 for two bytes, 1 for three
+
+data Wide (c m : ℕ) : Type 0 where
+  two : m ≡ 0 → c < 0x800 → Wide c m
+  three : m ≡ 1 → 0x800 ≤ c → Wide c m
+
+wide-by : (c m : ℕ) (t : Bool) → ltb c 0x800 ≡ t → m ≡ cond t 0 1 → Wide c m
+wide-by c m true t q = two q (ltb-true c 0x800 t)
+wide-by c m false t q = three q (ltb-false c 0x800 t)
+
+wide-long : (c m : ℕ) → 0x80 ≤ c → c < 0x4000 → Wide c m → length (utf8Of c) ≡ m + 2
+wide-long c m l u (two e h) = omega (arith, ap length (utf8-two c l h))
+wide-long c m l u (three e h) = omega (arith, ap length (utf8-three-low c h (omega arith)))
+
+laid-three : (out : List ℕ) (at a b c : ℕ) → at + 3 ≤ length out → Laid (a ∷ b ∷ c ∷ []) out at (at + 3) (set (set (set out at a) (at + 1) b) (at + 2) c)
+laid-three out at a b c h = let w = went (stored-3 out at a b c h) refl in record { next = w .place; buffer = w .buffer }
+
+module _ (c at : ℕ) (out : List ℕ) (l : 0x80 ≤ c) (u : c < 0x4000) where
+  wide-laid : (m : ℕ) → Wide c m → at + m + 2 ≤ length out
+      → Laid (utf8Of c) out at (at + m + 2) (set (set (set out at (0xe0 + c / 4096)) (at + m) (0xc0 + c / 64 % 64 - 64 * m)) (at + m + 1) (0x80 + c % 64))
+  wide-laid m (two e h) r =
+      let b : 0xc0 + c / 64 % 64 - 64 * 0 ≡ 0xc0 + c / 64 = omega arith in
+      rw (e, add-zero, b, set-set) (laid-as (utf8-two c l h) (laid-two out at (0xc0 + c / 64) (0x80 + c % 64) (omega arith)))
+  wide-laid m (three e h) r =
+      let b : 0xc0 + c / 64 % 64 - 64 * 1 ≡ 0x80 + c / 64 % 64 = omega arith in
+      let i : at + 1 + 1 ≡ at + 2 = omega arith in
+      let j : at + 1 + 2 ≡ at + 3 = omega arith in
+      rw (e, b, i, j) (laid-as (utf8-three-low c h (omega arith)) (laid-three out at (0xe0 + c / 4096) (0x80 + c / 64 % 64) (0x80 + c % 64) (omega arith)))
+
+  module _ (m : ℕ) (q : m ≡ cond (ltb c 0x800) 0 1) (h : at + length (utf8Of c) ≤ length out) where
+    all-room : at + m + 2 ≤ length out
+    all-room = omega (arith, wide-long c m l u (wide-by c m (ltb c 0x800) refl q))
+
+    pub wide-first : at < length out
+    wide-first = omega (arith, all-room)
+
+    pub wide-second : (x : ℕ) → at + m < length (set out at x)
+    wide-second x = rw length-set (omega (arith, all-room))
+
+    pub wide-third : (x y : ℕ) → at + m + 1 < length (set (set out at x) (at + m) y)
+    wide-third x y = rw (length-set, length-set) (omega (arith, all-room))
+
+    pub wide-done : Laid (utf8Of c) out at (at + m + 2) (set (set (set out at (0xe0 + c / 4096)) (at + m) (0xc0 + c / 64 % 64 - 64 * m)) (at + m + 1) (0x80 + c % 64))
+    wide-done = wide-laid m (wide-by c m (ltb c 0x800) refl q) all-room
 
 -- ---- put_byte
 
@@ -62,15 +109,12 @@ module _ (b at : ℕ) (out : List ℕ) (h : at + length (decodeByte b) ≤ lengt
     pub byte-high : Laid (decodeByte b) out at (at + 2) (set (set out at (0xc0 + b / 64)) (at + 1) (0x80 + b % 64))
     byte-high = laid-as (high-byte b g l) (laid-two out at (0xc0 + b / 64) (0x80 + b % 64) two-room)
 
-  module _ (points : List ℕ) (e : points ≡ codePoints) (l : b < 256) (r : Put) (out₁ : List ℕ) (w : Wrote (utf8Of (getD points b 0)) out at r out₁) where
-    same-bytes : Wrote (decodeByte b) out at r out₁
-    same-bytes = wrote-as (ap utf8Of (sym (point-is points b e l))) w
+  module _ (c : ℕ) (e : c ≡ codePoint b) where
+    pub wide-room : at + length (utf8Of c) ≤ length out
+    wide-room = rw e h
 
-    pub byte-next : (n : ℕ) → r ≡ Next n → Laid (decodeByte b) out at n out₁
-    byte-next n q = put-went n same-bytes q
-
-    pub byte-never : r ≡ Full → Laid (decodeByte b) out at at out₁
-    byte-never q = put-never h same-bytes q
+    pub byte-wide : (r : ℕ) (out₁ : List ℕ) → Laid (utf8Of c) out at r out₁ → Laid (decodeByte b) out at r out₁
+    byte-wide r out₁ l = laid-as (ap utf8Of (sym e)) l
 
 -- ---- put_each, put_text
 

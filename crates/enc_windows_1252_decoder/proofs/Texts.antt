@@ -1,24 +1,24 @@
 -- Laws of the decoding of a text: the only place that opens `decodeText` and `lengthBy`. Assumes nothing.
 use mathlib.Core.Path.{_≡_, refl, sym, ap, _∙_}
-use mathlib.Core.Bool.{Bool, true}
+use mathlib.Core.Bool.{Bool, true, false, cond}
 use mathlib.Core.List.{List, [], _∷_, _++_, append-assoc, flatMap}
 use Prim.Native.Nat.{ℕ, suc, _+_, _*_, _-_, _/_, _%_, _≤_, _<_}
 use native.Mathlib.Omega.{arith}
 use native.Mathlib.Numerals.{add-one}
 use lib.ListN.{length, getD, take, drop, length-append, take-append-drop, drop-of-length-le}
 use lib.Seq.{drop-cons, drop-drop}
-use lib.Dec.{leb}
+use lib.Dec.{leb, ltb}
 use mir.Syntax.{w8}
 use mir.Val.{Fits}
-use borrow.Author.Tests.{le-leb, leb-true, lt-ltb, le-ltb}
+use borrow.Author.Tests.{le-leb, leb-true, lt-ltb, le-ltb, ltb-true, ltb-false}
 use Rattle.enc_utf_8.specs.Utf8.{utf8Of, encoded, decodeFrom, noError, wellFormed}
 use Rattle.enc_utf_8.proofs.Encodes.{Bytes, utf8-one, utf8-two, utf8-short}
 use Rattle.enc_utf_8.proofs.Trips.{formed-utf8}
 use Rattle.enc_ascii.specs.Ascii.{isAscii}
 use Rattle.enc_ascii.proofs.Ascii.{ascii-first}
-use Rattle.enc_windows_1252.specs.Index.{listedPoints, codePoint, codePoints, table}
+use Rattle.enc_windows_1252.specs.Index.{listedPoints, codePoint, table}
 use Rattle.enc_windows_1252.specs.Text.{decodeByte, decodeText}
-use Rattle.enc_windows_1252.proofs.Indexes.{own-low, own-high, point-is}
+use Rattle.enc_windows_1252.proofs.Indexes.{own-low, own-high}
 use Rattle.enc_windows_1252.proofs.Table.{same}
 use Rattle.enc_windows_1252_decoder.specs.Lengths.{lengthBy}
 
@@ -44,24 +44,42 @@ all-lengths = refl
 pub rule-is : (b : ℕ) → b < 256 → lengthBy (codePoint b) ≡ length (decodeByte b)
 rule-is b h = same (λ (k : ℕ). lengthBy (codePoint k)) (λ (k : ℕ). length (decodeByte k)) 256 b 0 all-lengths h
 
--- ---- utf8_length_of: the entry of the table of code points tells the length
+-- ---- at_least, utf8_length_of: the code point tells the length
 
-module _ (l : List ℕ) (b : ℕ) (e : l ≡ codePoints) (h : b < 256) where
-  by-entry : lengthBy (getD l b 0) ≡ length (decodeByte b)
-  by-entry = ap lengthBy (point-is l b e h) ∙ rule-is b h
+pub at-least-no : (n l : ℕ) → n < l → _≡_ {A = ℕ} 0 (cond (ltb n l) 0 1)
+at-least-no n l h = rw (lt-ltb n l h)
 
-  pub length-one : getD l b 0 < 0x80 → 1 ≡ length (decodeByte b)
-  unfolding lengthBy
-  length-one s = rw (lt-ltb (getD l b 0) 0x80 s) at by-entry
+pub at-least-yes : (n l : ℕ) → l ≤ n → _≡_ {A = ℕ} 1 (cond (ltb n l) 0 1)
+at-least-yes n l h = rw (le-ltb n l h)
 
-  module _ (o : 0x80 ≤ getD l b 0) where
-    pub length-two : getD l b 0 < 0x800 → 2 ≡ length (decodeByte b)
-    unfolding lengthBy
-    length-two s = rw (le-ltb (getD l b 0) 0x80 o, lt-ltb (getD l b 0) 0x800 s) at by-entry
+-- the rule counts the limits that the code point reaches
+rule-counts : (c : ℕ) → 1 + cond (ltb c 0x80) 0 1 + cond (ltb c 0x800) 0 1 ≡ lengthBy c
+unfolding lengthBy
+rule-counts c = by (ltb c 0x80) (ltb c 0x800) refl refl
+  where
+    by : (t u : Bool) → ltb c 0x80 ≡ t → ltb c 0x800 ≡ u → 1 + cond t 0 1 + cond u 0 1 ≡ cond t 1 (cond u 2 3)
+    by true true q r = refl
+    by true false q r = absurd (omega (arith, ltb-true c 0x80 q, ltb-false c 0x800 r))
+    by false true q r = refl
+    by false false q r = refl
 
-    pub length-three : 0x800 ≤ getD l b 0 → 3 ≡ length (decodeByte b)
-    unfolding lengthBy
-    length-three s = rw (le-ltb (getD l b 0) 0x80 o, le-ltb (getD l b 0) 0x800 s) at by-entry
+pub length-counts : (b c d m n : ℕ) → b < 256 → c ≡ codePoint b → d ≡ codePoint b → m ≡ cond (ltb c 0x80) 0 1 → n ≡ cond (ltb d 0x800) 0 1 → 1 + m + n ≡ length (decodeByte b)
+length-counts b c d m n h e f p q = rw (p, q, e, f) (rule-counts (codePoint b) ∙ rule-is b h)
+
+-- ---- put_byte: a code point is not below its byte, and below 4000h
+
+pub point-from : (b c : ℕ) → b < 256 → 0x80 ≤ b → c ≡ codePoint b → 0x80 ≤ c
+unfolding listedPoints codePoint
+point-from b c h l e = omega (arith, leb-true b (codePoint b) (same (λ (k : ℕ). leb k (codePoint k)) (λ k. true) 256 b true refl h))
+
+pub point-below : (b c : ℕ) → b < 256 → c ≡ codePoint b → c < 0x4000
+unfolding listedPoints codePoint
+point-below b c h e = omega (arith, ltb-true (codePoint b) 0x4000 (same (λ (k : ℕ). ltb (codePoint k) 0x4000) (λ k. true) 256 b true refl h))
+
+-- from 800h on a byte's code point is from 2000h to 3FFFh, so that its bits above tell whether it takes three bytes
+pub point-third : (b c : ℕ) → b < 256 → c ≡ codePoint b → c / 0x2000 ≡ cond (ltb c 0x800) 0 1
+unfolding listedPoints codePoint
+point-third b c h e = rw e (same (λ (k : ℕ). codePoint k / 0x2000) (λ (k : ℕ). cond (ltb (codePoint k) 0x800) 0 1) 256 b 0 refl h)
 
 -- ---- most_more: ASCII takes one byte, 80h to 9Fh three at most, all others two
 

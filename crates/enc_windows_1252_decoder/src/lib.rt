@@ -1,33 +1,37 @@
 // The Windows-1252 decoder: bytes to UTF-8. It goes by blocks of at most 64 bytes, of which one that is ASCII throughout is only copied.
 ghost use mathlib.Core.Path.{_≡_};
-ghost use mathlib.Core.Bool.{true};
-ghost use Prim.Native.Nat.{_+_, _≤_};
+ghost use mathlib.Core.Bool.{true, cond};
+ghost use Prim.Native.Nat.{_+_, _/_, _≤_, _<_};
 ghost use lib.ListN.{length};
-ghost use lib.Dec.{leb};
+ghost use lib.Dec.{leb, ltb};
 ghost use Rattle.enc_utf_8.specs.Buffer.{Wrote, Laid, roomFor};
-ghost use Rattle.enc_windows_1252.specs.Index.{codePoints};
+ghost use Rattle.enc_utf_8.specs.Utf8.{utf8Of};
 ghost use Rattle.enc_windows_1252.specs.Text.{decodeByte, decodeText};
 use enc_ascii::block_end;
 use enc_ascii::copy;
 use enc_ascii::is_ascii;
 use enc_utf_8::Put;
 use enc_utf_8::Room;
-use enc_utf_8_encoder::put;
-use enc_windows_1252::code_points;
+use enc_windows_1252::code_point;
 
-// How many bytes a byte's code point takes in UTF-8. It follows from the code point: 1 below 80h, 2 below 800h, else 3.
-fn utf8_length_of(points: &[u32; 256], byte: u8) -> usize
-    requires { ⌜ now points ≡ codePoints ⌝ }
+// 1 where a number is at least another, else 0: to be added, since a branch for each byte would be slow.
+fn at_least(number: u32, least: u32) -> u32
+    ensures { λ r. ⌜ (r ≡ cond (ltb number least) 0 1) × (r ≤ 1) ⌝ }
+{
+    if number < least {
+        return 0;
+    }
+    1
+}
+
+// How many bytes a byte's code point takes in UTF-8. It follows from the code point: 1 below 80h, 2 below 800h, else 3. The code point is asked for
+// twice, so that each comparison becomes a mask of bits and no branch.
+fn utf8_length_of(byte: u8) -> usize
     ensures { λ r. ⌜ (r ≡ length (decodeByte byte)) × (r ≤ 3) ⌝ }
 {
-    let code = points[byte as usize];
-    if code < 0x80 {
-        return 1;
-    }
-    if code < 0x800 {
-        return 2;
-    }
-    3
+    let second = at_least(code_point(byte), 0x80);
+    let third = at_least(code_point(byte), 0x800);
+    (1 + second + third) as usize
 }
 
 // The length of a block's text.
@@ -38,11 +42,10 @@ fn block_len(block: &[u8]) -> usize
     if is_ascii(block) {
         return block.len();
     }
-    let points = code_points();
     let mut n: usize = 0;
     let mut i = 0;
     while i < block.len() {
-        n += utf8_length_of(&points, block[i]);
+        n += utf8_length_of(block[i]);
         i += 1;
     }
     n
@@ -66,9 +69,23 @@ pub fn decoded_len(bytes: &[u8], room: usize) -> Room
     Room::Fits(n)
 }
 
+// Writes a code point of two or three bytes, without a branch. From 800h on it is 2000h to 3FFFh, so that a division tells which. The first byte
+// of three is written in any case: for two, the next write replaces it.
+fn put_wide(code: u32, out: &mut [u8], at: usize) -> usize
+    requires { ⌜ (0x80 ≤ code) × (code < 0x4000) × (code / 0x2000 ≡ cond (ltb code 0x800) 0 1) ⌝ }
+    requires { ⌜ at + length (utf8Of code) ≤ length (now out) ⌝ }
+    ensures { λ r. ⌜ Laid (utf8Of code) (now (out .entry)) at r (now (out .exit)) ⌝ }
+{
+    let third = code / 0x2000;
+    let last = at + third as usize;
+    out[at] = (0xe0 + code / 4096) as u8;
+    out[last] = (0xc0 + code / 64 % 64 - 64 * third) as u8;
+    out[last + 1] = (0x80 + code % 64) as u8;
+    last + 2
+}
+
 // Writes one byte's text. ASCII is told first, and then the bytes from A0h on, whose code points are their own numbers.
-fn put_byte(points: &[u32; 256], byte: u8, out: &mut [u8], at: usize) -> usize
-    requires { ⌜ now points ≡ codePoints ⌝ }
+fn put_byte(byte: u8, out: &mut [u8], at: usize) -> usize
     requires { ⌜ at + length (decodeByte byte) ≤ length (now out) ⌝ }
     ensures { λ r. ⌜ Laid (decodeByte byte) (now (out .entry)) at r (now (out .exit)) ⌝ }
 {
@@ -81,31 +98,25 @@ fn put_byte(points: &[u32; 256], byte: u8, out: &mut [u8], at: usize) -> usize
         out[at + 1] = 0x80 + byte % 64;
         return at + 2;
     }
-    match put(out, at, points[byte as usize]) {
-        Put::Next(next) => next,
-        // never: the text fits
-        Put::Full => at,
-    }
+    put_wide(code_point(byte), out, at)
 }
 
 // Writes the text of a block, byte by byte.
-fn put_each(points: &[u32; 256], block: &[u8], out: &mut [u8], at: usize) -> usize
-    requires { ⌜ now points ≡ codePoints ⌝ }
+fn put_each(block: &[u8], out: &mut [u8], at: usize) -> usize
     requires { ⌜ at + length (decodeText (now block)) ≤ length (now out) ⌝ }
     ensures { λ r. ⌜ Laid (decodeText (now (block .entry))) (now (out .entry)) at r (now (out .exit)) ⌝ }
 {
     let mut next = at;
     let mut i = 0;
     while i < block.len() {
-        next = put_byte(points, block[i], out, next);
+        next = put_byte(block[i], out, next);
         i += 1;
     }
     next
 }
 
 // Writes the text of a block.
-fn put_block(points: &[u32; 256], block: &[u8], out: &mut [u8], at: usize) -> usize
-    requires { ⌜ now points ≡ codePoints ⌝ }
+fn put_block(block: &[u8], out: &mut [u8], at: usize) -> usize
     requires { ⌜ at + length (decodeText (now block)) ≤ length (now out) ⌝ }
     ensures { λ r. ⌜ Laid (decodeText (now (block .entry))) (now (out .entry)) at r (now (out .exit)) ⌝ }
 {
@@ -116,20 +127,19 @@ fn put_block(points: &[u32; 256], block: &[u8], out: &mut [u8], at: usize) -> us
             Put::Full => at,
         };
     }
-    put_each(points, block, out, at)
+    put_each(block, out, at)
 }
 
-// Writes the text of some bytes, which fits. The table of code points is taken once for all blocks.
+// Writes the text of some bytes, which fits.
 fn put_text(bytes: &[u8], out: &mut [u8], at: usize) -> usize
     requires { ⌜ at + length (decodeText (now bytes)) ≤ length (now out) ⌝ }
     ensures { λ r. ⌜ Laid (decodeText (now (bytes .entry))) (now (out .entry)) at r (now (out .exit)) ⌝ }
 {
-    let points = code_points();
     let mut next = at;
     let mut i = 0;
     while i < bytes.len() {
         let end = block_end(i, bytes.len());
-        next = put_block(&points, &bytes[i..end], out, next);
+        next = put_block(&bytes[i..end], out, next);
         i = end;
     }
     next

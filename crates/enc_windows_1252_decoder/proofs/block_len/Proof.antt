@@ -10,11 +10,11 @@ use Rattle.enc_windows_1252_decoder.proofs.block_len.Statement.{stateme
 use Rattle.enc_windows_1252_decoder.proofs.block_len.Tie as tie
 
 abbrev Inv-loop : tie.InvT-loop
-Inv-loop block points n₀ i₀ n i =
+Inv-loop block n₀ i₀ n i =
     (i ≤ length block) × (n ≤ 3 * i) × (n + length (decodeText (drop i block)) ≡ length (decodeText block))
 
 abbrev μ-loop : tie.MeasureT-loop
-μ-loop block points n₀ i₀ n i =
+μ-loop block n₀ i₀ n i =
     length block - i
 
 is-ascii-requires : tie.Need-is-ascii-requires Inv-loop μ-loop
@@ -22,9 +22,6 @@ is-ascii-requires c κs = search needs
 
 returns : tie.Need-returns Inv-loop μ-loop
 returns c = search ascii-length
-
-code-points-requires : tie.Need-code-points-requires Inv-loop μ-loop
-code-points-requires c κs = search needs
 
 loop-holds : tie.Need-loop-holds Inv-loop μ-loop
 loop-holds c =
@@ -60,7 +57,6 @@ block-len-spec =
     μ-loop
     is-ascii-requires
     returns
-    code-points-requires
     loop-holds
     shared-slice-read-utf8-length-of
     utf8-length-of-requires

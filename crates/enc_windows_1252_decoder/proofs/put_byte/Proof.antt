@@ -1,6 +1,7 @@
 -- `put_byte` meets its contract: a law for each exit. Assumes nothing.
 use borrow.Author.Needs.{needs}
-use Rattle.enc_windows_1252_decoder.proofs.Decoders.{byte-room, byte-ascii, first-room, high-room, byte-high, byte-next, byte-never}
+use Rattle.enc_windows_1252_decoder.proofs.Texts.{point-from, point-below, point-third}
+use Rattle.enc_windows_1252_decoder.proofs.Decoders.{byte-room, byte-ascii, first-room, high-room, byte-high, wide-room, byte-wide}
 use Rattle.enc_windows_1252_decoder.proofs.put_byte.Statement.{statement}
 use Rattle.enc_windows_1252_decoder.proofs.put_byte.Tie as tie
 
@@ -40,32 +41,17 @@ same-length-2 c = search needs
 returns-2 : tie.Need-returns-2
 returns-2 c = search byte-high
 
-mul-put : tie.Need-mul-put
-mul-put c = search needs
+code-point-requires : tie.Need-code-point-requires
+code-point-requires c κs = search needs
 
-element-copy-out-put : tie.Need-element-copy-out-put
-element-copy-out-put c = search needs
-
-put-requires : tie.Need-put-requires
-put-requires c κs = search needs
-
-enum-known-next : tie.Need-enum-known-next
-enum-known-next c = search needs
-
-enum-told : tie.Need-enum-told
-enum-told c = search needs
+put-wide-requires : tie.Need-put-wide-requires
+put-wide-requires c κs = ((search point-from, search point-below, search point-third), search wide-room)
 
 same-length-3 : tie.Need-same-length-3
 same-length-3 c = search needs
 
 returns-3 : tie.Need-returns-3
-returns-3 c = search byte-next
-
-same-length-4 : tie.Need-same-length-4
-same-length-4 c = search needs
-
-returns-4 : tie.Need-returns-4
-returns-4 c = search byte-never
+returns-3 c = search byte-wide
 
 pub put-byte-spec : {M : Type 1} → statement M
 put-byte-spec =
@@ -83,12 +69,7 @@ put-byte-spec =
     add-result-2
     same-length-2
     returns-2
-    mul-put
-    element-copy-out-put
-    put-requires
-    enum-known-next
-    enum-told
+    code-point-requires
+    put-wide-requires
     same-length-3
-    returns-3
-    same-length-4
-    returns-4)
+    returns-3)

@@ -9,11 +9,11 @@ use Rattle.enc_windows_1252_decoder.proofs.put_each.Statement.{statemen
 use Rattle.enc_windows_1252_decoder.proofs.put_each.Tie as tie
 
 abbrev Inv-loop : tie.InvT-loop
-Inv-loop points block out₀ at next₀ i₀ out next i =
+Inv-loop block out₀ at next₀ i₀ out next i =
     (i ≤ length block) × Rest (decodeText block) out₀ at (decodeText (drop i block)) out next
 
 abbrev μ-loop : tie.MeasureT-loop
-μ-loop points block out₀ at next₀ i₀ out next i =
+μ-loop block out₀ at next₀ i₀ out next i =
     length block - i
 
 loop-holds : tie.Need-loop-holds Inv-loop μ-loop
@@ -23,7 +23,7 @@ shared-slice-read-put-byte : tie.Need-shared-slice-read-put-byte Inv-loop μ-loo
 shared-slice-read-put-byte c = search needs
 
 put-byte-requires : tie.Need-put-byte-requires Inv-loop μ-loop
-put-byte-requires c κs = (search needs, search each-room)
+put-byte-requires c κs = search each-room
 
 add-i : tie.Need-add-i Inv-loop μ-loop
 add-i c = search needs

@@ -9,15 +9,12 @@ use Rattle.enc_windows_1252_decoder.proofs.put_text.Statement.{statemen
 use Rattle.enc_windows_1252_decoder.proofs.put_text.Tie as tie
 
 abbrev Inv-loop : tie.InvT-loop
-Inv-loop bytes out₀ at points next₀ i₀ out next i =
+Inv-loop bytes out₀ at next₀ i₀ out next i =
     (i ≤ length bytes) × Rest (decodeText bytes) out₀ at (decodeText (drop i bytes)) out next
 
 abbrev μ-loop : tie.MeasureT-loop
-μ-loop bytes out₀ at points next₀ i₀ out next i =
+μ-loop bytes out₀ at next₀ i₀ out next i =
     length bytes - i
-
-code-points-requires : tie.Need-code-points-requires Inv-loop μ-loop
-code-points-requires c κs = search needs
 
 loop-holds : tie.Need-loop-holds Inv-loop μ-loop
 loop-holds c = (search needs, search rest-all)
@@ -35,7 +32,7 @@ part-put-block-end : tie.Need-part-put-block-end Inv-loop μ-loop
 part-put-block-end c = search needs
 
 put-block-requires : tie.Need-put-block-requires Inv-loop μ-loop
-put-block-requires c κs = (search needs, search part-room)
+put-block-requires c κs = search part-room
 
 loop-less : tie.Need-loop-less Inv-loop μ-loop
 loop-less c = search needs
@@ -55,7 +52,6 @@ put-text-spec =
     (tie.spec
     Inv-loop
     μ-loop
-    code-points-requires
     loop-holds
     block-end-requires
     sub-put-block
