@@ -1,6 +1,8 @@
 //! The recorded answers of crates/vectors/data, over the boundary: every operation that has an export. tools/case_file.py has the
 //! format, docs/DIFFERENCES.md says where each answer comes from.
 
+mod groups;
+
 use std::collections::BTreeMap;
 use std::path::Path;
 use typebook::calls;
@@ -134,6 +136,7 @@ fn answer(operation: u8, given: &[u8], lent: usize, kept: &mut Kept) -> Option<V
             put(place, &out)
         }
         13 => vec![u8::from(calls::utf_8_well_formed(given))],
+        17..=22 => group(operation, parts, kept.book()),
         64 => {
             let place = parts.number(4) as usize;
             kept.unpack(place, parts);
@@ -150,6 +153,35 @@ fn answer(operation: u8, given: &[u8], lent: usize, kept: &mut Kept) -> Option<V
         74 => write(parts.u8(), parts.number(4), parts, kept.book(), &mut out),
         _ => return None,
     })
+}
+
+/// The sum of a group's texts: of the decoder, which the twin's has to equal, or of the reader.
+fn group(operation: u8, mut parts: Parts, book: &[u8]) -> Vec<u8> {
+    let inputs = match operation {
+        17 | 20 => groups::pairs(parts.u8()),
+        18 | 21 => groups::leads(parts.u8()),
+        _ => groups::random(parts.number(8)),
+    };
+    let decoded = |input: &Vec<u8>| {
+        let text = typebook::text::from_utf_8(input);
+        assert_eq!(text, twin::text::utf_8_decode(input), "{input:x?}");
+        text.into_bytes()
+    };
+    let total = match operation {
+        17..=19 => groups::sum(inputs.iter().map(decoded)),
+        _ => groups::sum(inputs.into_iter().map(|input| marked(input, book))),
+    };
+    total.to_le_bytes().to_vec()
+}
+
+/// The text of block 0, a STRING of 40 bytes.
+fn marked(mut memory: Vec<u8>, book: &[u8]) -> Vec<u8> {
+    memory.resize(40, 0);
+    let (mut tape, mut text, mut v) = ([0; 24], vec![0; 120], [0; 2]);
+    let n = calls::read(book, book.len(), 8, 0, &memory, &mut tape, &mut text, &mut v);
+    assert_eq!(n, 0, "{memory:x?}");
+    text.truncate(v[1] as usize);
+    text
 }
 
 /// 1 to 5 stand before any other refusal of a call on a root.
@@ -321,7 +353,9 @@ fn recorded_answers() {
         }
     }
     println!("replayed by operation: {replayed:?}");
-    for operation in [5, 7, 10, 12, 13, 64, 65, 66, 67, 68, 69, 70, 71, 72, 73, 74] {
+    for operation in [
+        5, 7, 10, 12, 13, 17, 18, 19, 20, 21, 22, 64, 65, 66, 67, 68, 69, 70, 71, 72, 73, 74,
+    ] {
         assert!(
             replayed.contains_key(&operation),
             "no recorded case of operation {operation}"
