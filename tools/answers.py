@@ -9,10 +9,17 @@ import subprocess
 import sys
 
 
-def oracle(folder):
-    """(the module book, a running oracle) of the oracle's folder."""
+def books(folder):
+    """The module book of the oracle's folder."""
     sys.path.insert(0, os.path.abspath(folder))
     import book
+
+    return book
+
+
+def oracle(folder):
+    """(the module book, a running oracle) of the oracle's folder."""
+    book = books(folder)
     import client
 
     return book, client.Oracle()

@@ -28,6 +28,10 @@ first layer, with their inputs and answers (u16, u32, u64: numbers; `lent`: all 
                                                                        an ill-formed part, and u32 place after it
     15  enc_utf_8_encoder::put             u16 place, u32 code point   0, u64 next place, lent; or 15, lent
     16  enc_utf_8_encoder::utf8_len        u32 code point              byte
+    17  enc_utf_8_replacing::decode, pairs first byte                  u64 sum of the texts of the group that record_marked_strings.py names
+    18  the same, leads                    first byte                  as 17
+    19  the same, random                   u64 state                   as 17
+20..22  read, pairs, leads, random        as 17 to 19                 as 17, by reads of the kept book's block 0
     32  AdsTypeId                          u32                         its place in the list of ids (Unknown: 17), u32 back
     33  le::le_value                       bytes                       u64
     34  le::le_u32                         bytes                       u32
@@ -75,6 +79,7 @@ FILL = 0xA5
 CODE_POINT, BYTE_OF, STRING_END, DECODED_LEN, DECODE, ENCODED_LEN, ENCODE = range(1, 8)
 WSTRING_END, WDECODED_LEN, WDECODE, WENCODED_LEN, WENCODE = range(8, 13)
 WELL_FORMED, ITEMS, PUT, UTF8_LEN = range(13, 17)
+UTF_8_PAIRS, UTF_8_LEADS, UTF_8_RANDOM, READ_PAIRS, READ_LEADS, READ_RANDOM = range(17, 23)
 TYPE_ID, LE_VALUE, LE_U32, LE_STORE, INTEGER_READ, INTEGER_WRITE, REAL_READ, REAL_WRITE = range(32, 40)
 BOOK, CHECK, CHANGED, CATEGORY, ALIAS, INDIRECTION, RMW, MISSING, FIELDS, READ, WRITE = range(64, 75)
 

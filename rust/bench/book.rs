@@ -79,7 +79,7 @@ fn trial(rounds: usize) {
         }
         let len = if next() % 4 == 0 { next() } else { next() % 9 * BLOCK };
         let answer = unsafe { gateway_check_book(book.as_ptr(), book.len(), len) };
-        if len == 0 || len % BLOCK != 0 || len > book.len() {
+        if len % BLOCK != 0 || len > book.len() {
             assert_eq!(answer, 1);
         } else if !sums(&book[..len]) {
             assert_eq!(answer, 2);

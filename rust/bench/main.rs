@@ -2,13 +2,13 @@
 //! checks and look-ups of a type book (book.rs).
 //!
 //! Each line has the median of the rounds, in megabytes of input a second, of both, and the port's speed as a part of the
-//! Rust's (1.00: equal, above: faster). Both write into a buffer that is there before; the two take turns.
+//! Rust's (1.00: equal, above: faster). Both write into a buffer that is there before; the two take turns. The encodings are
+//! timed by what they take of the processor, so that a round is not longer because another program was let in between.
 
 mod book;
 
 use encoding_rs::{CoderResult, Encoding, UTF_8, UTF_16LE, WINDOWS_1252};
 use std::hint::black_box;
-use std::time::Instant;
 
 const ROUNDS: usize = 31;
 const SIZE: usize = 1 << 20;
@@ -110,16 +110,36 @@ fn made(pieces: &[&str], size: usize) -> String {
 
 /// How often a text is taken in one measurement, so that short ones can be timed.
 fn turns(input: &[u8]) -> usize {
-    (SIZE / 16 / input.len()).max(1)
+    (SIZE / input.len()).max(1)
+}
+
+/// A time as the C library has it.
+#[repr(C)]
+struct Time {
+    seconds: i64,
+    nanoseconds: i64,
+}
+
+unsafe extern "C" {
+    fn clock_gettime(clock: i32, time: *mut Time) -> i32;
+}
+
+/// Linux's number of the clock that counts a thread's time on the processor.
+const THREAD: i32 = 3;
+
+fn on_processor() -> f64 {
+    let mut time = Time { seconds: 0, nanoseconds: 0 };
+    assert_eq!(unsafe { clock_gettime(THREAD, &mut time) }, 0);
+    time.seconds as f64 + time.nanoseconds as f64 / 1e9
 }
 
 fn seconds(call: Call, input: &[u8], out: &mut [u8]) -> f64 {
     let turns = turns(input);
-    let start = Instant::now();
+    let start = on_processor();
     for _ in 0..turns {
         black_box(call(black_box(input), black_box(out)));
     }
-    start.elapsed().as_secs_f64() / turns as f64
+    (on_processor() - start) / turns as f64
 }
 
 fn median(mut times: Vec<f64>) -> f64 {

@@ -3,6 +3,7 @@
 mod answer;
 mod books;
 mod encodings;
+mod groups;
 mod lent;
 mod numbers;
 mod operation;
@@ -40,4 +41,5 @@ fn reads_and_writes(book: &mut [u8]) {
     replay::file(b"reads", book);
     replay::file(b"limits", book);
     replay::file(b"writes", book);
+    replay::file(b"marked-strings", book);
 }

@@ -4,10 +4,12 @@ use crate::answer::Reply;
 use crate::answer::put_bytes;
 use crate::books;
 use crate::encodings;
+use crate::groups;
 use crate::numbers;
 use crate::reads;
 use crate::resolving;
 use crate::writes;
+use cases_file::input::first;
 use cases_file::input::u32_at;
 
 // The operation that answers with as many numbers as its text has code points.
@@ -57,6 +59,9 @@ fn reply_of(operation: u8, input: &[u8], book: &mut [u8], len: usize, out: &mut 
     }
     if operation >= 32 {
         return numbers::run(operation, input, out);
+    }
+    if operation >= 17 {
+        return groups::run(operation, input, first(book, len));
     }
     if operation >= 13 {
         return encodings::run_utf_8(operation, input, out);

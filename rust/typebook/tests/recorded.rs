@@ -1,5 +1,7 @@
-//! The recorded answers of crates/vectors/data, over the boundary: every operation that has an export. tools/case_file.py has the
-//! format, docs/DIFFERENCES.md says where each answer comes from.
+//! The recorded answers of crates/vectors/data, over the boundary: every operation that has an export, those on a root that is a type
+//! also with the root given by its name. tools/case_file.py has the format, docs/DIFFERENCES.md says where each answer comes from.
+
+mod groups;
 
 use std::collections::BTreeMap;
 use std::path::Path;
@@ -8,6 +10,7 @@ use typebook::calls;
 const FILL: u8 = 0xA5;
 
 /// Takes parts off the front of bytes.
+#[derive(Clone, Copy)]
 struct Parts<'a>(&'a [u8]);
 
 impl<'a> Parts<'a> {
@@ -41,6 +44,19 @@ fn unpacked(parts: &mut Parts, n: usize) -> Vec<u8> {
         }
     }
     out
+}
+
+/// A root as a call takes it.
+#[derive(Clone, Copy)]
+enum Root<'a> {
+    Block(u64),
+    Name(&'a [u8]),
+}
+
+/// The name of a root that is a type block.
+fn name_of(book: &[u8], root: u64) -> Option<&[u8]> {
+    let block = book.chunks_exact(512).nth(root as usize)?;
+    (block[0] == 1).then(|| &block[54..][..usize::from(block[52])])
 }
 
 /// A buffer that is kept from case to case, and the length of the book in it.
@@ -134,6 +150,7 @@ fn answer(operation: u8, given: &[u8], lent: usize, kept: &mut Kept) -> Option<V
             put(place, &out)
         }
         13 => vec![u8::from(calls::utf_8_well_formed(given))],
+        17..=22 => group(operation, parts, kept.book()),
         64 => {
             let place = parts.number(4) as usize;
             kept.unpack(place, parts);
@@ -146,10 +163,39 @@ fn answer(operation: u8, given: &[u8], lent: usize, kept: &mut Kept) -> Option<V
             parts.u8(),
             parts.u8() == 1,
         )],
-        67..=73 => on_root(operation, parts.u8(), parts.number(4), parts, kept.book()),
-        74 => write(parts.u8(), parts.number(4), parts, kept.book(), &mut out),
+        67 => vec![category(parts.u8(), parts.number(4) as u32, kept.book())],
+        68..=74 => both_ways(operation, parts, kept.book(), &mut out),
         _ => return None,
     })
+}
+
+/// The sum of a group's texts: of the decoder, which the twin's has to equal, or of the reader.
+fn group(operation: u8, mut parts: Parts, book: &[u8]) -> Vec<u8> {
+    let inputs = match operation {
+        17 | 20 => groups::pairs(parts.u8()),
+        18 | 21 => groups::leads(parts.u8()),
+        _ => groups::random(parts.number(8)),
+    };
+    let decoded = |input: &Vec<u8>| {
+        let text = typebook::text::from_utf_8(input);
+        assert_eq!(text, twin::text::utf_8_decode(input), "{input:x?}");
+        text.into_bytes()
+    };
+    let total = match operation {
+        17..=19 => groups::sum(inputs.iter().map(decoded)),
+        _ => groups::sum(inputs.into_iter().map(|input| marked(input, book))),
+    };
+    total.to_le_bytes().to_vec()
+}
+
+/// The text of block 0, a STRING of 40 bytes.
+fn marked(mut memory: Vec<u8>, book: &[u8]) -> Vec<u8> {
+    memory.resize(40, 0);
+    let (mut tape, mut text, mut v) = ([0; 24], vec![0; 120], [0; 2]);
+    let n = calls::read(book, book.len(), 8, 0, &memory, &mut tape, &mut text, &mut v);
+    assert_eq!(n, 0, "{memory:x?}");
+    text.truncate(v[1] as usize);
+    text
 }
 
 /// 1 to 5 stand before any other refusal of a call on a root.
@@ -170,29 +216,50 @@ fn changed(book: &[u8], place: usize, value: u8, mended: bool) -> u8 {
     calls::check_book(&book, book.len())
 }
 
-fn on_root(operation: u8, width: u8, root: u64, parts: Parts, book: &[u8]) -> Vec<u8> {
-    let len = book.len();
-    let mut v = [0; 2];
+fn category(width: u8, block: u32, book: &[u8]) -> u8 {
+    let mut v = [0];
+    calls::determine(book, width, block, &mut v);
+    v[0] as u8
+}
+
+/// What a call on a root answers; by the root's name, where it has one, it has to answer the same.
+fn both_ways(operation: u8, mut parts: Parts, book: &[u8], out: &mut [u8]) -> Vec<u8> {
+    let (width, root) = (parts.u8(), parts.number(4));
+    if let Some(name) = name_of(book, root) {
+        let named = on_root(operation, width, Root::Name(name), parts, book, out);
+        out.fill(FILL);
+        let told = on_root(operation, width, Root::Block(root), parts, book, out);
+        assert!(
+            named == told,
+            "operation {operation}, {name:?}: {named:02X?}, not {told:02X?}"
+        );
+        return told;
+    }
+    on_root(operation, width, Root::Block(root), parts, book, out)
+}
+
+fn on_root(operation: u8, width: u8, root: Root, parts: Parts, book: &[u8], out: &mut [u8]) -> Vec<u8> {
     match operation {
-        67 => {
-            calls::determine(book, width, root as u32, &mut v);
-            vec![v[0] as u8]
-        }
-        68 | 69 => {
-            let resolve = if operation == 68 {
-                calls::resolve_alias
-            } else {
-                calls::resolve_indirection
-            };
-            match resolve(book, len, width, root, &mut v) {
-                0 => [vec![0], u32s(&[v[0] as u32])].concat(),
-                n => refusal(n, v[0]),
-            }
-        }
+        68 | 69 => resolved(operation, width, root, book),
         70 => rmw(width, root, parts, book),
         71 => missing(width, root, parts, book),
         72 => fields(width, root, parts, book),
-        _ => read(width, root, parts, book),
+        73 => read(width, root, parts, book),
+        _ => write(width, root, parts, book, out),
+    }
+}
+
+fn resolved(operation: u8, width: u8, root: Root, book: &[u8]) -> Vec<u8> {
+    let (len, mut v) = (book.len(), [0; 2]);
+    let n = match (operation, root) {
+        (68, Root::Block(root)) => calls::resolve_alias(book, len, width, root, &mut v),
+        (68, Root::Name(name)) => calls::resolve_alias_named(book, len, width, name, &mut v),
+        (_, Root::Block(root)) => calls::resolve_indirection(book, len, width, root, &mut v),
+        (_, Root::Name(name)) => calls::resolve_indirection_named(book, len, width, name, &mut v),
+    };
+    match n {
+        0 => [vec![0], u32s(&[v[0] as u32])].concat(),
+        n => refusal(n, v[0]),
     }
 }
 
@@ -214,19 +281,27 @@ fn scratch_kept(answer: u8, scratch: &[u32]) -> u8 {
     }
 }
 
-fn rmw(width: u8, root: u64, mut parts: Parts, book: &[u8]) -> Vec<u8> {
+fn rmw(width: u8, root: Root, mut parts: Parts, book: &[u8]) -> Vec<u8> {
     let (mut scratch, mut v) = (lent(&mut parts), [0]);
     let index = vec![u32::MAX; calls::INDEX];
-    let n = calls::requires_read_modify_write(book, book.len(), &index, width, root, &mut scratch, &mut v);
+    let (len, lent) = (book.len(), &mut scratch[..]);
+    let n = match root {
+        Root::Block(root) => calls::requires_read_modify_write(book, len, &index, width, root, lent, &mut v),
+        Root::Name(name) => calls::requires_read_modify_write_named(book, len, &index, width, name, lent, &mut v),
+    };
     let told = if n == 0 { vec![0, v[0] as u8] } else { refusal(n, v[0]) };
     [told, vec![scratch_kept(n, &scratch)]].concat()
 }
 
-fn missing(width: u8, root: u64, mut parts: Parts, book: &[u8]) -> Vec<u8> {
+fn missing(width: u8, root: Root, mut parts: Parts, book: &[u8]) -> Vec<u8> {
     let (mut scratch, mut list, mut v) = (lent(&mut parts), lent(&mut parts), [0; 3]);
     let mut index = vec![0; calls::INDEX];
     calls::build_index(book, book.len(), &mut index);
-    let n = calls::missing_types(book, book.len(), &index, width, root, &mut scratch, &mut list, &mut v);
+    let (len, lent, room) = (book.len(), &mut scratch[..], &mut list[..]);
+    let n = match root {
+        Root::Block(root) => calls::missing_types(book, len, &index, width, root, lent, room, &mut v),
+        Root::Name(name) => calls::missing_types_named(book, len, &index, width, name, lent, room, &mut v),
+    };
     let listed = v[0] as usize;
     let told = match n {
         0 => [vec![0, v[1] as u8], u32s(&[v[2] as u32]), u32s(&list[..listed])].concat(),
@@ -235,9 +310,13 @@ fn missing(width: u8, root: u64, mut parts: Parts, book: &[u8]) -> Vec<u8> {
     [told, vec![kept(&list, listed), scratch_kept(n, &scratch)]].concat()
 }
 
-fn fields(width: u8, root: u64, mut parts: Parts, book: &[u8]) -> Vec<u8> {
+fn fields(width: u8, root: Root, mut parts: Parts, book: &[u8]) -> Vec<u8> {
     let (mut records, mut v) = (lent(&mut parts), [0]);
-    match calls::resolve_fields(book, book.len(), width, root, &mut records, &mut v) {
+    let n = match root {
+        Root::Block(root) => calls::resolve_fields(book, book.len(), width, root, &mut records, &mut v),
+        Root::Name(name) => calls::resolve_fields_named(book, book.len(), width, name, &mut records, &mut v),
+    };
+    match n {
         0 => {
             let (filled, rest) = records.split_at(4 * v[0] as usize);
             [vec![0], u32s(filled), vec![kept(rest, 0)]].concat()
@@ -247,11 +326,14 @@ fn fields(width: u8, root: u64, mut parts: Parts, book: &[u8]) -> Vec<u8> {
 }
 
 /// 0, records, text bytes, the records, kept (tape), the text, kept (text), nothing packed; or a refusal and both.
-fn read(width: u8, root: u64, mut parts: Parts, book: &[u8]) -> Vec<u8> {
+fn read(width: u8, root: Root, mut parts: Parts, book: &[u8]) -> Vec<u8> {
     let mut tape = vec![FILL; parts.number(2) as usize];
     let mut text = vec![FILL; parts.number(2) as usize];
     let mut v = [0; 2];
-    let n = calls::read(book, book.len(), width, root, parts.0, &mut tape, &mut text, &mut v);
+    let n = match root {
+        Root::Block(root) => calls::read(book, book.len(), width, root, parts.0, &mut tape, &mut text, &mut v),
+        Root::Name(name) => calls::read_named(book, book.len(), width, name, parts.0, &mut tape, &mut text, &mut v),
+    };
     let all = |bytes: &[u8], value| u8::from(bytes.iter().all(|&b| b == value));
     if n != 0 {
         return [refusal(n, v[0]), vec![all(&tape, 0), all(&text, 0)]].concat();
@@ -270,7 +352,7 @@ fn read(width: u8, root: u64, mut parts: Parts, book: &[u8]) -> Vec<u8> {
 }
 
 /// 0 or a refusal, and the output.
-fn write(width: u8, root: u64, mut parts: Parts, book: &[u8], out: &mut [u8]) -> Vec<u8> {
+fn write(width: u8, root: Root, mut parts: Parts, book: &[u8], out: &mut [u8]) -> Vec<u8> {
     let (image, text) = (parts.number(2) as usize, parts.number(2) as usize);
     let (image, text) = (parts.bytes(image), parts.bytes(text));
     let mut tape = Vec::new();
@@ -278,7 +360,10 @@ fn write(width: u8, root: u64, mut parts: Parts, book: &[u8], out: &mut [u8]) ->
         tape.extend(unpacked(&mut parts, 1));
     }
     let mut v = [0];
-    let n = calls::write(book, book.len(), width, root, image, &tape, text, out, &mut v);
+    let n = match root {
+        Root::Block(root) => calls::write(book, book.len(), width, root, image, &tape, text, out, &mut v),
+        Root::Name(name) => calls::write_named(book, book.len(), width, name, image, &tape, text, out, &mut v),
+    };
     [refusal(n, v[0]), out.to_vec()].concat()
 }
 
@@ -321,7 +406,9 @@ fn recorded_answers() {
         }
     }
     println!("replayed by operation: {replayed:?}");
-    for operation in [5, 7, 10, 12, 13, 64, 65, 66, 67, 68, 69, 70, 71, 72, 73, 74] {
+    for operation in [
+        5, 7, 10, 12, 13, 17, 18, 19, 20, 21, 22, 64, 65, 66, 67, 68, 69, 70, 71, 72, 73, 74,
+    ] {
         assert!(
             replayed.contains_key(&operation),
             "no recorded case of operation {operation}"

@@ -1,83 +1,11 @@
-//! STRINGs in UTF-8: the decoder against sums recorded with encoding_rs (tools/record_utf_8.py), the mark in a type block, reads and
-//! writes of marked STRINGs.
+//! STRINGs in UTF-8: some texts by hand, the mark in a type block, reads and writes of marked STRINGs. tests/recorded.rs holds the
+//! decoder and the reader against encoding_rs.
 
 use twin::make::{Type, book};
 use typebook::{Refusal, TapeBuilder, TypeBook, Value, text};
 
 const WIDTH: u8 = 8;
 const MARK: u8 = 32;
-const SECOND: [u8; 11] = [0x41, 0x7F, 0x80, 0x8F, 0x90, 0x9F, 0xA0, 0xBF, 0xC0, 0xE2, 0xFF];
-const LATER: [u8; 6] = [0x41, 0x7F, 0x80, 0xBF, 0xC0, 0xF1];
-const POOL: [u8; 19] = [
-    0x41, 0x7F, 0x80, 0x8F, 0x90, 0x9F, 0xA0, 0xBF, 0xC2, 0xDF, 0xE0, 0xE2, 0xED, 0xEF, 0xF0, 0xF3, 0xF4, 0xF5, 0xFF,
-];
-
-/// The recorder's sequence.
-struct Draw(u64);
-
-impl Draw {
-    fn below(&mut self, n: usize) -> usize {
-        self.0 = self
-            .0
-            .wrapping_mul(6_364_136_223_846_793_005)
-            .wrapping_add(1_442_695_040_888_963_407);
-        (self.0 >> 32) as usize % n
-    }
-
-    fn drawn(&mut self) -> Vec<u8> {
-        let plain = self.below(2) == 0;
-        let len = self.below(40);
-        (0..len)
-            .map(|_| match plain {
-                true => self.below(256) as u8,
-                false => POOL[self.below(POOL.len())],
-            })
-            .collect()
-    }
-}
-
-fn sum(inputs: impl Iterator<Item = Vec<u8>>) -> u64 {
-    let mut total: u64 = 0xCBF2_9CE4_8422_2325;
-    for input in inputs {
-        let decoded = text::from_utf_8(&input);
-        assert_eq!(decoded, twin::text::utf_8_decode(&input), "{input:x?}");
-        for byte in decoded.bytes().chain([0xFF]) {
-            total = (total ^ u64::from(byte)).wrapping_mul(0x100_0000_01B3);
-        }
-    }
-    total
-}
-
-fn tails() -> Vec<Vec<u8>> {
-    let pairs = SECOND.iter().flat_map(|&b| LATER.iter().map(move |&c| vec![b, c]));
-    let longer = pairs
-        .clone()
-        .flat_map(|tail| LATER.iter().map(move |&d| [&tail[..], &[d]].concat()));
-    pairs.chain(longer).collect()
-}
-
-#[test]
-fn as_encoding_rs() {
-    let mut lines = include_str!("utf_8_sums.txt").lines();
-    let mut same = |name: String, inputs: &mut dyn Iterator<Item = Vec<u8>>| {
-        assert_eq!(lines.next(), Some(format!("{name} {:016x}", sum(inputs)).as_str()));
-    };
-    for a in 0..=0xFF_u8 {
-        same(format!("pairs {a:02x}"), &mut (0..=0xFF).map(|b| vec![a, b]));
-    }
-    let tails = tails();
-    for a in 0x80..=0xFF_u8 {
-        same(
-            format!("leads {a:02x}"),
-            &mut tails.iter().map(|tail| [&[a], &tail[..]].concat()),
-        );
-    }
-    let mut draw = Draw(1);
-    for n in 0..100 {
-        same(format!("random {n:02}"), &mut (0..1000).map(|_| draw.drawn()));
-    }
-    assert_eq!(lines.next(), None);
-}
 
 #[test]
 fn the_standard_counts_the_parts() {
