@@ -45,21 +45,21 @@ use Rattle.ser.proofs.serializer.value.Reads as serializer·value
 use Rattle.ser.proofs.serializer.value.Kinds as serializer·value-kinds
 use Rattle.ser.proofs.+array_writer-array+array_writer-dimension+array_writer-each_element+array_writer-element+array_writer-elements+map_writer-each_key+map_writer-keyed_value+map_writer-keys+map_writer-map+map_writer-own_keys+serializer-value.Lts-serializer-value as serializer·value-lts
 use Rattle.resolve_field_plan.proofs.plan_fields_in.Reads as plan-fields-in-reads
-use Rattle.ser_first_fields.proofs.note_firsts.Reads as note-firsts-reads
 use Rattle.ser.proofs.array_writer.dimension_in.Reads as dimension-in-reads
 use Rattle.ser.proofs.array_writer.enter.Reads as enter-reads
 use Rattle.ser.proofs.map_writer.key_in.Reads as key-in-reads
 use Rattle.ser.proofs.map_writer.note_long.Reads as note-long-reads
 use Rattle.ser.proofs.serializer.end.Reads as end-reads
 use Rattle.ser.proofs.serializer.leaf.Reads as leaf-reads
+use Rattle.ser_first_fields.proofs.note_firsts.Reads as note-firsts-reads
+use Rattle.tape.proofs.cursor.Cursor.next.Reads as next-reads
 use Rattle.tape_shape.proofs.array.is_last.Reads as is-last-reads
 use Rattle.tape_shape.proofs.array.stride_of.Reads as stride-of-reads
-use Rattle.tape_shape.proofs.shape_of.Reads as tape-shape-of-reads
-use Rattle.tape.proofs.cursor.Cursor.next.Reads as next-reads
-use Rattle.type_category.proofs.type_category.AdsTypeCategory.determine.Reads as determine-reads
+use Rattle.tape_shape.proofs.shape_of.Reads as shape-of-reads
 use Rattle.type_book.proofs.block.count.Reads as count-reads
 use Rattle.type_book.proofs.block.fields.Reads as fields-reads
 use Rattle.type_book.proofs.block.size.Reads as size-reads
+use Rattle.type_category.proofs.type_category.AdsTypeCategory.determine.Reads as determine-reads
 use Rattle.validators.proofs.validate_exact_size.Reads as validate-exact-size-reads
 use Rattle.ser.proofs.+array_writer-array+array_writer-dimension+array_writer-each_element+array_writer-element+array_writer-elements+map_writer-each_key+map_writer-keyed_value+map_writer-keys+map_writer-map+map_writer-own_keys+serializer-value.{
   statement,
@@ -86,47 +86,47 @@ ruleset elements-exits = (elements-stop, elements-over, elements-under, elements
 
 abbrev μ-array-writer·array : Measures 4 array-writer·array-kinds.ps ℕ
 μ-array-writer·array κs a =
-    8 * a .1 .1 .1 .1 .1 .1 .1 .1 .0 + 5
+    8 * a .1 .1 .0 .left + 5
 
 abbrev μ-array-writer·dimension : Measures 4 array-writer·dimension-kinds.ps ℕ
 μ-array-writer·dimension κs a =
-    8 * a .1 .1 .1 .1 .1 .1 .1 .1 .1 .1 .0 + 4
+    8 * a .1 .1 .0 .left + 4
 
 abbrev μ-array-writer·each-element : Measures 6 array-writer·each-element-kinds.ps ℕ
 μ-array-writer·each-element κs a =
-    8 * a .1 .1 .1 .1 .1 .1 .1 .1 .1 .1 .1 .1 .1 .1 .1 .0 + 2
+    8 * a .1 .1 .0 .left + 2
 
 abbrev μ-array-writer·element : Measures 6 array-writer·element-kinds.ps ℕ
 μ-array-writer·element κs a =
-    8 * a .1 .1 .1 .1 .1 .1 .1 .1 .1 .1 .1 .1 .1 .0 + 1
+    8 * a .1 .1 .0 .left + 1
 
 abbrev μ-array-writer·elements : Measures 6 array-writer·elements-kinds.ps ℕ
 μ-array-writer·elements κs a =
-    8 * a .1 .1 .1 .1 .1 .1 .1 .1 .1 .1 .1 .1 .1 .0 + 3
+    8 * a .1 .1 .0 .left + 3
 
 abbrev μ-map-writer·each-key : Measures 6 map-writer·each-key-kinds.ps ℕ
 μ-map-writer·each-key κs a =
-    8 * a .1 .1 .1 .1 .1 .1 .1 .1 .1 .1 .0 + 2
+    8 * a .1 .1 .0 .left + 2
 
 abbrev μ-map-writer·keyed-value : Measures 5 map-writer·keyed-value-kinds.ps ℕ
 μ-map-writer·keyed-value κs a =
-    8 * a .1 .1 .1 .1 .1 .1 .1 .0 + 1
+    8 * a .1 .1 .0 .left + 1
 
 abbrev μ-map-writer·keys : Measures 6 map-writer·keys-kinds.ps ℕ
 μ-map-writer·keys κs a =
-    8 * a .1 .1 .1 .1 .1 .1 .1 .1 .1 .1 .0 + 3
+    8 * a .1 .1 .0 .left + 3
 
 abbrev μ-map-writer·map : Measures 6 map-writer·map-kinds.ps ℕ
 μ-map-writer·map κs a =
-    8 * a .1 .1 .1 .1 .1 .1 .1 .1 .1 .1 .1 .0 + 5
+    8 * a .1 .1 .0 .left + 5
 
 abbrev μ-map-writer·own-keys : Measures 4 map-writer·own-keys-kinds.ps ℕ
 μ-map-writer·own-keys κs a =
-    8 * a .1 .1 .1 .1 .1 .1 .1 .1 .0 + 4
+    8 * a .1 .1 .0 .left + 4
 
 abbrev μ-serializer·value : Measures 6 serializer·value-kinds.ps ℕ
 μ-serializer·value κs a =
-    8 * a .1 .1 .1 .1 .1 .1 .1 .1 .1 .1 .0
+    8 * a .1 .1 .0 .left + 0
 
 abbrev array-writer·array-at : ℕ → In 4 array-writer·array-kinds.ps
 array-writer·array-at t =
@@ -308,7 +308,7 @@ abbrev array-writer·array-calls : ℕ → array-writer·array-lts.Claims
 array-writer·array-calls t = (enter-reads.Asked, enter-reads.Learnt, determine-reads.Asked, determine-reads.Learnt, array-writer·dimension-below t, array-writer·dimension.Post)
 
 abbrev array-writer·dimension-calls : ℕ → array-writer·dimension-lts.Claims
-array-writer·dimension-calls t = (dimension-in-reads.Asked, dimension-in-reads.Learnt, array-writer·elements-below t, array-writer·elements.Post)
+array-writer·dimension-calls t = (dimension-in-reads.Asked, dimension-in-reads.Learnt, is-last-reads.Asked, is-last-reads.Learnt, count-reads.Asked, count-reads.Learnt, array-writer·elements-below t, array-writer·elements.Post)
 
 abbrev array-writer·each-element-calls : ℕ → array-writer·each-element-lts.Claims
 array-writer·each-element-calls t = (stride-of-reads.Asked, stride-of-reads.Learnt, array-writer·element-below t, array-writer·element.Post, end-reads.Asked, end-reads.Learnt)
@@ -317,7 +317,7 @@ abbrev array-writer·element-calls : ℕ → array-writer·element-lts.Claims
 array-writer·element-calls t = (serializer·value-below t, serializer·value.Post, array-writer·dimension-below t, array-writer·dimension.Post)
 
 abbrev array-writer·elements-calls : ℕ → array-writer·elements-lts.Claims
-array-writer·elements-calls t = (count-reads.Asked, count-reads.Learnt, is-last-reads.Asked, is-last-reads.Learnt, fields-reads.Asked, fields-reads.Learnt, array-writer·each-element-below t, array-writer·each-element.Post)
+array-writer·elements-calls t = (fields-reads.Asked, fields-reads.Learnt, array-writer·each-element-below t, array-writer·each-element.Post)
 
 abbrev map-writer·each-key-calls : ℕ → map-writer·each-key-lts.Claims
 map-writer·each-key-calls t = (key-in-reads.Asked, key-in-reads.Learnt, map-writer·keyed-value-below t, map-writer·keyed-value.Post, end-reads.Asked, end-reads.Learnt)
@@ -329,7 +329,7 @@ abbrev map-writer·keys-calls : ℕ → map-writer·keys-lts.Claims
 map-writer·keys-calls t = (fields-reads.Asked, fields-reads.Learnt, map-writer·each-key-below t, map-writer·each-key.Post, note-long-reads.Asked, note-long-reads.Learnt)
 
 abbrev map-writer·map-calls : ℕ → map-writer·map-lts.Claims
-map-writer·map-calls t = (tape-shape-of-reads.Asked, tape-shape-of-reads.Learnt, size-reads.Asked, size-reads.Learnt, validate-exact-size-reads.Asked, validate-exact-size-reads.Learnt, map-writer·each-key-below t, map-writer·each-key.Post, map-writer·own-keys-below t, map-writer·own-keys.Post)
+map-writer·map-calls t = (shape-of-reads.Asked, shape-of-reads.Learnt, size-reads.Asked, size-reads.Learnt, validate-exact-size-reads.Asked, validate-exact-size-reads.Learnt, map-writer·each-key-below t, map-writer·each-key.Post, map-writer·own-keys-below t, map-writer·own-keys.Post)
 
 abbrev map-writer·own-keys-calls : ℕ → map-writer·own-keys-lts.Claims
 map-writer·own-keys-calls t = (plan-fields-in-reads.Asked, plan-fields-in-reads.Learnt, note-firsts-reads.Asked, note-firsts-reads.Learnt, map-writer·keys-below t, map-writer·keys.Post)
@@ -381,6 +381,16 @@ array-writer·dimension-enum-known-counted :
     (t : ℕ) → array-writer·dimension-lts.Need-enum-known-counted (array-writer·dimension-calls t) (array-writer·dimension-at t) array-writer·dimension.Post
 array-writer·dimension-enum-known-counted t c = search needs
 
+array-writer·dimension-is-last-requires :
+    (t : ℕ) → array-writer·dimension-lts.Need-is-last-requires (array-writer·dimension-calls t) (array-writer·dimension-at t) array-writer·dimension.Post
+array-writer·dimension-is-last-requires t c κs = search needs
+
+array-writer·dimension-count-requires : (t : ℕ) → array-writer·dimension-lts.Need-count-requires (array-writer·dimension-calls t) (array-writer·dimension-at t) array-writer·dimension.Post
+array-writer·dimension-count-requires t c κs = search needs
+
+array-writer·dimension-cast-t23 : (t : ℕ) → array-writer·dimension-lts.Need-cast-t23 (array-writer·dimension-calls t) (array-writer·dimension-at t) array-writer·dimension.Post
+array-writer·dimension-cast-t23 t c = search needs
+
 array-writer·dimension-slice-aggregate-elements :
     (t : ℕ) → array-writer·dimension-lts.Need-slice-aggregate-elements (array-writer·dimension-calls t) (array-writer·dimension-at t) array-writer·dimension.Post
 array-writer·dimension-slice-aggregate-elements t c = search needs
@@ -391,7 +401,7 @@ array-writer·dimension-slice-aggregate-elements-2 t c = search needs
 
 array-writer·dimension-elements-requires :
     (t : ℕ) → array-writer·dimension-lts.Need-elements-requires (array-writer·dimension-calls t) (array-writer·dimension-at t) array-writer·dimension.Post
-array-writer·dimension-elements-requires t c κs = let q = c .before .before .before .before .before .before .before .before .dimension-in .ensures in (search needs, (search needs, search needs, search needs, search (counted-given, q), search (counted-firsts, q), search needs))
+array-writer·dimension-elements-requires t c κs = let q = c .before .before .before .before .before .before .before .before .before .before .dimension-in .ensures in (search needs, (search needs, search needs, search needs, search needs, search needs, search (counted-given, q), search (counted-firsts, q), search needs))
 
 array-writer·dimension-enum-known-counted-2 :
     (t : ℕ) → array-writer·dimension-lts.Need-enum-known-counted-2 (array-writer·dimension-calls t) (array-writer·dimension-at t) array-writer·dimension.Post
@@ -407,12 +417,12 @@ array-writer·dimension-returns-2 : (t : ℕ) → array-writer·dimension-lts.Ne
 array-writer·dimension-returns-2 t c = search dimensions
 
 abbrev array-writer·each-element-Inv-loop : array-writer·each-element-lts.InvT-loop
-array-writer·each-element-Inv-loop book index width d t e last category plan firsts tape text n k left out₀ stride here₀ from₀ i₀ out here from i =
-    (i ≤ n) × Along book d t e n stride from i (length out₀) × (length out ≡ length out₀) × ((outcomeOf here out then elementsFrom (walk (ctx book width tape text) left) (ctx book width tape text) (elementItem (ctx book width tape text) d t e) (strideOf book d t e) n i from (k - i)) ≡ (outcomeOf here₀ out₀ then elementsFrom (walk (ctx book width tape text) left) (ctx book width tape text) (elementItem (ctx book width tape text) d t e) (strideOf book d t e) n 0 0 k))
+array-writer·each-element-Inv-loop book index q plan firsts tape text out₀ stride category here₀ from₀ i₀ out here from i =
+    (i ≤ q .n) × Along book (q .d) (q .t) (q .e) (q .n) stride from i (length out₀) × (length out ≡ length out₀) × ((outcomeOf here out then elementsFrom (walk (ctx book (q .width) tape text) (q .left)) (ctx book (q .width) tape text) (elementItem (ctx book (q .width) tape text) (q .d) (q .t) (q .e)) (strideOf book (q .d) (q .t) (q .e)) (q .n) i from (q .k - i)) ≡ (outcomeOf here₀ out₀ then elementsFrom (walk (ctx book (q .width) tape text) (q .left)) (ctx book (q .width) tape text) (elementItem (ctx book (q .width) tape text) (q .d) (q .t) (q .e)) (strideOf book (q .d) (q .t) (q .e)) (q .n) 0 0 (q .k)))
 
 abbrev array-writer·each-element-μ-loop : array-writer·each-element-lts.MeasureT-loop
-array-writer·each-element-μ-loop book index width d t e last category plan firsts tape text n k left out₀ stride here₀ from₀ i₀ out here from i =
-    k - i
+array-writer·each-element-μ-loop book index q plan firsts tape text out₀ stride category here₀ from₀ i₀ out here from i =
+    q .k - i
 
 array-writer·each-element-stride-of-requires :
     (t : ℕ) → array-writer·each-element-lts.Need-stride-of-requires (array-writer·each-element-calls t) (array-writer·each-element-at t) array-writer·each-element.Post array-writer·each-element-Inv-loop array-writer·each-element-μ-loop
@@ -421,7 +431,8 @@ array-writer·each-element-stride-of-requires t c κs = search needs
 array-writer·each-element-loop-holds : (t : ℕ) → array-writer·each-element-lts.Need-loop-holds (array-writer·each-element-calls t) (array-writer·each-element-at t) array-writer·each-element.Post array-writer·each-element-Inv-loop array-writer·each-element-μ-loop
 array-writer·each-element-loop-holds t c = (search needs, search along-start, search needs, search elements-start)
 
-array-writer·each-element-enum-known-here : (t : ℕ) → array-writer·each-element-lts.Need-enum-known-here (array-writer·each-element-calls t) (array-writer·each-element-at t) array-writer·each-element.Post array-writer·each-element-Inv-loop array-writer·each-element-μ-loop
+array-writer·each-element-enum-known-here :
+    (t : ℕ) → array-writer·each-element-lts.Need-enum-known-here (array-writer·each-element-calls t) (array-writer·each-element-at t) array-writer·each-element.Post array-writer·each-element-Inv-loop array-writer·each-element-μ-loop
 array-writer·each-element-enum-known-here t c = search needs
 
 array-writer·each-element-enum-told : (t : ℕ) → array-writer·each-element-lts.Need-enum-told (array-writer·each-element-calls t) (array-writer·each-element-at t) array-writer·each-element.Post array-writer·each-element-Inv-loop array-writer·each-element-μ-loop
@@ -433,26 +444,29 @@ array-writer·each-element-same-length t c = search needs
 array-writer·each-element-returns : (t : ℕ) → array-writer·each-element-lts.Need-returns (array-writer·each-element-calls t) (array-writer·each-element-at t) array-writer·each-element.Post array-writer·each-element-Inv-loop array-writer·each-element-μ-loop
 array-writer·each-element-returns t c = search elements-exits
 
-array-writer·each-element-same-length-2 : (t : ℕ) → array-writer·each-element-lts.Need-same-length-2 (array-writer·each-element-calls t) (array-writer·each-element-at t) array-writer·each-element.Post array-writer·each-element-Inv-loop array-writer·each-element-μ-loop
+array-writer·each-element-same-length-2 :
+    (t : ℕ) → array-writer·each-element-lts.Need-same-length-2 (array-writer·each-element-calls t) (array-writer·each-element-at t) array-writer·each-element.Post array-writer·each-element-Inv-loop array-writer·each-element-μ-loop
 array-writer·each-element-same-length-2 t c = search needs
 
 array-writer·each-element-returns-2 : (t : ℕ) → array-writer·each-element-lts.Need-returns-2 (array-writer·each-element-calls t) (array-writer·each-element-at t) array-writer·each-element.Post array-writer·each-element-Inv-loop array-writer·each-element-μ-loop
 array-writer·each-element-returns-2 t c = search elements-exits
 
 array-writer·each-element-add-to : (t : ℕ) → array-writer·each-element-lts.Need-add-to (array-writer·each-element-calls t) (array-writer·each-element-at t) array-writer·each-element.Post array-writer·each-element-Inv-loop array-writer·each-element-μ-loop
-array-writer·each-element-add-to t c = along-fits _ _ _ _ _ _ _ _ _ (search needs) (c .before .before .before .before .before .loop .inv .1) (search needs)
+array-writer·each-element-add-to t c = let k = c .before .before .before .before .before .before .before .before .before .before .before .before .before .before .before .before .before .good .1 .1 .1 .1 .1 .1 .1 in along-fits _ _ _ _ _ _ _ _ _ (search needs) (c .before .before .before .before .before .before .before .loop .inv .1) (search (needs, k))
 
-array-writer·each-element-sub-element : (t : ℕ) → array-writer·each-element-lts.Need-sub-element (array-writer·each-element-calls t) (array-writer·each-element-at t) array-writer·each-element.Post array-writer·each-element-Inv-loop array-writer·each-element-μ-loop
-array-writer·each-element-sub-element t c = search needs
+array-writer·each-element-sub-part : (t : ℕ) → array-writer·each-element-lts.Need-sub-part (array-writer·each-element-calls t) (array-writer·each-element-at t) array-writer·each-element.Post array-writer·each-element-Inv-loop array-writer·each-element-μ-loop
+array-writer·each-element-sub-part t c = search needs
 
-array-writer·each-element-part-element-start :
-    (t : ℕ) → array-writer·each-element-lts.Need-part-element-start (array-writer·each-element-calls t) (array-writer·each-element-at t) array-writer·each-element.Post array-writer·each-element-Inv-loop array-writer·each-element-μ-loop
-array-writer·each-element-part-element-start t c = search needs
+array-writer·each-element-part-part-start :
+    (t : ℕ) → array-writer·each-element-lts.Need-part-part-start (array-writer·each-element-calls t) (array-writer·each-element-at t) array-writer·each-element.Post array-writer·each-element-Inv-loop array-writer·each-element-μ-loop
+array-writer·each-element-part-part-start t c = search needs
 
-array-writer·each-element-part-element-end : (t : ℕ) → array-writer·each-element-lts.Need-part-element-end (array-writer·each-element-calls t) (array-writer·each-element-at t) array-writer·each-element.Post array-writer·each-element-Inv-loop array-writer·each-element-μ-loop
-array-writer·each-element-part-element-end t c = part-end _ _ _ _ _ _ _ _ _ _ (search needs) (c .before .before .before .before .before .loop .inv .2) (c .before .before .before .before .before .loop .inv .1)
+array-writer·each-element-part-part-end :
+    (t : ℕ) → array-writer·each-element-lts.Need-part-part-end (array-writer·each-element-calls t) (array-writer·each-element-at t) array-writer·each-element.Post array-writer·each-element-Inv-loop array-writer·each-element-μ-loop
+array-writer·each-element-part-part-end t c = part-end _ _ _ _ _ _ _ _ _ _ (search needs) (c .before .before .before .before .before .before .before .loop .inv .2) (c .before .before .before .before .before .before .before .loop .inv .1)
 
-array-writer·each-element-element-requires : (t : ℕ) → array-writer·each-element-lts.Need-element-requires (array-writer·each-element-calls t) (array-writer·each-element-at t) array-writer·each-element.Post array-writer·each-element-Inv-loop array-writer·each-element-μ-loop
+array-writer·each-element-element-requires :
+    (t : ℕ) → array-writer·each-element-lts.Need-element-requires (array-writer·each-element-calls t) (array-writer·each-element-at t) array-writer·each-element.Post array-writer·each-element-Inv-loop array-writer·each-element-μ-loop
 array-writer·each-element-element-requires t c κs = (search needs, (search needs, search needs, search needs, search needs, search needs, search needs, search part-fills))
 
 array-writer·each-element-add-i : (t : ℕ) → array-writer·each-element-lts.Need-add-i (array-writer·each-element-calls t) (array-writer·each-element-at t) array-writer·each-element.Post array-writer·each-element-Inv-loop array-writer·each-element-μ-loop
@@ -471,13 +485,15 @@ array-writer·each-element-enum-known-here-2 t c = search needs
 array-writer·each-element-enum-told-2 : (t : ℕ) → array-writer·each-element-lts.Need-enum-told-2 (array-writer·each-element-calls t) (array-writer·each-element-at t) array-writer·each-element.Post array-writer·each-element-Inv-loop array-writer·each-element-μ-loop
 array-writer·each-element-enum-told-2 t c = search needs
 
-array-writer·each-element-same-length-3 : (t : ℕ) → array-writer·each-element-lts.Need-same-length-3 (array-writer·each-element-calls t) (array-writer·each-element-at t) array-writer·each-element.Post array-writer·each-element-Inv-loop array-writer·each-element-μ-loop
+array-writer·each-element-same-length-3 :
+    (t : ℕ) → array-writer·each-element-lts.Need-same-length-3 (array-writer·each-element-calls t) (array-writer·each-element-at t) array-writer·each-element.Post array-writer·each-element-Inv-loop array-writer·each-element-μ-loop
 array-writer·each-element-same-length-3 t c = search needs
 
 array-writer·each-element-returns-3 : (t : ℕ) → array-writer·each-element-lts.Need-returns-3 (array-writer·each-element-calls t) (array-writer·each-element-at t) array-writer·each-element.Post array-writer·each-element-Inv-loop array-writer·each-element-μ-loop
 array-writer·each-element-returns-3 t c = search elements-exits
 
-array-writer·each-element-same-length-4 : (t : ℕ) → array-writer·each-element-lts.Need-same-length-4 (array-writer·each-element-calls t) (array-writer·each-element-at t) array-writer·each-element.Post array-writer·each-element-Inv-loop array-writer·each-element-μ-loop
+array-writer·each-element-same-length-4 :
+    (t : ℕ) → array-writer·each-element-lts.Need-same-length-4 (array-writer·each-element-calls t) (array-writer·each-element-at t) array-writer·each-element.Post array-writer·each-element-Inv-loop array-writer·each-element-μ-loop
 array-writer·each-element-same-length-4 t c = search needs
 
 array-writer·each-element-returns-4 : (t : ℕ) → array-writer·each-element-lts.Need-returns-4 (array-writer·each-element-calls t) (array-writer·each-element-at t) array-writer·each-element.Post array-writer·each-element-Inv-loop array-writer·each-element-μ-loop
@@ -486,7 +502,8 @@ array-writer·each-element-returns-4 t c = search elements-exits
 array-writer·each-element-end-requires : (t : ℕ) → array-writer·each-element-lts.Need-end-requires (array-writer·each-element-calls t) (array-writer·each-element-at t) array-writer·each-element.Post array-writer·each-element-Inv-loop array-writer·each-element-μ-loop
 array-writer·each-element-end-requires t c κs = search needs
 
-array-writer·each-element-same-length-5 : (t : ℕ) → array-writer·each-element-lts.Need-same-length-5 (array-writer·each-element-calls t) (array-writer·each-element-at t) array-writer·each-element.Post array-writer·each-element-Inv-loop array-writer·each-element-μ-loop
+array-writer·each-element-same-length-5 :
+    (t : ℕ) → array-writer·each-element-lts.Need-same-length-5 (array-writer·each-element-calls t) (array-writer·each-element-at t) array-writer·each-element.Post array-writer·each-element-Inv-loop array-writer·each-element-μ-loop
 array-writer·each-element-same-length-5 t c = search needs
 
 array-writer·each-element-returns-5 : (t : ℕ) → array-writer·each-element-lts.Need-returns-5 (array-writer·each-element-calls t) (array-writer·each-element-at t) array-writer·each-element.Post array-writer·each-element-Inv-loop array-writer·each-element-μ-loop
@@ -504,11 +521,11 @@ array-writer·element-returns t c = search element-last
 array-writer·element-returns-2 : (t : ℕ) → array-writer·element-lts.Need-returns-2 (array-writer·element-calls t) (array-writer·element-at t) array-writer·element.Post
 array-writer·element-returns-2 t c = search walk-deep
 
-array-writer·element-add-dimension : (t : ℕ) → array-writer·element-lts.Need-add-dimension (array-writer·element-calls t) (array-writer·element-at t) array-writer·element.Post
-array-writer·element-add-dimension t c = search next-dimension
+array-writer·element-add-d : (t : ℕ) → array-writer·element-lts.Need-add-d (array-writer·element-calls t) (array-writer·element-at t) array-writer·element.Post
+array-writer·element-add-d t c = let p = c .before .before .before .before .before .before .before .before .before .before .before .before .pre in search (next-dimension, p)
 
-array-writer·element-sub-dimension : (t : ℕ) → array-writer·element-lts.Need-sub-dimension (array-writer·element-calls t) (array-writer·element-at t) array-writer·element.Post
-array-writer·element-sub-dimension t c = search needs
+array-writer·element-sub-t17 : (t : ℕ) → array-writer·element-lts.Need-sub-t17 (array-writer·element-calls t) (array-writer·element-at t) array-writer·element.Post
+array-writer·element-sub-t17 t c = search needs
 
 array-writer·element-dimension-requires :
     (t : ℕ) → array-writer·element-lts.Need-dimension-requires (array-writer·element-calls t) (array-writer·element-at t) array-writer·element.Post
@@ -518,39 +535,33 @@ array-writer·element-same-length-2 : (t : ℕ) → array-writer·element-lts.Ne
 array-writer·element-same-length-2 t c = search needs
 
 array-writer·element-returns-3 : (t : ℕ) → array-writer·element-lts.Need-returns-3 (array-writer·element-calls t) (array-writer·element-at t) array-writer·element.Post
-array-writer·element-returns-3 t c = search element-further
-
-array-writer·elements-count-requires : (t : ℕ) → array-writer·elements-lts.Need-count-requires (array-writer·elements-calls t) (array-writer·elements-at t) array-writer·elements.Post
-array-writer·elements-count-requires t c κs = search needs
-
-array-writer·elements-cast-n : (t : ℕ) → array-writer·elements-lts.Need-cast-n (array-writer·elements-calls t) (array-writer·elements-at t) array-writer·elements.Post
-array-writer·elements-cast-n t c = search needs
-
-array-writer·elements-is-last-requires : (t : ℕ) → array-writer·elements-lts.Need-is-last-requires (array-writer·elements-calls t) (array-writer·elements-at t) array-writer·elements.Post
-array-writer·elements-is-last-requires t c κs = search needs
+array-writer·element-returns-3 t c = let p = c .before .before .before .before .before .before .before .before .before .before .before .before .before .before .before .before .before .pre in search (element-further, p)
 
 array-writer·elements-fields-requires : (t : ℕ) → array-writer·elements-lts.Need-fields-requires (array-writer·elements-calls t) (array-writer·elements-at t) array-writer·elements.Post
 array-writer·elements-fields-requires t c κs = search needs
 
+array-writer·elements-sub-none : (t : ℕ) → array-writer·elements-lts.Need-sub-none (array-writer·elements-calls t) (array-writer·elements-at t) array-writer·elements.Post
+array-writer·elements-sub-none t c = search needs
+
+array-writer·elements-part-none-start : (t : ℕ) → array-writer·elements-lts.Need-part-none-start (array-writer·elements-calls t) (array-writer·elements-at t) array-writer·elements.Post
+array-writer·elements-part-none-start t c = search needs
+
+array-writer·elements-part-none-end : (t : ℕ) → array-writer·elements-lts.Need-part-none-end (array-writer·elements-calls t) (array-writer·elements-at t) array-writer·elements.Post
+array-writer·elements-part-none-end t c = search needs
+
 array-writer·elements-sub-each-element : (t : ℕ) → array-writer·elements-lts.Need-sub-each-element (array-writer·elements-calls t) (array-writer·elements-at t) array-writer·elements.Post
 array-writer·elements-sub-each-element t c = search needs
 
-array-writer·elements-part-each-element-start : (t : ℕ) → array-writer·elements-lts.Need-part-each-element-start (array-writer·elements-calls t) (array-writer·elements-at t) array-writer·elements.Post
+array-writer·elements-part-each-element-start :
+    (t : ℕ) → array-writer·elements-lts.Need-part-each-element-start (array-writer·elements-calls t) (array-writer·elements-at t) array-writer·elements.Post
 array-writer·elements-part-each-element-start t c = search needs
 
-array-writer·elements-part-each-element-end : (t : ℕ) → array-writer·elements-lts.Need-part-each-element-end (array-writer·elements-calls t) (array-writer·elements-at t) array-writer·elements.Post
+array-writer·elements-part-each-element-end :
+    (t : ℕ) → array-writer·elements-lts.Need-part-each-element-end (array-writer·elements-calls t) (array-writer·elements-at t) array-writer·elements.Post
 array-writer·elements-part-each-element-end t c = search needs
 
-array-writer·elements-sub-each-element-2 : (t : ℕ) → array-writer·elements-lts.Need-sub-each-element-2 (array-writer·elements-calls t) (array-writer·elements-at t) array-writer·elements.Post
-array-writer·elements-sub-each-element-2 t c = search needs
-
-array-writer·elements-part-each-element-start-2 : (t : ℕ) → array-writer·elements-lts.Need-part-each-element-start-2 (array-writer·elements-calls t) (array-writer·elements-at t) array-writer·elements.Post
-array-writer·elements-part-each-element-start-2 t c = search needs
-
-array-writer·elements-part-each-element-end-2 : (t : ℕ) → array-writer·elements-lts.Need-part-each-element-end-2 (array-writer·elements-calls t) (array-writer·elements-at t) array-writer·elements.Post
-array-writer·elements-part-each-element-end-2 t c = search needs
-
-array-writer·elements-each-element-requires : (t : ℕ) → array-writer·elements-lts.Need-each-element-requires (array-writer·elements-calls t) (array-writer·elements-at t) array-writer·elements.Post
+array-writer·elements-each-element-requires :
+    (t : ℕ) → array-writer·elements-lts.Need-each-element-requires (array-writer·elements-calls t) (array-writer·elements-at t) array-writer·elements.Post
 array-writer·elements-each-element-requires t c κs = (search needs, (search needs, search needs, search needs, search needs, search needs, search element-none, search firsts-empty, search needs))
 
 array-writer·elements-same-length : (t : ℕ) → array-writer·elements-lts.Need-same-length (array-writer·elements-calls t) (array-writer·elements-at t) array-writer·elements.Post
@@ -559,7 +570,8 @@ array-writer·elements-same-length t c = search needs
 array-writer·elements-returns : (t : ℕ) → array-writer·elements-lts.Need-returns (array-writer·elements-calls t) (array-writer·elements-at t) array-writer·elements.Post
 array-writer·elements-returns t c = search needs
 
-array-writer·elements-each-element-requires-2 : (t : ℕ) → array-writer·elements-lts.Need-each-element-requires-2 (array-writer·elements-calls t) (array-writer·elements-at t) array-writer·elements.Post
+array-writer·elements-each-element-requires-2 :
+    (t : ℕ) → array-writer·elements-lts.Need-each-element-requires-2 (array-writer·elements-calls t) (array-writer·elements-at t) array-writer·elements.Post
 array-writer·elements-each-element-requires-2 t c κs = (search needs, (search needs, search needs, search needs, search needs, search needs, search needs, search needs, search needs))
 
 array-writer·elements-same-length-2 : (t : ℕ) → array-writer·elements-lts.Need-same-length-2 (array-writer·elements-calls t) (array-writer·elements-at t) array-writer·elements.Post
@@ -568,7 +580,8 @@ array-writer·elements-same-length-2 t c = search needs
 array-writer·elements-returns-2 : (t : ℕ) → array-writer·elements-lts.Need-returns-2 (array-writer·elements-calls t) (array-writer·elements-at t) array-writer·elements.Post
 array-writer·elements-returns-2 t c = search needs
 
-array-writer·elements-each-element-requires-3 : (t : ℕ) → array-writer·elements-lts.Need-each-element-requires-3 (array-writer·elements-calls t) (array-writer·elements-at t) array-writer·elements.Post
+array-writer·elements-each-element-requires-3 :
+    (t : ℕ) → array-writer·elements-lts.Need-each-element-requires-3 (array-writer·elements-calls t) (array-writer·elements-at t) array-writer·elements.Post
 array-writer·elements-each-element-requires-3 t c κs = (search needs, (search needs, search needs, search needs, search needs, search needs, search needs, search needs, search needs))
 
 array-writer·elements-same-length-3 : (t : ℕ) → array-writer·elements-lts.Need-same-length-3 (array-writer·elements-calls t) (array-writer·elements-at t) array-writer·elements.Post
@@ -578,12 +591,12 @@ array-writer·elements-returns-3 : (t : ℕ) → array-writer·elements-lts.Need
 array-writer·elements-returns-3 t c = search needs
 
 abbrev map-writer·each-key-Inv-loop : map-writer·each-key-lts.InvT-loop
-map-writer·each-key-Inv-loop book index width t plan firsts tape text n left out₀ here₀ i₀ out here i =
-    (length out ≡ length out₀) × ((outcomeOf here out then keysFrom (walk (ctx book width tape text) left) (ctx book width tape text) t (n - i)) ≡ (outcomeOf here₀ out₀ then keysFrom (walk (ctx book width tape text) left) (ctx book width tape text) t n))
+map-writer·each-key-Inv-loop book index m plan firsts tape text out₀ here₀ i₀ out here i =
+    (length out ≡ length out₀) × ((outcomeOf here out then keysFrom (walk (ctx book (m .width) tape text) (m .left)) (ctx book (m .width) tape text) (m .t) (m .n - i)) ≡ (outcomeOf here₀ out₀ then keysFrom (walk (ctx book (m .width) tape text) (m .left)) (ctx book (m .width) tape text) (m .t) (m .n)))
 
 abbrev map-writer·each-key-μ-loop : map-writer·each-key-lts.MeasureT-loop
-map-writer·each-key-μ-loop book index width t plan firsts tape text n left out₀ here₀ i₀ out here i =
-    n - i
+map-writer·each-key-μ-loop book index m plan firsts tape text out₀ here₀ i₀ out here i =
+    m .n - i
 
 map-writer·each-key-loop-holds : (t : ℕ) → map-writer·each-key-lts.Need-loop-holds (map-writer·each-key-calls t) (map-writer·each-key-at t) map-writer·each-key.Post map-writer·each-key-Inv-loop map-writer·each-key-μ-loop
 map-writer·each-key-loop-holds t c = (search needs, search keys-start)
@@ -603,7 +616,8 @@ map-writer·each-key-returns t c = search keys-exits
 map-writer·each-key-key-in-requires : (t : ℕ) → map-writer·each-key-lts.Need-key-in-requires (map-writer·each-key-calls t) (map-writer·each-key-at t) map-writer·each-key.Post map-writer·each-key-Inv-loop map-writer·each-key-μ-loop
 map-writer·each-key-key-in-requires t c κs = search needs
 
-map-writer·each-key-keyed-value-requires : (t : ℕ) → map-writer·each-key-lts.Need-keyed-value-requires (map-writer·each-key-calls t) (map-writer·each-key-at t) map-writer·each-key.Post map-writer·each-key-Inv-loop map-writer·each-key-μ-loop
+map-writer·each-key-keyed-value-requires :
+    (t : ℕ) → map-writer·each-key-lts.Need-keyed-value-requires (map-writer·each-key-calls t) (map-writer·each-key-at t) map-writer·each-key.Post map-writer·each-key-Inv-loop map-writer·each-key-μ-loop
 map-writer·each-key-keyed-value-requires t c κs = (search needs, search key-all)
 
 map-writer·each-key-add-i : (t : ℕ) → map-writer·each-key-lts.Need-add-i (map-writer·each-key-calls t) (map-writer·each-key-at t) map-writer·each-key.Post map-writer·each-key-Inv-loop map-writer·each-key-μ-loop
@@ -636,7 +650,8 @@ map-writer·each-key-same-length-3 t c = search needs
 map-writer·each-key-returns-3 : (t : ℕ) → map-writer·each-key-lts.Need-returns-3 (map-writer·each-key-calls t) (map-writer·each-key-at t) map-writer·each-key.Post map-writer·each-key-Inv-loop map-writer·each-key-μ-loop
 map-writer·each-key-returns-3 t c = search keys-exits
 
-map-writer·keyed-value-enum-known-keyed : (t : ℕ) → map-writer·keyed-value-lts.Need-enum-known-keyed (map-writer·keyed-value-calls t) (map-writer·keyed-value-at t) map-writer·keyed-value.Post
+map-writer·keyed-value-enum-known-keyed :
+    (t : ℕ) → map-writer·keyed-value-lts.Need-enum-known-keyed (map-writer·keyed-value-calls t) (map-writer·keyed-value-at t) map-writer·keyed-value.Post
 map-writer·keyed-value-enum-known-keyed t c = search needs
 
 map-writer·keyed-value-cast-from : (t : ℕ) → map-writer·keyed-value-lts.Need-cast-from (map-writer·keyed-value-calls t) (map-writer·keyed-value-at t) map-writer·keyed-value.Post
@@ -651,10 +666,20 @@ map-writer·keyed-value-add-to t c = search needs
 map-writer·keyed-value-returns : (t : ℕ) → map-writer·keyed-value-lts.Need-returns (map-writer·keyed-value-calls t) (map-writer·keyed-value-at t) map-writer·keyed-value.Post
 map-writer·keyed-value-returns t c = search key-exits
 
+map-writer·keyed-value-sub-part : (t : ℕ) → map-writer·keyed-value-lts.Need-sub-part (map-writer·keyed-value-calls t) (map-writer·keyed-value-at t) map-writer·keyed-value.Post
+map-writer·keyed-value-sub-part t c = search needs
+
+map-writer·keyed-value-part-part-start : (t : ℕ) → map-writer·keyed-value-lts.Need-part-part-start (map-writer·keyed-value-calls t) (map-writer·keyed-value-at t) map-writer·keyed-value.Post
+map-writer·keyed-value-part-part-start t c = search needs
+
+map-writer·keyed-value-part-part-end : (t : ℕ) → map-writer·keyed-value-lts.Need-part-part-end (map-writer·keyed-value-calls t) (map-writer·keyed-value-at t) map-writer·keyed-value.Post
+map-writer·keyed-value-part-part-end t c = search needs
+
 map-writer·keyed-value-sub-value : (t : ℕ) → map-writer·keyed-value-lts.Need-sub-value (map-writer·keyed-value-calls t) (map-writer·keyed-value-at t) map-writer·keyed-value.Post
 map-writer·keyed-value-sub-value t c = search needs
 
-map-writer·keyed-value-part-value-start : (t : ℕ) → map-writer·keyed-value-lts.Need-part-value-start (map-writer·keyed-value-calls t) (map-writer·keyed-value-at t) map-writer·keyed-value.Post
+map-writer·keyed-value-part-value-start :
+    (t : ℕ) → map-writer·keyed-value-lts.Need-part-value-start (map-writer·keyed-value-calls t) (map-writer·keyed-value-at t) map-writer·keyed-value.Post
 map-writer·keyed-value-part-value-start t c = search needs
 
 map-writer·keyed-value-part-value-end : (t : ℕ) → map-writer·keyed-value-lts.Need-part-value-end (map-writer·keyed-value-calls t) (map-writer·keyed-value-at t) map-writer·keyed-value.Post
@@ -663,25 +688,19 @@ map-writer·keyed-value-part-value-end t c = search needs
 map-writer·keyed-value-sub-value-2 : (t : ℕ) → map-writer·keyed-value-lts.Need-sub-value-2 (map-writer·keyed-value-calls t) (map-writer·keyed-value-at t) map-writer·keyed-value.Post
 map-writer·keyed-value-sub-value-2 t c = search needs
 
-map-writer·keyed-value-part-value-start-2 : (t : ℕ) → map-writer·keyed-value-lts.Need-part-value-start-2 (map-writer·keyed-value-calls t) (map-writer·keyed-value-at t) map-writer·keyed-value.Post
+map-writer·keyed-value-part-value-start-2 :
+    (t : ℕ) → map-writer·keyed-value-lts.Need-part-value-start-2 (map-writer·keyed-value-calls t) (map-writer·keyed-value-at t) map-writer·keyed-value.Post
 map-writer·keyed-value-part-value-start-2 t c = search needs
 
-map-writer·keyed-value-part-value-end-2 : (t : ℕ) → map-writer·keyed-value-lts.Need-part-value-end-2 (map-writer·keyed-value-calls t) (map-writer·keyed-value-at t) map-writer·keyed-value.Post
+map-writer·keyed-value-part-value-end-2 :
+    (t : ℕ) → map-writer·keyed-value-lts.Need-part-value-end-2 (map-writer·keyed-value-calls t) (map-writer·keyed-value-at t) map-writer·keyed-value.Post
 map-writer·keyed-value-part-value-end-2 t c = search needs
-
-map-writer·keyed-value-sub-value-3 : (t : ℕ) → map-writer·keyed-value-lts.Need-sub-value-3 (map-writer·keyed-value-calls t) (map-writer·keyed-value-at t) map-writer·keyed-value.Post
-map-writer·keyed-value-sub-value-3 t c = search needs
-
-map-writer·keyed-value-part-value-start-3 : (t : ℕ) → map-writer·keyed-value-lts.Need-part-value-start-3 (map-writer·keyed-value-calls t) (map-writer·keyed-value-at t) map-writer·keyed-value.Post
-map-writer·keyed-value-part-value-start-3 t c = search needs
-
-map-writer·keyed-value-part-value-end-3 : (t : ℕ) → map-writer·keyed-value-lts.Need-part-value-end-3 (map-writer·keyed-value-calls t) (map-writer·keyed-value-at t) map-writer·keyed-value.Post
-map-writer·keyed-value-part-value-end-3 t c = search needs
 
 map-writer·keyed-value-value-requires : (t : ℕ) → map-writer·keyed-value-lts.Need-value-requires (map-writer·keyed-value-calls t) (map-writer·keyed-value-at t) map-writer·keyed-value.Post
 map-writer·keyed-value-value-requires t c κs = (search needs, (search keyed-valid, search keyed-typed, search keyed-category, search given-none, search firsts-empty))
 
-map-writer·keyed-value-enum-known-keyed-2 : (t : ℕ) → map-writer·keyed-value-lts.Need-enum-known-keyed-2 (map-writer·keyed-value-calls t) (map-writer·keyed-value-at t) map-writer·keyed-value.Post
+map-writer·keyed-value-enum-known-keyed-2 :
+    (t : ℕ) → map-writer·keyed-value-lts.Need-enum-known-keyed-2 (map-writer·keyed-value-calls t) (map-writer·keyed-value-at t) map-writer·keyed-value.Post
 map-writer·keyed-value-enum-known-keyed-2 t c = search needs
 
 map-writer·keyed-value-same-length : (t : ℕ) → map-writer·keyed-value-lts.Need-same-length (map-writer·keyed-value-calls t) (map-writer·keyed-value-at t) map-writer·keyed-value.Post
@@ -737,7 +756,8 @@ map-writer·map-size-requires t c κs = search needs
 map-writer·map-cast-size : (t : ℕ) → map-writer·map-lts.Need-cast-size (map-writer·map-calls t) (map-writer·map-at t) map-writer·map.Post
 map-writer·map-cast-size t c = search needs
 
-map-writer·map-validate-exact-size-requires : (t : ℕ) → map-writer·map-lts.Need-validate-exact-size-requires (map-writer·map-calls t) (map-writer·map-at t) map-writer·map.Post
+map-writer·map-validate-exact-size-requires :
+    (t : ℕ) → map-writer·map-lts.Need-validate-exact-size-requires (map-writer·map-calls t) (map-writer·map-at t) map-writer·map.Post
 map-writer·map-validate-exact-size-requires t c κs = search needs
 
 map-writer·map-enum-told-2 : (t : ℕ) → map-writer·map-lts.Need-enum-told-2 (map-writer·map-calls t) (map-writer·map-at t) map-writer·map.Post
@@ -836,11 +856,11 @@ serializer·value-next-requires t c κs = search needs
 serializer·value-enum-known-step : (t : ℕ) → serializer·value-lts.Need-enum-known-step (serializer·value-calls t) (serializer·value-at t) serializer·value.Post
 serializer·value-enum-known-step t c = search needs
 
-serializer·value-sub-array : (t : ℕ) → serializer·value-lts.Need-sub-array (serializer·value-calls t) (serializer·value-at t) serializer·value.Post
-serializer·value-sub-array t c = search needs
+serializer·value-sub-t19 : (t : ℕ) → serializer·value-lts.Need-sub-t19 (serializer·value-calls t) (serializer·value-at t) serializer·value.Post
+serializer·value-sub-t19 t c = search needs
 
 serializer·value-array-requires : (t : ℕ) → serializer·value-lts.Need-array-requires (serializer·value-calls t) (serializer·value-at t) serializer·value.Post
-serializer·value-array-requires t c κs = search needs
+serializer·value-array-requires t c κs = let p = c .before .before .before .before .before .before .before .before .before .before .before .before .before .before .before .before .before .before .pre in search (needs, p)
 
 serializer·value-same-length : (t : ℕ) → serializer·value-lts.Need-same-length (serializer·value-calls t) (serializer·value-at t) serializer·value.Post
 serializer·value-same-length t c = search needs
@@ -848,11 +868,11 @@ serializer·value-same-length t c = search needs
 serializer·value-returns-2 : (t : ℕ) → serializer·value-lts.Need-returns-2 (serializer·value-calls t) (serializer·value-at t) serializer·value.Post
 serializer·value-returns-2 t c = search values
 
-serializer·value-sub-map : (t : ℕ) → serializer·value-lts.Need-sub-map (serializer·value-calls t) (serializer·value-at t) serializer·value.Post
-serializer·value-sub-map t c = search needs
+serializer·value-sub-t22 : (t : ℕ) → serializer·value-lts.Need-sub-t22 (serializer·value-calls t) (serializer·value-at t) serializer·value.Post
+serializer·value-sub-t22 t c = search needs
 
 serializer·value-map-requires : (t : ℕ) → serializer·value-lts.Need-map-requires (serializer·value-calls t) (serializer·value-at t) serializer·value.Post
-serializer·value-map-requires t c κs = search needs
+serializer·value-map-requires t c κs = let p = c .before .before .before .before .before .before .before .before .before .before .before .before .before .before .before .before .before .before .before .before .pre in search (needs, p)
 
 serializer·value-same-length-2 : (t : ℕ) → serializer·value-lts.Need-same-length-2 (serializer·value-calls t) (serializer·value-at t) serializer·value.Post
 serializer·value-same-length-2 t c = search needs
@@ -861,7 +881,7 @@ serializer·value-returns-3 : (t : ℕ) → serializer·value-lts.Need-returns-3
 serializer·value-returns-3 t c = search values
 
 serializer·value-leaf-requires : (t : ℕ) → serializer·value-lts.Need-leaf-requires (serializer·value-calls t) (serializer·value-at t) serializer·value.Post
-serializer·value-leaf-requires t c κs = (search leaf-inside, search needs)
+serializer·value-leaf-requires t c κs = let p = c .before .before .before .before .before .before .before .before .before .before .before .before .before .before .before .before .before .before .before .pre in (search (leaf-inside, p), search (needs, p))
 
 serializer·value-enum-told : (t : ℕ) → serializer·value-lts.Need-enum-told (serializer·value-calls t) (serializer·value-at t) serializer·value.Post
 serializer·value-enum-told t c = search needs
@@ -907,6 +927,9 @@ pub +array-writer·array+array-writer·dimension+array-writer·each-element+arra
     (array-writer·dimension-slice-aggregate-dimension-in-2 t)
     (array-writer·dimension-dimension-in-requires t)
     (array-writer·dimension-enum-known-counted t)
+    (array-writer·dimension-is-last-requires t)
+    (array-writer·dimension-count-requires t)
+    (array-writer·dimension-cast-t23 t)
     (array-writer·dimension-slice-aggregate-elements t)
     (array-writer·dimension-slice-aggregate-elements-2 t)
     (array-writer·dimension-elements-requires t)
@@ -927,9 +950,9 @@ pub +array-writer·array+array-writer·dimension+array-writer·each-element+arra
     (array-writer·each-element-same-length-2 t)
     (array-writer·each-element-returns-2 t)
     (array-writer·each-element-add-to t)
-    (array-writer·each-element-sub-element t)
-    (array-writer·each-element-part-element-start t)
-    (array-writer·each-element-part-element-end t)
+    (array-writer·each-element-sub-part t)
+    (array-writer·each-element-part-part-start t)
+    (array-writer·each-element-part-part-end t)
     (array-writer·each-element-element-requires t)
     (array-writer·each-element-add-i t)
     (array-writer·each-element-loop-less t)
@@ -949,23 +972,20 @@ pub +array-writer·array+array-writer·dimension+array-writer·each-element+arra
     (array-writer·element-same-length t)
     (array-writer·element-returns t)
     (array-writer·element-returns-2 t)
-    (array-writer·element-add-dimension t)
-    (array-writer·element-sub-dimension t)
+    (array-writer·element-add-d t)
+    (array-writer·element-sub-t17 t)
     (array-writer·element-dimension-requires t)
     (array-writer·element-same-length-2 t)
     (array-writer·element-returns-3 t))
     (λ t. array-writer·elements-lts.spec (array-writer·elements-calls t) (array-writer·elements-at t)
     array-writer·elements.Post
-    (array-writer·elements-count-requires t)
-    (array-writer·elements-cast-n t)
-    (array-writer·elements-is-last-requires t)
     (array-writer·elements-fields-requires t)
+    (array-writer·elements-sub-none t)
+    (array-writer·elements-part-none-start t)
+    (array-writer·elements-part-none-end t)
     (array-writer·elements-sub-each-element t)
     (array-writer·elements-part-each-element-start t)
     (array-writer·elements-part-each-element-end t)
-    (array-writer·elements-sub-each-element-2 t)
-    (array-writer·elements-part-each-element-start-2 t)
-    (array-writer·elements-part-each-element-end-2 t)
     (array-writer·elements-each-element-requires t)
     (array-writer·elements-same-length t)
     (array-writer·elements-returns t)
@@ -996,22 +1016,23 @@ pub +array-writer·array+array-writer·dimension+array-writer·each-element+arra
     (map-writer·each-key-end-requires t)
     (map-writer·each-key-same-length-3 t)
     (map-writer·each-key-returns-3 t))
-    (λ t. map-writer·keyed-value-lts.spec (map-writer·keyed-value-calls t) (map-writer·keyed-value-at t)
+    (λ t. map-writer·keyed-value-lts.spec
+    (map-writer·keyed-value-calls t) (map-writer·keyed-value-at t)
     map-writer·keyed-value.Post
     (map-writer·keyed-value-enum-known-keyed t)
     (map-writer·keyed-value-cast-from t)
     (map-writer·keyed-value-cast-to t)
     (map-writer·keyed-value-add-to t)
     (map-writer·keyed-value-returns t)
+    (map-writer·keyed-value-sub-part t)
+    (map-writer·keyed-value-part-part-start t)
+    (map-writer·keyed-value-part-part-end t)
     (map-writer·keyed-value-sub-value t)
     (map-writer·keyed-value-part-value-start t)
     (map-writer·keyed-value-part-value-end t)
     (map-writer·keyed-value-sub-value-2 t)
     (map-writer·keyed-value-part-value-start-2 t)
     (map-writer·keyed-value-part-value-end-2 t)
-    (map-writer·keyed-value-sub-value-3 t)
-    (map-writer·keyed-value-part-value-start-3 t)
-    (map-writer·keyed-value-part-value-end-3 t)
     (map-writer·keyed-value-value-requires t)
     (map-writer·keyed-value-enum-known-keyed-2 t)
     (map-writer·keyed-value-same-length t)
@@ -1070,11 +1091,11 @@ pub +array-writer·array+array-writer·dimension+array-writer·each-element+arra
     (serializer·value-returns t)
     (serializer·value-next-requires t)
     (serializer·value-enum-known-step t)
-    (serializer·value-sub-array t)
+    (serializer·value-sub-t19 t)
     (serializer·value-array-requires t)
     (serializer·value-same-length t)
     (serializer·value-returns-2 t)
-    (serializer·value-sub-map t)
+    (serializer·value-sub-t22 t)
     (serializer·value-map-requires t)
     (serializer·value-same-length-2 t)
     (serializer·value-returns-3 t)
