@@ -1,2 +1,3 @@
-pub mod Fills
+-- Laws that the functions' proofs cite; `Holds` is for the crates above too.
+mod Fills
 pub mod Holds
