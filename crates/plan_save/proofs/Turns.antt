@@ -1,13 +1,13 @@
 -- One round, and the rounds: one law for each way out. Assumes nothing.
 use mathlib.Core.Path.{_≡_, refl, sym, ap, _∙_}
 use mathlib.Core.Bool.{Bool, true, false, cond}
-use mathlib.Core.List.{List, [], _∷_}
+use mathlib.Core.List.{List, [], _∷_, _++_}
 use Prim.Native.Nat.{ℕ, zero, suc, _-_, _/_, _≤_, _<_}
 use native.Mathlib.Omega.{arith}
 use borrow.Author.Tests.{lt-ltb, le-ltb}
 use borrow.Rule.Slice.PartMut.{putMid, same-len-mid, take-put}
 use lib.ListN.{length, take, drop, length-take}
-use lib.Seq.{length-take-le}
+use lib.Seq.{length-take-le, length-front, take-append-seam}
 use Rattle.type_cache.proofs.Appends.{refused-cut}
 use Rattle.type_book.specs.Book.{blocks, isType}
 use Rattle.type_book_check.proofs.Numbers.{valid-number}
@@ -15,14 +15,13 @@ use Rattle.type_book_check.specs.declared.BookCheck.the-variants.{Valid}
 use Rattle.type_book_check.specs.Check.{checkBook, ValidBook}
 use Rattle.type_book_check.proofs.Valid.{valid-book, valid-size}
 use Rattle.type_index.specs.declared.Trust.{Trust}
-use Rattle.type_index.specs.declared.Trust.the-variants as trust
-use Rattle.type_index.specs.Trust.{trustThen, Trusted}
-use Rattle.type_index.proofs.Trusts.{unknown-trusted, then-trusted}
+use Rattle.type_index.specs.Trust.{Trusted}
+use Rattle.type_index_held.specs.Held.{FilledIs}
+use Rattle.type_index_held.proofs.Holds.{filled-trusted}
 use Rattle.plan_type_adds.specs.Knows.{Knows}
 use Rattle.resolve_walk.specs.Walk.{Walk, walkOf}
 use Rattle.resolve_walk.specs.Reads.{listed, whole}
 use Rattle.resolve_read_modify_write.specs.Reads.{rmwOf}
-use Rattle.resolve_read_modify_write.specs.Calls.{rmwAnswer}
 use Rattle.closure.specs.Calls.{Ours}
 use Rattle.plan_adds.specs.declared.Added.{Added}
 use Rattle.plan_adds.specs.Adds.{ours, addAll}
@@ -30,11 +29,12 @@ use Rattle.plan_adds.specs.State.{Ready, addedSaid, addedLength, AddedIs}
 use Rattle.plan_save.specs.declared.Plan.{Plan}
 use Rattle.plan_save.specs.declared.Plan.the-variants as plan
 use Rattle.plan_save.specs.declared.Asked.{Asked}
-use Rattle.plan_save.specs.declared.Asked.the-variants.{Lists, NotWhole}
+use Rattle.plan_save.specs.declared.Asked.the-variants.{Complete, Lists, NotWhole}
 use Rattle.plan_save.specs.declared.Round.{Round}
 use Rattle.plan_save.specs.declared.Round.the-variants.{Again, Is}
 use Rattle.plan_save.specs.Rounds.{Decision, ruled, nextRound, closing, notWhole, roundOf, sweptFrom, roundsThen, planFrom}
-use Rattle.plan_save.specs.State.{halfOf, Prepared, planSaid, roundSaid, Follows, RoundIs, AskSaid, AskedIs, DecidedIs, AfterAdds, AddedRound, PlannedIs}
+use Rattle.plan_save.specs.State.{halfOf, Prepared, planSaid, roundSaid, Follows, RoundIs, saysNo, AskSaid, AskedIs, AfterAdds, AddedRound, PlannedIs}
+use Rattle.plan_save.proofs.Asks.{no-complete, no-is, complete-yes}
 
 pub ready-book : (c buffer : List ℕ) (len : ℕ) (known : List ℕ) → Ready c buffer len known → ValidBook (take len buffer)
 ready-book c buffer len known o = valid-book buffer len (o .valid)
@@ -54,12 +54,19 @@ pub half-of : (l m : List ℕ) → length m ≡ length l → length l / 2 ≡ le
 half-of l m e = sym (length-take-le (length l / 2) m (omega arith))
 
 -- what is said of the controller's half: where it is held against the book, and where the other half is made anew
-pub half-held : (c l m : List ℕ) → length m ≡ length l → (t : Trust) → t ≡ trustThen c (take (length l / 2) m) trust.Unknown → Trusted c (take (length l / 2) m) t
-half-held c l m e t h = then-trusted c _ trust.Unknown t h (unknown-trusted c _)
+module _ (c l part : List ℕ) (len : ℕ) (t : Trust) (f : FilledIs c len t part) (e : length part ≡ length (take (length l / 2) l)) where
+  long : length part ≡ length l / 2
+  long = e ∙ length-take-le (length l / 2) l (omega arith)
 
-pub prepared : (c book l m known : List ℕ) → length m ≡ length l → (t : Trust) → t ≡ trustThen c (take (length l / 2) m) trust.Unknown → Knows c book known
-    → Prepared c book t m known
-prepared c book l m known e t h k = record { knows = k; trusted = rw e (half-held c l m e t h) }
+  pub half-held : Trusted c (take (length l / 2) (part ++ drop (length l / 2) l)) t
+  half-held =
+      let q : take (length l / 2) (part ++ drop (length l / 2) l) ≡ part = ap (λ (n : ℕ). take n (part ++ drop (length l / 2) l)) (sym long) ∙ take-append-seam part (drop (length l / 2) l) in
+      rw q (filled-trusted c len t part f)
+
+  pub prepared : (book known : List ℕ) → Knows c book known → Prepared c book t (part ++ drop (length l / 2) l) known
+  prepared book known k =
+      let q : length (part ++ drop (length l / 2) l) ≡ length l = length-front l part (length l / 2) e in
+      record { knows = k; trusted = rw q half-held }
 
 pub half-kept : (c l part : List ℕ) → length part ≡ length (take (length l - length l / 2) (drop (length l / 2) l)) → (t : Trust) → Trusted c (halfOf l) t
     → Trusted c (halfOf (putMid (length l / 2) (length l - length l / 2) l part)) t
@@ -78,8 +85,8 @@ none-long : (l : List ℕ) → length l ≡ 0 → l ≡ []
 none-long [] e = refl
 none-long (x ∷ l) e = absurd (omega arith)
 
-module _ (w : Walk) (a : Asked) (list : List ℕ) (o : AskedIs w a list) where
-  lists : (n : ℕ) → a ≡ Lists n → (whole w ≡ true) × (n ≡ length (listed w)) × (take n list ≡ listed w)
+module _ (book : List ℕ) (width : ℕ) (w : Walk) (a : Asked) (list : List ℕ) (o : AskedIs book width w a list) where
+  lists : (n : ℕ) → a ≡ Lists n → (whole w ≡ true) × (n ≡ length (listed w)) × (take n list ≡ listed w) × (saysNo (rmwOf book width w) ≡ false)
   lists n e = rw e at (o .says)
 
   not-whole : (k : ℕ) → a ≡ NotWhole k → (whole w ≡ false) × (k ≡ notWhole w)
@@ -91,7 +98,7 @@ module _ (w : Walk) (a : Asked) (list : List ℕ) (o : AskedIs w a list) where
       let z : length (take n list) ≡ n = ap (λ (l : List ℕ). length l) (q .2) ∙ sym (q .1) in
       omega (arith, length-take n list)
 
-module _ (c : List ℕ) (width root : ℕ) (buffer : List ℕ) (len from : ℕ) (a : Asked) (list : List ℕ) (o : AskedIs (walkOf (take len buffer) width root) a list) where
+module _ (c : List ℕ) (width root : ℕ) (buffer : List ℕ) (len from : ℕ) (a : Asked) (list : List ℕ) (o : AskedIs (take len buffer) width (walkOf (take len buffer) width root) a list) where
   abbrev w : Walk
   w = walkOf (take len buffer) width root
 
@@ -99,19 +106,27 @@ module _ (c : List ℕ) (width root : ℕ) (buffer : List ℕ) (len from : ℕ) 
       → RoundIs c width root buffer len from (Is (plan.Refused k len)) buffer known hints t
   unfolding roundSaid planSaid roundOf
   round-not-whole k e known hints t h =
-      let q = not-whole w a list o k e in
+      let q = not-whole (take len buffer) width w a list o k e in
       record { is = λ go. rw (q .0, q .1); follows = tt; trusted = h }
 
-  module _ (n : ℕ) (e : a ≡ Lists n) where
-    q : (whole w ≡ true) × (n ≡ length (listed w)) × (take n list ≡ listed w)
-    q = lists w a list o n e
+  -- the answer is "no": then the ask is whole and lists none
+  pub round-no : a ≡ Complete → (known hints : List ℕ) (t : Trust) → Trusted c (halfOf hints) t → RoundIs c width root buffer len from (Is (plan.No len)) buffer known hints t
+  unfolding roundSaid planSaid roundOf closing ruled
+  round-no e known hints t h =
+      let k : saysNo (rmwOf (take len buffer) width w) ≡ true = rw e at (o .says) in
+      let q = no-complete (take len buffer) width w k in
+      record { is = λ go. sym (rw (q .all, q .none, no-is (take len buffer) width (rmwOf (take len buffer) width w) k)); follows = tt; trusted = h }
 
-    pub round-none : n ≡ 0 → (p : Plan) → DecidedIs (rmwAnswer true (take len buffer) width root) len p → (known hints : List ℕ) (t : Trust) → Trusted c (halfOf hints) t
-        → RoundIs c width root buffer len from (Is p) buffer known hints t
-    unfolding roundSaid roundOf closing rmwAnswer
-    round-none z p d known hints t h =
+  module _ (n : ℕ) (e : a ≡ Lists n) where
+    q : (whole w ≡ true) × (n ≡ length (listed w)) × (take n list ≡ listed w) × (saysNo (rmwOf (take len buffer) width w) ≡ false)
+    q = lists (take len buffer) width w a list o n e
+
+    -- none is missing, and the answer is not "no"
+    pub round-yes : n ≡ 0 → (known hints : List ℕ) (t : Trust) → Trusted c (halfOf hints) t → RoundIs c width root buffer len from (Is (plan.Yes len)) buffer known hints t
+    unfolding roundSaid planSaid roundOf closing ruled
+    round-yes z known hints t h =
         let y : listed w ≡ [] = none-long (listed w) (sym (q .1) ∙ z) in
-        record { is = λ go. d .is buffer ∙ sym (rw (q .0, y)); follows = tt; trusted = h }
+        record { is = λ go. sym (rw (q .0, y, complete-yes (take len buffer) width w (q .0) y (q .3))); follows = tt; trusted = h }
 
     module _ (z : n ≡ 0 → ⊥) (h : isType (take len buffer) root ≡ true) (r : Round) (after known : List ℕ)
         (g : AddedRound c width from (take n list) buffer len r after known) where

@@ -1,7 +1,7 @@
 -- What is known of our buffer in the midst of a plan, and what the parts of the call promise each other. No contract of a public function
 -- cites this. Assumes nothing.
 use mathlib.Core.Path.{_≡_}
-use mathlib.Core.Bool.{true, false}
+use mathlib.Core.Bool.{Bool, true, false}
 use mathlib.Core.List.{List}
 use Prim.Native.Nat.{ℕ, _/_}
 use lib.ListN.{length, take}
@@ -9,6 +9,8 @@ use Rattle.type_book.specs.Book.{isType}
 use Rattle.type_index.specs.declared.Trust.{Trust}
 use Rattle.type_index.specs.Trust.{Trusted}
 use Rattle.resolve_read_modify_write.specs.declared.Rmw.{Rmw}
+use Rattle.resolve_read_modify_write.specs.declared.Rmw.the-variants as rmw
+use Rattle.resolve_read_modify_write.specs.Reads.{rmwOf}
 use Rattle.resolve_walk.specs.Walk.{Walk, walkOf}
 use Rattle.resolve_walk.specs.Reads.{listed, whole}
 use Rattle.plan_type_adds.specs.Knows.{Knows}
@@ -20,7 +22,7 @@ use Rattle.plan_save.specs.declared.Asked.{Asked}
 use Rattle.plan_save.specs.declared.Asked.the-variants as asked
 use Rattle.plan_save.specs.declared.Round.{Round}
 use Rattle.plan_save.specs.declared.Round.the-variants as round
-use Rattle.plan_save.specs.Rounds.{Decision, decided, lacking, refused, ruled, nextRound, notWhole, roundOf}
+use Rattle.plan_save.specs.Rounds.{Decision, decided, lacking, refused, nextRound, notWhole, roundOf}
 use Rattle.plan_adds.specs.Adds.{ours, addAll}
 use Rattle.plan_adds.specs.State.{Ready, addedLength, addedSaid}
 
@@ -57,18 +59,32 @@ pub record RoundIs (c : List ℕ) (width root : ℕ) (buffer : List ℕ) (len fr
   pub follows : Follows c root r after known
   pub trusted : Trusted c (halfOf hints) t
 
--- what is said of an ask
-abbrev pub AskSaid : Walk → Asked → List ℕ → Type 0
-AskSaid w (asked.Lists n) list = (whole w ≡ true) × (n ≡ length (listed w)) × (take n list ≡ listed w)
-AskSaid w (asked.NotWhole k) list = (whole w ≡ false) × (k ≡ notWhole w)
+-- read-modify-write answers "no"
+unfoldable pub saysNo : Rmw → Bool
+saysNo rmw.Yes = false
+saysNo rmw.No = true
+saysNo (rmw.NotFound b) = false
+saysNo (rmw.Refused n) = false
+
+-- what is said of the list alone
+abbrev pub ListSaid : Walk → Asked → List ℕ → Type 0
+ListSaid w asked.Complete list = ⊥
+ListSaid w (asked.Lists n) list = (whole w ≡ true) × (n ≡ length (listed w)) × (take n list ≡ listed w)
+ListSaid w (asked.NotWhole k) list = (whole w ≡ false) × (k ≡ notWhole w)
+
+-- the promise of the list: what is said of it
+pub record ListedIs (w : Walk) (r : Asked) (list : List ℕ) : Type 0 where
+  pub says : ListSaid w r list
+
+-- what is said of an ask, with what read-modify-write says of the same walk
+abbrev pub AskSaid : List ℕ → ℕ → Walk → Asked → List ℕ → Type 0
+AskSaid book width w asked.Complete list = saysNo (rmwOf book width w) ≡ true
+AskSaid book width w (asked.Lists n) list = (whole w ≡ true) × (n ≡ length (listed w)) × (take n list ≡ listed w) × (saysNo (rmwOf book width w) ≡ false)
+AskSaid book width w (asked.NotWhole k) list = (whole w ≡ false) × (k ≡ notWhole w)
 
 -- the promise of an ask: what is said of it
-pub record AskedIs (w : Walk) (r : Asked) (list : List ℕ) : Type 0 where
-  pub says : AskSaid w r list
-
--- what is said of read-modify-write, whatever our buffer holds after our book
-pub record DecidedIs (a : Rmw) (len : ℕ) (r : Plan) : Type 0 where
-  pub is : (buffer : List ℕ) → planSaid r buffer ≡ ruled a (ours buffer len)
+pub record AskedIs (book : List ℕ) (width : ℕ) (w : Walk) (r : Asked) (list : List ℕ) : Type 0 where
+  pub says : AskSaid book width w r list
 
 -- what is said of a round by its adds
 pub record AfterAdds (a : Added) (r : Round) : Type 0 where

@@ -16,7 +16,7 @@ ghost use Rattle.plan_save.specs.Rounds.{sweptFrom, planFrom};
 ghost use Rattle.plan_adds.specs.Adds.{ours};
 ghost use Rattle.plan_adds.specs.State.{Ready};
 ghost use Rattle.plan_save.specs.Call.{planRefusal, PlanDone, PlanIs};
-ghost use Rattle.plan_save.specs.State.{halfOf, Prepared, AskedIs, DecidedIs, AfterAdds, AddedRound, RoundIs, PlannedIs};
+ghost use Rattle.plan_save.specs.State.{halfOf, Prepared, saysNo, ListedIs, AskedIs, AfterAdds, AddedRound, RoundIs, PlannedIs};
 use enc_zeros::clear_numbers;
 use plan_adds::AddBy;
 use plan_adds::Added;
@@ -32,7 +32,7 @@ use type_book_check::check_root;
 use type_book_check::refusal_of;
 use type_index::Trust;
 use type_index::fill_names;
-use type_index::hold_against;
+use type_index_held::fill_held;
 
 // The rounds at most, so also the asks. They suffice, whatever the books hold (the law `plan-few` of plan_decides).
 const ROUNDS: u32 = 18;
@@ -52,8 +52,10 @@ pub enum Plan {
     Refused(u8, usize),
 }
 
-// What an ask says: how many blocks are listed, or that it is not whole, with 9 or 8.
+// What an ask says: that nothing is missing and no type keeps state; how many blocks are listed, where some type may keep it; or that it is not
+// whole, with 9 or 8.
 enum Asked {
+    Complete,
     Lists(usize),
     NotWhole(u8),
 }
@@ -66,19 +68,40 @@ enum Round {
 
 // ---- rounds
 
-// Asks for the missing types of the root, over an index that is made for it.
-fn ask(
+// Whether read-modify-write answers "no": every type that the root is made of is in our book then, and none keeps state. The index of our book is
+// made here, and serves the list too.
+fn is_no(book: &[u8], index: &mut [u32], width: u8, root: u32, scratch: &mut [u32]) -> bool
+    requires { ⌜ ValidBook (now book) × (isType (now book) root ≡ true) × (8192 ≤ length (now scratch)) ⌝ }
+    ensures { λ r. ⌜ r ≡ saysNo (rmwAnswer true (now (book .entry)) width root) ⌝ }
+{
+    fill_names(book, index);
+    let answer = resolve_read_modify_write::requires_read_modify_write_in(
+        book,
+        index,
+        width,
+        root,
+        scratch,
+    );
+    match answer {
+        Rmw::Yes => false,
+        Rmw::No => true,
+        Rmw::NotFound(_) => false,
+        Rmw::Refused(_) => false,
+    }
+}
+
+// Asks for the list of the missing types.
+fn ask_lists(
     book: &[u8],
-    index: &mut [u32],
+    index: &[u32],
     width: u8,
     root: u32,
     scratch: &mut [u32],
     list: &mut [u32],
 ) -> Asked
     requires { ⌜ ValidBook (now book) × (isType (now book) root ≡ true) × (8192 ≤ length (now scratch)) × (4096 ≤ length (now list)) ⌝ }
-    ensures { λ r. ⌜ AskedIs (walkOf (now (book .entry)) width root) r (now (list .exit)) ⌝ }
+    ensures { λ r. ⌜ ListedIs (walkOf (now (book .entry)) width root) r (now (list .exit)) ⌝ }
 {
-    fill_names(book, index);
     let missing = resolve_missing_types::missing_types_in(book, index, width, root, scratch, list);
     match missing {
         Missing::Listed(n, whole, count) => {
@@ -94,24 +117,23 @@ fn ask(
     }
 }
 
-// Read-modify-write of a book that lacks no type that is needed, with the length of our book.
-fn decide(book: &[u8], index: &[u32], width: u8, root: u32, scratch: &mut [u32], len: usize) -> Plan
-    requires { ⌜ ValidBook (now book) × (isType (now book) root ≡ true) × (8192 ≤ length (now scratch)) ⌝ }
-    ensures { λ r. ⌜ DecidedIs (rmwAnswer true (now (book .entry)) width root) len r ⌝ }
+// Asks for the missing types of the root. Read-modify-write comes first: its walk ends at the first name that our book lacks, and where it
+// answers "no" it is the only one.
+fn ask(
+    book: &[u8],
+    index: &mut [u32],
+    width: u8,
+    root: u32,
+    scratch: &mut [u32],
+    list: &mut [u32],
+) -> Asked
+    requires { ⌜ ValidBook (now book) × (isType (now book) root ≡ true) × (8192 ≤ length (now scratch)) × (4096 ≤ length (now list)) ⌝ }
+    ensures { λ r. ⌜ AskedIs (now (book .entry)) width (walkOf (now (book .entry)) width root) r (now (list .exit)) ⌝ }
 {
-    let answer = resolve_read_modify_write::requires_read_modify_write_in(
-        book,
-        index,
-        width,
-        root,
-        scratch,
-    );
-    match answer {
-        Rmw::Yes => Plan::Yes(len),
-        Rmw::No => Plan::No(len),
-        Rmw::NotFound(b) => Plan::NotFound(b, len),
-        Rmw::Refused(k) => Plan::Refused(k, len),
+    if is_no(book, index, width, root, scratch) {
+        return Asked::Complete;
     }
+    ask_lists(book, index, width, root, scratch, list)
 }
 
 // What follows from the adds of a round.
@@ -143,8 +165,8 @@ fn add_round(
     after_adds(add_all(buffer, len, controller, &index[..half], by, known, list, n))
 }
 
-// One ask, and what follows from it, with a sweep from a block on if it lists any. The first half of the index is of the controller's book,
-// the other half of ours.
+// One ask, and what follows from it: the answer, where nothing is missing; else the adds, with a sweep from a block on. The first half of the
+// index is of the controller's book, the other half of ours.
 fn one_round(
     buffer: &mut [u8],
     len: usize,
@@ -169,17 +191,11 @@ fn one_round(
         list,
     );
     match asked {
+        Asked::Complete => Round::Is(Plan::No(len)),
         Asked::NotWhole(k) => Round::Is(Plan::Refused(k, len)),
         Asked::Lists(n) => {
             if n == 0 {
-                return Round::Is(decide(
-                    &buffer[..len],
-                    &index[half..],
-                    by.width,
-                    root,
-                    scratch,
-                    len,
-                ));
+                return Round::Is(Plan::Yes(len));
             }
             add_round(buffer, len, controller, index, by, known, list, n)
         }
@@ -245,20 +261,19 @@ fn plan_rounds(
 
 // ---- the call
 
-// Makes the index of the controller's book in the first half, and marks which of its types our book knows. The index is held against that
-// book once, so that no name which the book lacks costs a search of it.
+// Makes the index of the controller's book in the first half, and marks which of its types our book knows. Where each of its types found a slot,
+// no name which that book lacks costs a search of it.
 fn prepare(book: &[u8], controller: &[u8], index: &mut [u32], known: &mut [u8]) -> Trust
     requires { ⌜ ValidBook (now controller) × (length (now known) ≡ 65536) ⌝ }
     ensures { λ r. ⌜ Prepared (now (controller .entry)) (now (book .entry)) r (now (index .exit)) (now (known .exit)) ⌝ }
 {
     let half = index.len() / 2;
-    fill_names(controller, &mut index[..half]);
-    let trust = hold_against(controller, &index[..half], Trust::Unknown);
+    let trust = fill_held(controller, &mut index[..half]);
     mark_known(book, controller, &index[..half], trust, known);
     trust
 }
 
-// The rounds where both books, the root and the scratch were checked; the index of the controller's book is made and held against it first.
+// The rounds where both books, the root and the scratch were checked; the index of the controller's book is made first.
 fn plan_all(
     buffer: &mut [u8],
     len: usize,

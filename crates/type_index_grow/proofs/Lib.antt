@@ -1,4 +1,4 @@
--- Laws that the functions' proofs cite; `Grows` is for the crates above too.
+-- Laws that the functions' proofs cite; `Kept` and `Grows` are for the crates above too.
 mod Ends
-mod Kept
+pub mod Kept
 pub mod Grows

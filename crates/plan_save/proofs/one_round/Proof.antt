@@ -1,15 +1,10 @@
 use Rattle.plan_adds.proofs.Fetches.{ready-cut, ready-fits}
-use Rattle.plan_save.proofs.Turns.{ready-book, lists-fit, half-kept, round-not-whole, round-none, round-adds}
+use Rattle.plan_save.proofs.Turns.{ready-book, lists-fit, half-kept, round-no, round-not-whole, round-yes, round-adds}
 use borrow.Author.Needs.{needs}
 use Rattle.plan_save.proofs.one_round.Statement.{statement}
 use Rattle.plan_save.proofs.one_round.Tie as tie
-use Rattle.plan_save.proofs.one_round.Reads as reads
-use Rattle.plan_save.proofs.one_round.Lts as lts
-use Rattle.plan_save.proofs.add_round.Reads as add-round-reads
-use Rattle.plan_save.proofs.ask.Reads as ask-reads
-use Rattle.plan_save.proofs.decide.Reads as decide-reads
 
-ruleset exits = (half-kept, round-not-whole, round-none, round-adds)
+ruleset exits = (half-kept, round-no, round-not-whole, round-yes, round-adds)
 
 slice-reshare-prefix-ask : tie.Need-slice-reshare-prefix-ask
 slice-reshare-prefix-ask c = search ready-fits
@@ -32,32 +27,14 @@ part-ask-end c = search needs
 ask-requires : tie.Need-ask-requires
 ask-requires c κs = (search ready-book, search needs, search needs, search needs)
 
+enum-told : tie.Need-enum-told
+enum-told c = search needs
+
 enum-known-asked : tie.Need-enum-known-asked
 enum-known-asked c = search needs
 
 enum-known-asked-2 : tie.Need-enum-known-asked-2
 enum-known-asked-2 c = search needs
-
-slice-reshare-prefix-decide : tie.Need-slice-reshare-prefix-decide
-slice-reshare-prefix-decide c = search ready-fits
-
-slice-aggregate-decide : tie.Need-slice-aggregate-decide
-slice-aggregate-decide c = search ready-cut
-
-mul-decide : tie.Need-mul-decide
-mul-decide c = search needs
-
-sub-decide : tie.Need-sub-decide
-sub-decide c = search needs
-
-part-decide-start : tie.Need-part-decide-start
-part-decide-start c = search needs
-
-part-decide-end : tie.Need-part-decide-end
-part-decide-end c = search needs
-
-decide-requires : tie.Need-decide-requires
-decide-requires c κs = (search ready-book, search needs, search needs)
 
 same-length : tie.Need-same-length
 same-length c = search needs
@@ -104,11 +81,26 @@ same-length-11 c = search needs
 same-length-12 : tie.Need-same-length-12
 same-length-12 c = search needs
 
+returns-3 : tie.Need-returns-3
+returns-3 c = search exits
+
 same-length-13 : tie.Need-same-length-13
 same-length-13 c = search needs
 
-returns-3 : tie.Need-returns-3
-returns-3 c = search exits
+same-length-14 : tie.Need-same-length-14
+same-length-14 c = search needs
+
+same-length-15 : tie.Need-same-length-15
+same-length-15 c = search needs
+
+same-length-16 : tie.Need-same-length-16
+same-length-16 c = search needs
+
+same-length-17 : tie.Need-same-length-17
+same-length-17 c = search needs
+
+returns-4 : tie.Need-returns-4
+returns-4 c = search exits
 
 pub one-round-spec : {M : Type 1} → statement M
 one-round-spec =
@@ -121,15 +113,9 @@ one-round-spec =
     part-ask-start
     part-ask-end
     ask-requires
+    enum-told
     enum-known-asked
     enum-known-asked-2
-    slice-reshare-prefix-decide
-    slice-aggregate-decide
-    mul-decide
-    sub-decide
-    part-decide-start
-    part-decide-end
-    decide-requires
     same-length
     same-length-2
     same-length-3
@@ -145,5 +131,10 @@ one-round-spec =
     same-length-10
     same-length-11
     same-length-12
+    returns-3
     same-length-13
-    returns-3)
+    same-length-14
+    same-length-15
+    same-length-16
+    same-length-17
+    returns-4)

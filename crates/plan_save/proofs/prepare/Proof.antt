@@ -3,23 +3,14 @@ use borrow.Author.Needs.{needs}
 use Rattle.plan_save.proofs.prepare.Statement.{statement}
 use Rattle.plan_save.proofs.prepare.Tie as tie
 
-slice-relend-prefix-fill-names : tie.Need-slice-relend-prefix-fill-names
-slice-relend-prefix-fill-names c = search needs
+slice-relend-prefix-fill-held : tie.Need-slice-relend-prefix-fill-held
+slice-relend-prefix-fill-held c = search needs
 
-slice-aggregate-fill-names : tie.Need-slice-aggregate-fill-names
-slice-aggregate-fill-names c = search half-cut
+slice-aggregate-fill-held : tie.Need-slice-aggregate-fill-held
+slice-aggregate-fill-held c = search half-cut
 
-fill-names-requires : tie.Need-fill-names-requires
-fill-names-requires c κs = search needs
-
-slice-reshare-prefix-hold-against : tie.Need-slice-reshare-prefix-hold-against
-slice-reshare-prefix-hold-against c = search needs
-
-slice-aggregate-hold-against : tie.Need-slice-aggregate-hold-against
-slice-aggregate-hold-against c = search half-of
-
-hold-against-requires : tie.Need-hold-against-requires
-hold-against-requires c κs = search needs
+fill-held-requires : tie.Need-fill-held-requires
+fill-held-requires c κs = search needs
 
 slice-reshare-prefix-mark-known : tie.Need-slice-reshare-prefix-mark-known
 slice-reshare-prefix-mark-known c = search needs
@@ -43,12 +34,9 @@ pub prepare-spec : {M : Type 1} → statement M
 prepare-spec =
     tie.close
     (tie.spec
-    slice-relend-prefix-fill-names
-    slice-aggregate-fill-names
-    fill-names-requires
-    slice-reshare-prefix-hold-against
-    slice-aggregate-hold-against
-    hold-against-requires
+    slice-relend-prefix-fill-held
+    slice-aggregate-fill-held
+    fill-held-requires
     slice-reshare-prefix-mark-known
     slice-aggregate-mark-known
     mark-known-requires

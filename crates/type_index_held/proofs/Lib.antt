@@ -1,0 +1,3 @@
+-- Laws that the functions' proofs cite; `Holds` is for the crates above too.
+mod Fills
+pub mod Holds
