@@ -40,7 +40,7 @@ use Rattle.tape.specs.Record.{newRecord, declaring}
 use Rattle.de_output.specs.Trace.{rec, one, From, Halts}
 use Rattle.tape_array_elements.specs.Element.{whole, elementItem, shapeAt, shapeCheck, elementCheck, ElementChecked}
 use Rattle.tape_array_elements.proofs.Items.{item-last, item-further}
-use Rattle.de.specs.Plans.{Given, GivenElement, memberPart, PartIs}
+use Rattle.de.specs.Plans.{Given, GivenElement, memberPart, PartIs, fieldTrace}
 use Rattle.de.specs.declared.reading.Part.{Part}
 use Rattle.de.specs.declared.reading.Part.the-variants as part
 use Rattle.de_leaf_output.specs.declared.Typed.{Typed}
@@ -85,16 +85,15 @@ module _ (c : Ctx) (left : ℕ) (x : Typed) (mem : List ℕ) {tape txt : List �
     unfolding shapeWalk leafOf
     value-leaf q h = from-as (walks.walk-shape c left mem x shape.Leaf n (sym q ∙ shape-is c (x .resolved) k (x .category) ey ek)) h
 
--- ---- member
+-- ---- field
 
-module _ (child : Child) (c : Ctx) (mem : List ℕ) (f : ℕ) {tape tape₁ txt txt₁ : List ℕ} {s k r : Step} (key : From (one (rec (newRecord 4 0 f 0))) tape txt s k tape₁ txt₁)
-    (a : Part) (q : PartIs c f (length mem) a) where
-  pub member-stop : (n b : ℕ) → a ≡ part.Stop n b → Halts k n b r → From (memberOf child c mem f) tape txt s r tape₁ txt₁
-  member-stop n b e h = from-as (walks.member-stop child c mem f a (q .is) n b e) (chain key (halted h))
+module _ (child : Child) (c : Ctx) (mem : List ℕ) (f : ℕ) {tape txt : List ℕ} {s r : Step} (a : Part) (q : PartIs c f (length mem) a) where
+  pub field-stop : (n b : ℕ) → a ≡ part.Stop n b → Halts s n b r → From (fieldTrace child c mem f) tape txt s r tape txt
+  field-stop n b e h = from-as (walks.field-stop child c mem f a (q .is) n b e) (halted h)
 
-  pub member-value : {tape₂ txt₂ : List ℕ} (x : Typed) (from to : ℕ) → a ≡ part.Value x from to → From (child (whole x) (take (to - from) (drop from mem))) tape₁ txt₁ k r tape₂ txt₂
-      → From (memberOf child c mem f) tape txt s r tape₂ txt₂
-  member-value x from to e v = from-as (walks.member-value child c mem f a (q .is) x from to e) (chain key v)
+  pub field-value : {tape₂ txt₂ : List ℕ} (x : Typed) (from to : ℕ) → a ≡ part.Value x from to → From (child (whole x) (take (to - from) (drop from mem))) tape txt s r tape₂ txt₂
+      → From (fieldTrace child c mem f) tape txt s r tape₂ txt₂
+  field-value x from to e v = from-as (walks.field-value child c mem f a (q .is) x from to e) v
 
 module _ {book : List ℕ} {width f len : ℕ} {a : Part} {x : Typed} {from to : ℕ} (q : PartIs (ctx book width) f len a) (e : a ≡ part.Value x from to) where
   pub part-typed : {t : ℕ} → t ≡ x .resolved → isType book t ≡ true

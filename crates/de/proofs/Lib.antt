@@ -2,3 +2,4 @@
 mod Walks
 mod Exits
 mod Wholes
+mod FieldNumbers

@@ -28,7 +28,7 @@ use Rattle.tape_array_elements.specs.Element.{Content, whole, further, cut, ele
 use Rattle.de_leaf_output.specs.declared.Typed.{Typed}
 use Rattle.de.specs.declared.reading.Part.{Part}
 use Rattle.de.specs.declared.reading.Part.the-variants as part
-use Rattle.de.specs.Plans.{memberPart}
+use Rattle.de.specs.Plans.{memberPart, fieldTrace}
 use Rattle.de.specs.Walk.{Ctx, typedOf, Child, checked, fieldValue, memberOf, membersFrom, membersOf, mapOf, elementsFrom, elementsOf, dimensionOf, elementBy, arrayBy, arrayOf, shapeWalk, itemWalk, walk}
 
 -- ---- a value
@@ -71,17 +71,16 @@ module _ (child : Child) (c : Ctx) (mem : List ℕ) where
     value-part answer.TooLong = rw field-long
 
     module _ (r : Part) (q : r ≡ memberPart c (length mem) (resolveField (c .book) (c .width) f)) where
-      member-by : memberOf child c mem f ≡ one (rec (newRecord 4 0 f 0)) then partWalk r
-      unfolding memberOf
-      member-by = ap (λ (u : Trace). one (rec (newRecord 4 0 f 0)) then u) (value-part (resolveField (c .book) (c .width) f) ∙ ap partWalk (sym q))
+      field-by : fieldTrace child c mem f ≡ partWalk r
+      field-by = value-part (resolveField (c .book) (c .width) f) ∙ ap partWalk (sym q)
 
-      pub member-stop : (n b : ℕ) → r ≡ part.Stop n b → memberOf child c mem f ≡ one (rec (newRecord 4 0 f 0)) then refuse n b
+      pub field-stop : (n b : ℕ) → r ≡ part.Stop n b → fieldTrace child c mem f ≡ refuse n b
       unfolding partWalk
-      member-stop n b e = member-by ∙ rw e
+      field-stop n b e = field-by ∙ rw e
 
-      pub member-value : (x : Typed) (from to : ℕ) → r ≡ part.Value x from to → memberOf child c mem f ≡ one (rec (newRecord 4 0 f 0)) then child (whole x) (take (to - from) (drop from mem))
+      pub field-value : (x : Typed) (from to : ℕ) → r ≡ part.Value x from to → fieldTrace child c mem f ≡ child (whole x) (take (to - from) (drop from mem))
       unfolding partWalk
-      member-value x from to e = member-by ∙ rw e
+      field-value x from to e = field-by ∙ rw e
 
   pub members-all : (t n : ℕ) → membersFrom child c mem (t + 1) n ≡ membersFrom child c mem (t + 1 + 0) (n - 0)
   members-all t n =

@@ -19,7 +19,9 @@ use Rattle.tape_array_elements.specs.Element.{shapeAt}
 use Rattle.de_leaf_output.specs.declared.Typed.{Typed}
 use Rattle.de.specs.declared.reading.Part.{Part}
 use Rattle.de.specs.declared.reading.Part.the-variants as part
-use Rattle.de.specs.Walk.{Ctx, typedOf}
+use Rattle.tape.specs.declared.record.Record.{Record}
+use Rattle.de_output.specs.Trace.{Trace, rec, one}
+use Rattle.de.specs.Walk.{Ctx, typedOf, Child, fieldValue, walk}
 
 -- the plan of a type that has fields is empty, or none of them is refused
 pub record Given (c : Ctx) (t : ℕ) (plan : List ℕ) : Type 0 where
@@ -51,3 +53,11 @@ pub record ValueIs (c : Ctx) (f len : ℕ) (x : Typed) (from to : ℕ) : Type 0 
 pub record PartIs (c : Ctx) (f len : ℕ) (r : Part) : Type 0 where
   pub is : r ≡ memberPart c len (resolveField (c .book) (c .width) f)
   pub value : (x : Typed) (from to : ℕ) → r ≡ part.Value x from to → ValueIs c f len x from to
+
+-- what field block f emits after its key
+abbrev pub fieldTrace : Child → Ctx → List ℕ → ℕ → Trace
+fieldTrace child c mem f = fieldValue child c mem (resolveField (c .book) (c .width) f)
+
+-- a record of kind 0 says nothing; any other is all that field block f emits after its key
+pub record FieldNumber (c : Ctx) (left f : ℕ) (mem : List ℕ) (r : Record) : Type 0 where
+  pub is : (r .kind ≡ 0 → ⊥) → fieldTrace (walk c left) c mem f ≡ one (rec r)

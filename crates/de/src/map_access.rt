@@ -7,14 +7,17 @@ ghost use Rattle.type_book_check.specs.Check.{ValidBook};
 ghost use Rattle.type_book.specs.Book.{isType};
 ghost use Rattle.resolve_field_plan.specs.Plan.{PlanEntry, Entries, PlanServes};
 ghost use Rattle.de_output.specs.Trace.{From};
-ghost use Rattle.de.specs.Plans.{PartIs};
+ghost use Rattle.de.specs.Plans.{PartIs, FieldNumber, fieldTrace};
 ghost use Rattle.de.specs.Walk.{ctx, walk, mapOf, membersOf, memberOf};
 use crate::deserializer::value;
 use crate::reading::Member;
 use crate::reading::Part;
 use crate::reading::Reading;
 use de_leaf_output::Typed;
+use de_leaf_output::number::no_record;
+use de_leaf_output::number::number_record;
 use de_output::Step;
+use de_output::put;
 use de_output::put_frame;
 use de_output::stop;
 use resolve_field_plan::Planned;
@@ -22,6 +25,8 @@ use resolve_field_types::FieldsCheck;
 use tape::record::KEY;
 use tape::record::MAP;
 use tape::record::MAP_END;
+use tape::record::Record;
+use type_category_number::category_at;
 use validators::Validity;
 use validators::validate_exact_size;
 
@@ -116,7 +121,62 @@ fn part_of(book: &[u8], index: &[u32], m: Member, bytes: &[u8]) -> Part
     }
 }
 
-// A field: its key (`next_key_seed`), then its value (`next_value_seed`).
+// The record of a field that is a number, by its entry of a plan; or the one of kind 0, which says nothing. It needs no look-up and calls
+// nothing that is not compiled into it, so that the loop over the fields keeps its state in registers.
+fn number_of(book: &[u8], m: Member, bytes: &[u8]) -> Record
+    requires { ⌜ ValidBook (now book) × PlanEntry (now book) (m .width) (m .f) (m .entry) ⌝ }
+    ensures { λ r. ⌜ FieldNumber (ctx (now (book .entry)) (m .width)) (m .left) (m .f) (now (bytes .entry)) r ⌝ }
+{
+    if m.entry == 0 {
+        return no_record();
+    }
+    if m.left == 0 {
+        return no_record();
+    }
+    let from = type_book::block::offset(book, m.f) as usize;
+    let to = from + type_book::block::size(book, m.f) as usize;
+    if to > bytes.len() {
+        return no_record();
+    }
+    let category = category_at(((m.entry - 1) % 16) as u32);
+    let typed = Typed {
+        named: ((m.entry - 1) / 1048576) as u32,
+        resolved: ((m.entry - 1) / 16 % 65536) as u32,
+        category,
+    };
+    number_record(book, typed, &bytes[from..to])
+}
+
+// A field's value (`next_value_seed`), of any type.
+pub(crate) fn field(
+    s: Step,
+    book: &[u8],
+    index: &[u32],
+    m: Member,
+    bytes: &[u8],
+    tape: &mut [u8],
+    text: &mut [u8],
+) -> Step
+    requires { ⌜ ValidBook (now book) × PlanEntry (now book) (m .width) (m .f) (m .entry) ⌝ }
+    ensures { λ r. ⌜ From (fieldTrace (walk (ctx (now (book .entry)) (m .width)) (m .left)) (ctx (now (book .entry)) (m .width)) (now (bytes .entry)) (m .f)) (now (tape .entry)) (now (text .entry)) s r (now (tape .exit)) (now (text .exit)) ⌝ }
+{
+    let part = part_of(book, index, m, bytes);
+    match part {
+        Part::Value(typed, from, to) => {
+            let v = Reading {
+                typed,
+                width: m.width,
+                left: m.left,
+            };
+            let none = [0u64; 1];
+            let rest = &none[0..0];
+            value(s, book, index, v, rest, &bytes[from..to], tape, text)
+        }
+        Part::Stop(n, b) => stop(s, n, b),
+    }
+}
+
+// A field: its key (`next_key_seed`), then its value. Most are numbers, which go on the tape without a further call.
 pub(crate) fn member(
     s: Step,
     book: &[u8],
@@ -130,18 +190,9 @@ pub(crate) fn member(
     ensures { λ r. ⌜ From (memberOf (walk (ctx (now (book .entry)) (m .width)) (m .left)) (ctx (now (book .entry)) (m .width)) (now (bytes .entry)) (m .f)) (now (tape .entry)) (now (text .entry)) s r (now (tape .exit)) (now (text .exit)) ⌝ }
 {
     let key = put_frame(s, tape, text, KEY, 0, m.f as u64);
-    let part = part_of(book, index, m, bytes);
-    match part {
-        Part::Value(typed, from, to) => {
-            let v = Reading {
-                typed,
-                width: m.width,
-                left: m.left,
-            };
-            let none = [0u64; 1];
-            let rest = &none[0..0];
-            value(key, book, index, v, rest, &bytes[from..to], tape, text)
-        }
-        Part::Stop(n, b) => stop(key, n, b),
+    let number = number_of(book, m, bytes);
+    if number.kind != 0 {
+        return put(key, tape, text, number);
     }
+    field(key, book, index, m, bytes, tape, text)
 }

@@ -26,6 +26,8 @@ use tape::record::UNIT;
 use tape::record::UNSIGNED;
 use type_category::type_category::AdsTypeCategory;
 
+pub mod number;
+
 // A type: its block as it was named, the block that its aliases resolve to, and the category of that.
 pub struct Typed {
     pub named: u32,
@@ -43,7 +45,7 @@ fn first(bytes: &[u8], n: usize) -> &[u8]
     bytes
 }
 
-fn bit(b: bool) -> u64
+pub(crate) fn bit(b: bool) -> u64
     ensures { λ r. ⌜ r ≡ cond b 1 0 ⌝ }
 {
     if b {

@@ -7,7 +7,8 @@ use Rattle.tape_array_elements.specs.Element.{elementItem}
 use Rattle.de_output.proofs.Runs.{Rest}
 use Rattle.tape_shape.proofs.Strides.{Along, along-start, along-again, along-end, along-fits, element-fills, next-dimension, fills-first, fills-further}
 use Rattle.tape_shape.specs.Array.{strideOf}
-use Rattle.de.proofs.Exits.{value-deep, value-map, value-array, value-leaf, member-stop, member-value, part-typed, part-category, part-inside, part-order, members-start, members-again, members-end, members-stop, map-odd, map-fine, map-lacks, map-endless, array-odd, array-nothing, array-lacks, array-endless, array-other, array-base, dimension-fine, dimension-lacks, dimension-endless, elements-start, elements-again, elements-end, elements-stop, element-last, element-deep, element-further, field-number, field-first, typed-base, typed-found, leaf-inside, map-ready, given-none, map-given, own-entries, own-elements, last-given}
+use Rattle.de.proofs.Exits.{value-deep, value-map, value-array, value-leaf, field-stop, field-value, part-typed, part-category, part-inside, part-order, members-start, members-again, members-end, members-stop, map-odd, map-fine, map-lacks, map-endless, array-odd, array-nothing, array-lacks, array-endless, array-other, array-base, dimension-fine, dimension-lacks, dimension-endless, elements-start, elements-again, elements-end, elements-stop, element-last, element-deep, element-further, field-number, field-first, typed-base, typed-found, leaf-inside, map-ready, given-none, map-given, own-entries, own-elements, last-given}
+use Rattle.de.proofs.FieldNumbers.{member-number, member-field}
 use Rattle.resolve_field_plan.proofs.Plans.{entry-of}
 use Rattle.type_category.proofs.Numbers.{category-is}
 use Rattle.validators.proofs.Validities.{size-is, size-other}
@@ -15,29 +16,33 @@ use borrow.Fn.Kinds.{In}
 use borrow.Fn.PlainCycle.{Measures, is, falls, and}
 use Rattle.de.proofs.array_access.array.Reads as array-access·array
 use Rattle.de.proofs.array_access.array.Kinds as array-access·array-kinds
-use Rattle.de.proofs.+array_access-array+array_access-dimension+array_access-element+array_access-elements+deserializer-value+map_access-map+map_access-member+map_access-members.Lts-array_access-array as array-access·array-lts
+use Rattle.de.proofs.+array_access-array+array_access-dimension+array_access-element+array_access-elements+deserializer-value+map_access-field+map_access-map+map_access-member+map_access-members.Lts-array_access-array as array-access·array-lts
 use Rattle.de.proofs.array_access.dimension.Reads as array-access·dimension
 use Rattle.de.proofs.array_access.dimension.Kinds as array-access·dimension-kinds
-use Rattle.de.proofs.+array_access-array+array_access-dimension+array_access-element+array_access-elements+deserializer-value+map_access-map+map_access-member+map_access-members.Lts-array_access-dimension as array-access·dimension-lts
+use Rattle.de.proofs.+array_access-array+array_access-dimension+array_access-element+array_access-elements+deserializer-value+map_access-field+map_access-map+map_access-member+map_access-members.Lts-array_access-dimension as array-access·dimension-lts
 use Rattle.de.proofs.array_access.element.Reads as array-access·element
 use Rattle.de.proofs.array_access.element.Kinds as array-access·element-kinds
-use Rattle.de.proofs.+array_access-array+array_access-dimension+array_access-element+array_access-elements+deserializer-value+map_access-map+map_access-member+map_access-members.Lts-array_access-element as array-access·element-lts
+use Rattle.de.proofs.+array_access-array+array_access-dimension+array_access-element+array_access-elements+deserializer-value+map_access-field+map_access-map+map_access-member+map_access-members.Lts-array_access-element as array-access·element-lts
 use Rattle.de.proofs.array_access.elements.Reads as array-access·elements
 use Rattle.de.proofs.array_access.elements.Kinds as array-access·elements-kinds
-use Rattle.de.proofs.+array_access-array+array_access-dimension+array_access-element+array_access-elements+deserializer-value+map_access-map+map_access-member+map_access-members.Lts-array_access-elements as array-access·elements-lts
+use Rattle.de.proofs.+array_access-array+array_access-dimension+array_access-element+array_access-elements+deserializer-value+map_access-field+map_access-map+map_access-member+map_access-members.Lts-array_access-elements as array-access·elements-lts
 use Rattle.de.proofs.deserializer.value.Reads as deserializer·value
 use Rattle.de.proofs.deserializer.value.Kinds as deserializer·value-kinds
-use Rattle.de.proofs.+array_access-array+array_access-dimension+array_access-element+array_access-elements+deserializer-value+map_access-map+map_access-member+map_access-members.Lts-deserializer-value as deserializer·value-lts
+use Rattle.de.proofs.+array_access-array+array_access-dimension+array_access-element+array_access-elements+deserializer-value+map_access-field+map_access-map+map_access-member+map_access-members.Lts-deserializer-value as deserializer·value-lts
+use Rattle.de.proofs.map_access.field.Reads as map-access·field
+use Rattle.de.proofs.map_access.field.Kinds as map-access·field-kinds
+use Rattle.de.proofs.+array_access-array+array_access-dimension+array_access-element+array_access-elements+deserializer-value+map_access-field+map_access-map+map_access-member+map_access-members.Lts-map_access-field as map-access·field-lts
 use Rattle.de.proofs.map_access.map.Reads as map-access·map
 use Rattle.de.proofs.map_access.map.Kinds as map-access·map-kinds
-use Rattle.de.proofs.+array_access-array+array_access-dimension+array_access-element+array_access-elements+deserializer-value+map_access-map+map_access-member+map_access-members.Lts-map_access-map as map-access·map-lts
+use Rattle.de.proofs.+array_access-array+array_access-dimension+array_access-element+array_access-elements+deserializer-value+map_access-field+map_access-map+map_access-member+map_access-members.Lts-map_access-map as map-access·map-lts
 use Rattle.de.proofs.map_access.member.Reads as map-access·member
 use Rattle.de.proofs.map_access.member.Kinds as map-access·member-kinds
-use Rattle.de.proofs.+array_access-array+array_access-dimension+array_access-element+array_access-elements+deserializer-value+map_access-map+map_access-member+map_access-members.Lts-map_access-member as map-access·member-lts
+use Rattle.de.proofs.+array_access-array+array_access-dimension+array_access-element+array_access-elements+deserializer-value+map_access-field+map_access-map+map_access-member+map_access-members.Lts-map_access-member as map-access·member-lts
 use Rattle.de.proofs.map_access.members.Reads as map-access·members
 use Rattle.de.proofs.map_access.members.Kinds as map-access·members-kinds
-use Rattle.de.proofs.+array_access-array+array_access-dimension+array_access-element+array_access-elements+deserializer-value+map_access-map+map_access-member+map_access-members.Lts-map_access-members as map-access·members-lts
+use Rattle.de.proofs.+array_access-array+array_access-dimension+array_access-element+array_access-elements+deserializer-value+map_access-field+map_access-map+map_access-member+map_access-members.Lts-map_access-members as map-access·members-lts
 use Rattle.tape_array_elements.proofs.element_check.Reads as element-check-reads
+use Rattle.de.proofs.map_access.number_of.Reads as number-of-reads
 use Rattle.de.proofs.map_access.part_of.Reads as part-of-reads
 use Rattle.resolve_field_plan.proofs.entry_at.Reads as entry-at-reads
 use Rattle.resolve_field_plan.proofs.plan_fields_in.Reads as plan-fields-in-reads
@@ -48,6 +53,7 @@ use Rattle.tape_shape.proofs.array.is_last.Reads as is-last-reads
 use Rattle.tape_shape.proofs.array.product_is.Reads as product-is-reads
 use Rattle.tape_shape.proofs.array.stride_of.Reads as stride-of-reads
 use Rattle.tape_shape.proofs.shape_of.Reads as tape-shape-of-reads
+use Rattle.de_output.proofs.put.Reads as put-reads
 use Rattle.de_output.proofs.put_frame.Reads as put-frame-reads
 use Rattle.de_output.proofs.stop.Reads as stop-reads
 use Rattle.type_category.proofs.type_category.AdsTypeCategory.determine.Reads as determine-reads
@@ -55,10 +61,10 @@ use Rattle.type_book.proofs.block.count.Reads as count-reads
 use Rattle.type_book.proofs.block.fields.Reads as fields-reads
 use Rattle.type_book.proofs.block.size.Reads as size-reads
 use Rattle.validators.proofs.validate_exact_size.Reads as validate-exact-size-reads
-use Rattle.de.proofs.+array_access-array+array_access-dimension+array_access-element+array_access-elements+deserializer-value+map_access-map+map_access-member+map_access-members.{
+use Rattle.de.proofs.+array_access-array+array_access-dimension+array_access-element+array_access-elements+deserializer-value+map_access-field+map_access-map+map_access-member+map_access-members.{
   statement,
 }
-use Rattle.de.proofs.+array_access-array+array_access-dimension+array_access-element+array_access-elements+deserializer-value+map_access-map+map_access-member+map_access-members.Tie.{
+use Rattle.de.proofs.+array_access-array+array_access-dimension+array_access-element+array_access-elements+deserializer-value+map_access-field+map_access-map+map_access-member+map_access-members.Tie.{
   close,
 }
 
@@ -86,17 +92,21 @@ abbrev μ-deserializer·value : Measures 6 deserializer·value-kinds.ps ℕ
 μ-deserializer·value κs a =
     6 * a .1 .1 .1 .0 .left + 0
 
+abbrev μ-map-access·field : Measures 5 map-access·field-kinds.ps ℕ
+μ-map-access·field κs a =
+    6 * a .1 .1 .1 .0 .left + 1
+
 abbrev μ-map-access·map : Measures 6 map-access·map-kinds.ps ℕ
 μ-map-access·map κs a =
-    6 * a .1 .1 .1 .0 .left + 3
+    6 * a .1 .1 .1 .0 .left + 4
 
 abbrev μ-map-access·member : Measures 5 map-access·member-kinds.ps ℕ
 μ-map-access·member κs a =
-    6 * a .1 .1 .1 .0 .left + 1
+    6 * a .1 .1 .1 .0 .left + 2
 
 abbrev μ-map-access·members : Measures 6 map-access·members-kinds.ps ℕ
 μ-map-access·members κs a =
-    6 * a .1 .1 .1 .0 .left + 2
+    6 * a .1 .1 .1 .0 .left + 3
 
 abbrev array-access·array-at : ℕ → In 5 array-access·array-kinds.ps
 array-access·array-at t =
@@ -178,6 +188,14 @@ deserializer·value-below t =
     (falls 6 deserializer·value-kinds.ps _<_ μ-deserializer·value t)
     deserializer·value.Pre
 
+abbrev map-access·field-at : ℕ → In 5 map-access·field-kinds.ps
+map-access·field-at t =
+    and
+    5
+    map-access·field-kinds.ps
+    (is 5 map-access·field-kinds.ps μ-map-access·field t)
+    map-access·field.Pre
+
 abbrev map-access·map-at : ℕ → In 6 map-access·map-kinds.ps
 map-access·map-at t =
     and
@@ -185,6 +203,14 @@ map-access·map-at t =
     map-access·map-kinds.ps
     (is 6 map-access·map-kinds.ps μ-map-access·map t)
     map-access·map.Pre
+
+abbrev map-access·field-below : ℕ → In 5 map-access·field-kinds.ps
+map-access·field-below t =
+    and
+    5
+    map-access·field-kinds.ps
+    (falls 5 map-access·field-kinds.ps _<_ μ-map-access·field t)
+    map-access·field.Pre
 
 abbrev map-access·map-below : ℕ → In 6 map-access·map-kinds.ps
 map-access·map-below t =
@@ -241,11 +267,14 @@ array-access·elements-calls t = (count-reads.Asked, count-reads.Learnt, put-fra
 abbrev deserializer·value-calls : ℕ → deserializer·value-lts.Claims
 deserializer·value-calls t = (stop-reads.Asked, stop-reads.Learnt, tape-shape-of-reads.Asked, tape-shape-of-reads.Learnt, map-access·map-below t, map-access·map.Post, array-access·array-below t, array-access·array.Post, leaf-reads.Asked, leaf-reads.Learnt)
 
+abbrev map-access·field-calls : ℕ → map-access·field-lts.Claims
+map-access·field-calls t = (part-of-reads.Asked, part-of-reads.Learnt, deserializer·value-below t, deserializer·value.Post, stop-reads.Asked, stop-reads.Learnt)
+
 abbrev map-access·map-calls : ℕ → map-access·map-lts.Claims
 map-access·map-calls t = (size-reads.Asked, size-reads.Learnt, validate-exact-size-reads.Asked, validate-exact-size-reads.Learnt, stop-reads.Asked, stop-reads.Learnt, map-access·members-below t, map-access·members.Post, plan-fields-in-reads.Asked, plan-fields-in-reads.Learnt)
 
 abbrev map-access·member-calls : ℕ → map-access·member-lts.Claims
-map-access·member-calls t = (put-frame-reads.Asked, put-frame-reads.Learnt, part-of-reads.Asked, part-of-reads.Learnt, deserializer·value-below t, deserializer·value.Post, stop-reads.Asked, stop-reads.Learnt)
+map-access·member-calls t = (put-frame-reads.Asked, put-frame-reads.Learnt, number-of-reads.Asked, number-of-reads.Learnt, put-reads.Asked, put-reads.Learnt, map-access·field-below t, map-access·field.Post)
 
 abbrev map-access·members-calls : ℕ → map-access·members-lts.Claims
 map-access·members-calls t = (fields-reads.Asked, fields-reads.Learnt, put-frame-reads.Asked, put-frame-reads.Learnt, entry-at-reads.Asked, entry-at-reads.Learnt, map-access·member-below t, map-access·member.Post)
@@ -556,6 +585,51 @@ deserializer·value-same-length-6 t c = search needs
 deserializer·value-returns-4 : (t : ℕ) → deserializer·value-lts.Need-returns-4 (deserializer·value-calls t) (deserializer·value-at t) deserializer·value.Post
 deserializer·value-returns-4 t c = search value-leaf
 
+map-access·field-part-of-requires : (t : ℕ) → map-access·field-lts.Need-part-of-requires (map-access·field-calls t) (map-access·field-at t) map-access·field.Post
+map-access·field-part-of-requires t c κs = search needs
+
+map-access·field-enum-known-part : (t : ℕ) → map-access·field-lts.Need-enum-known-part (map-access·field-calls t) (map-access·field-at t) map-access·field.Post
+map-access·field-enum-known-part t c = search needs
+
+map-access·field-sub-rest : (t : ℕ) → map-access·field-lts.Need-sub-rest (map-access·field-calls t) (map-access·field-at t) map-access·field.Post
+map-access·field-sub-rest t c = search needs
+
+map-access·field-part-rest-start : (t : ℕ) → map-access·field-lts.Need-part-rest-start (map-access·field-calls t) (map-access·field-at t) map-access·field.Post
+map-access·field-part-rest-start t c = search needs
+
+map-access·field-part-rest-end : (t : ℕ) → map-access·field-lts.Need-part-rest-end (map-access·field-calls t) (map-access·field-at t) map-access·field.Post
+map-access·field-part-rest-end t c = search needs
+
+map-access·field-sub-value : (t : ℕ) → map-access·field-lts.Need-sub-value (map-access·field-calls t) (map-access·field-at t) map-access·field.Post
+map-access·field-sub-value t c = search part-order
+
+map-access·field-part-value-start : (t : ℕ) → map-access·field-lts.Need-part-value-start (map-access·field-calls t) (map-access·field-at t) map-access·field.Post
+map-access·field-part-value-start t c = search part-order
+
+map-access·field-part-value-end : (t : ℕ) → map-access·field-lts.Need-part-value-end (map-access·field-calls t) (map-access·field-at t) map-access·field.Post
+map-access·field-part-value-end t c = search part-inside
+
+map-access·field-value-requires : (t : ℕ) → map-access·field-lts.Need-value-requires (map-access·field-calls t) (map-access·field-at t) map-access·field.Post
+map-access·field-value-requires t c κs = (search needs, (search needs, part-typed (c .before .before .before .before .before .before .before .before .part-of .ensures) (c .before .before .before .before .before .before .part .given .1) refl, part-category (c .before .before .before .before .before .before .before .before .part-of .ensures) (c .before .before .before .before .before .before .part .given .1), search given-none))
+
+map-access·field-enum-known-part-2 : (t : ℕ) → map-access·field-lts.Need-enum-known-part-2 (map-access·field-calls t) (map-access·field-at t) map-access·field.Post
+map-access·field-enum-known-part-2 t c = search needs
+
+map-access·field-stop-requires : (t : ℕ) → map-access·field-lts.Need-stop-requires (map-access·field-calls t) (map-access·field-at t) map-access·field.Post
+map-access·field-stop-requires t c κs = search needs
+
+map-access·field-same-length : (t : ℕ) → map-access·field-lts.Need-same-length (map-access·field-calls t) (map-access·field-at t) map-access·field.Post
+map-access·field-same-length t c = search needs
+
+map-access·field-same-length-2 : (t : ℕ) → map-access·field-lts.Need-same-length-2 (map-access·field-calls t) (map-access·field-at t) map-access·field.Post
+map-access·field-same-length-2 t c = search needs
+
+map-access·field-returns : (t : ℕ) → map-access·field-lts.Need-returns (map-access·field-calls t) (map-access·field-at t) map-access·field.Post
+map-access·field-returns t c = search field-value
+
+map-access·field-returns-2 : (t : ℕ) → map-access·field-lts.Need-returns-2 (map-access·field-calls t) (map-access·field-at t) map-access·field.Post
+map-access·field-returns-2 t c = search field-stop
+
 map-access·map-size-requires : (t : ℕ) → map-access·map-lts.Need-size-requires (map-access·map-calls t) (map-access·map-at t) map-access·map.Post
 map-access·map-size-requires t c κs = search needs
 
@@ -636,38 +710,11 @@ map-access·member-cast-put-frame t c = search needs
 map-access·member-put-frame-requires : (t : ℕ) → map-access·member-lts.Need-put-frame-requires (map-access·member-calls t) (map-access·member-at t) map-access·member.Post
 map-access·member-put-frame-requires t c κs = search needs
 
-map-access·member-part-of-requires : (t : ℕ) → map-access·member-lts.Need-part-of-requires (map-access·member-calls t) (map-access·member-at t) map-access·member.Post
-map-access·member-part-of-requires t c κs = search needs
+map-access·member-number-of-requires : (t : ℕ) → map-access·member-lts.Need-number-of-requires (map-access·member-calls t) (map-access·member-at t) map-access·member.Post
+map-access·member-number-of-requires t c κs = search needs
 
-map-access·member-enum-known-part : (t : ℕ) → map-access·member-lts.Need-enum-known-part (map-access·member-calls t) (map-access·member-at t) map-access·member.Post
-map-access·member-enum-known-part t c = search needs
-
-map-access·member-sub-rest : (t : ℕ) → map-access·member-lts.Need-sub-rest (map-access·member-calls t) (map-access·member-at t) map-access·member.Post
-map-access·member-sub-rest t c = search needs
-
-map-access·member-part-rest-start : (t : ℕ) → map-access·member-lts.Need-part-rest-start (map-access·member-calls t) (map-access·member-at t) map-access·member.Post
-map-access·member-part-rest-start t c = search needs
-
-map-access·member-part-rest-end : (t : ℕ) → map-access·member-lts.Need-part-rest-end (map-access·member-calls t) (map-access·member-at t) map-access·member.Post
-map-access·member-part-rest-end t c = search needs
-
-map-access·member-sub-value : (t : ℕ) → map-access·member-lts.Need-sub-value (map-access·member-calls t) (map-access·member-at t) map-access·member.Post
-map-access·member-sub-value t c = search part-order
-
-map-access·member-part-value-start : (t : ℕ) → map-access·member-lts.Need-part-value-start (map-access·member-calls t) (map-access·member-at t) map-access·member.Post
-map-access·member-part-value-start t c = search part-order
-
-map-access·member-part-value-end : (t : ℕ) → map-access·member-lts.Need-part-value-end (map-access·member-calls t) (map-access·member-at t) map-access·member.Post
-map-access·member-part-value-end t c = search part-inside
-
-map-access·member-value-requires : (t : ℕ) → map-access·member-lts.Need-value-requires (map-access·member-calls t) (map-access·member-at t) map-access·member.Post
-map-access·member-value-requires t c κs = (search needs, (search needs, part-typed (c .before .before .before .before .before .before .before .before .part-of .ensures) (c .before .before .before .before .before .before .part .given .1) refl, part-category (c .before .before .before .before .before .before .before .before .part-of .ensures) (c .before .before .before .before .before .before .part .given .1), search given-none))
-
-map-access·member-enum-known-part-2 : (t : ℕ) → map-access·member-lts.Need-enum-known-part-2 (map-access·member-calls t) (map-access·member-at t) map-access·member.Post
-map-access·member-enum-known-part-2 t c = search needs
-
-map-access·member-stop-requires : (t : ℕ) → map-access·member-lts.Need-stop-requires (map-access·member-calls t) (map-access·member-at t) map-access·member.Post
-map-access·member-stop-requires t c κs = search needs
+map-access·member-put-requires : (t : ℕ) → map-access·member-lts.Need-put-requires (map-access·member-calls t) (map-access·member-at t) map-access·member.Post
+map-access·member-put-requires t c κs = search needs
 
 map-access·member-same-length : (t : ℕ) → map-access·member-lts.Need-same-length (map-access·member-calls t) (map-access·member-at t) map-access·member.Post
 map-access·member-same-length t c = search needs
@@ -676,7 +723,10 @@ map-access·member-same-length-2 : (t : ℕ) → map-access·member-lts.Need-sam
 map-access·member-same-length-2 t c = search needs
 
 map-access·member-returns : (t : ℕ) → map-access·member-lts.Need-returns (map-access·member-calls t) (map-access·member-at t) map-access·member.Post
-map-access·member-returns t c = search member-value
+map-access·member-returns t c = search member-number
+
+map-access·member-field-requires : (t : ℕ) → map-access·member-lts.Need-field-requires (map-access·member-calls t) (map-access·member-at t) map-access·member.Post
+map-access·member-field-requires t c κs = search needs
 
 map-access·member-same-length-3 : (t : ℕ) → map-access·member-lts.Need-same-length-3 (map-access·member-calls t) (map-access·member-at t) map-access·member.Post
 map-access·member-same-length-3 t c = search needs
@@ -685,7 +735,7 @@ map-access·member-same-length-4 : (t : ℕ) → map-access·member-lts.Need-sam
 map-access·member-same-length-4 t c = search needs
 
 map-access·member-returns-2 : (t : ℕ) → map-access·member-lts.Need-returns-2 (map-access·member-calls t) (map-access·member-at t) map-access·member.Post
-map-access·member-returns-2 t c = search member-stop
+map-access·member-returns-2 t c = search member-field
 
 abbrev map-access·members-Inv-loop : map-access·members-lts.InvT-loop
 map-access·members-Inv-loop book index v plan bytes tape₀ text₀ t n here₀ i₀ tape text here i =
@@ -756,15 +806,16 @@ map-access·members-same-length-4 t c = search needs
 map-access·members-returns-2 : (t : ℕ) → map-access·members-lts.Need-returns-2 (map-access·members-calls t) (map-access·members-at t) map-access·members.Post map-access·members-Inv-loop map-access·members-μ-loop
 map-access·members-returns-2 t c = search members-end
 
-pub +array-access·array+array-access·dimension+array-access·element+array-access·elements+deserializer·value+map-access·map+map-access·member+map-access·members-spec :
+pub +array-access·array+array-access·dimension+array-access·element+array-access·elements+deserializer·value+map-access·field+map-access·map+map-access·member+map-access·members-spec :
     {M : Type 1} → statement M
-+array-access·array+array-access·dimension+array-access·element+array-access·elements+deserializer·value+map-access·map+map-access·member+map-access·members-spec =
++array-access·array+array-access·dimension+array-access·element+array-access·elements+deserializer·value+map-access·field+map-access·map+map-access·member+map-access·members-spec =
     close
     μ-array-access·array
     μ-array-access·dimension
     μ-array-access·element
     μ-array-access·elements
     μ-deserializer·value
+    μ-map-access·field
     μ-map-access·map
     μ-map-access·member
     μ-map-access·members
@@ -875,6 +926,23 @@ pub +array-access·array+array-access·dimension+array-access·element+array-acc
     (deserializer·value-same-length-5 t)
     (deserializer·value-same-length-6 t)
     (deserializer·value-returns-4 t))
+    (λ t. map-access·field-lts.spec (map-access·field-calls t) (map-access·field-at t)
+    map-access·field.Post
+    (map-access·field-part-of-requires t)
+    (map-access·field-enum-known-part t)
+    (map-access·field-sub-rest t)
+    (map-access·field-part-rest-start t)
+    (map-access·field-part-rest-end t)
+    (map-access·field-sub-value t)
+    (map-access·field-part-value-start t)
+    (map-access·field-part-value-end t)
+    (map-access·field-value-requires t)
+    (map-access·field-enum-known-part-2 t)
+    (map-access·field-stop-requires t)
+    (map-access·field-same-length t)
+    (map-access·field-same-length-2 t)
+    (map-access·field-returns t)
+    (map-access·field-returns-2 t))
     (λ t. map-access·map-lts.spec (map-access·map-calls t) (map-access·map-at t)
     map-access·map.Post
     (map-access·map-size-requires t)
@@ -905,20 +973,12 @@ pub +array-access·array+array-access·dimension+array-access·element+array-acc
     map-access·member.Post
     (map-access·member-cast-put-frame t)
     (map-access·member-put-frame-requires t)
-    (map-access·member-part-of-requires t)
-    (map-access·member-enum-known-part t)
-    (map-access·member-sub-rest t)
-    (map-access·member-part-rest-start t)
-    (map-access·member-part-rest-end t)
-    (map-access·member-sub-value t)
-    (map-access·member-part-value-start t)
-    (map-access·member-part-value-end t)
-    (map-access·member-value-requires t)
-    (map-access·member-enum-known-part-2 t)
-    (map-access·member-stop-requires t)
+    (map-access·member-number-of-requires t)
+    (map-access·member-put-requires t)
     (map-access·member-same-length t)
     (map-access·member-same-length-2 t)
     (map-access·member-returns t)
+    (map-access·member-field-requires t)
     (map-access·member-same-length-3 t)
     (map-access·member-same-length-4 t)
     (map-access·member-returns-2 t))
