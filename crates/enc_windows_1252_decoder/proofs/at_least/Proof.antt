@@ -1,5 +1,4 @@
 -- `at_least` meets its contract: a law for each exit. Assumes nothing.
-use borrow.Author.Needs.{needs}
 use native.Mathlib.Omega.{arith}
 use Rattle.enc_windows_1252_decoder.proofs.Texts.{at-least-no, at-least-yes}
 use Rattle.enc_windows_1252_decoder.proofs.at_least.Statement.{statement}

@@ -1,6 +1,5 @@
 -- `put_wide` meets its contract: two bytes, the first of them written twice, or three. Assumes nothing.
 use borrow.Author.Needs.{needs}
-use native.Mathlib.Omega.{arith}
 use Rattle.enc_windows_1252_decoder.proofs.Decoders.{wide-first, wide-second, wide-third, wide-done}
 use Rattle.enc_windows_1252_decoder.proofs.put_wide.Statement.{statement}
 use Rattle.enc_windows_1252_decoder.proofs.put_wide.Tie as tie

@@ -1,6 +1,5 @@
 -- `utf8_length_of` meets its contract: the rule over the code point. Assumes nothing.
 use borrow.Author.Needs.{needs}
-use native.Mathlib.Omega.{arith}
 use Rattle.enc_windows_1252_decoder.proofs.Texts.{length-counts}
 use Rattle.enc_windows_1252_decoder.proofs.utf8_length_of.Statement.{statement}
 use Rattle.enc_windows_1252_decoder.proofs.utf8_length_of.Tie as tie
