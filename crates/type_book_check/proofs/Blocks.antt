@@ -10,7 +10,9 @@ use lib.Dec.{eqb}
 use borrow.Author.Tests.{eq-eqb, ne-eqb, not-true, not-false}
 use Rattle.type_book.specs.Book.{blocks, blockOf, fieldsOf, entriesOf}
 use Rattle.type_block_form.specs.Form.{sumRight, typeForm, fieldForm, entryForm}
-use Rattle.type_book_check.specs.Check.{sumAt, placeOf, placesOnward, placedFrom, allInPlace}
+use Rattle.type_book_check.specs.Check.{sumAt, sums, placeOf, placesOnward, placedFrom, allInPlace, misplacedScan, scanOf}
+use Rattle.type_book_check.specs.declared.Scan.{Scan}
+use Rattle.type_book_check.specs.declared.Scan.the-variants as scan
 use Rattle.type_book_check.specs.declared.Place.{Place}
 use Rattle.type_book_check.specs.declared.Place.the-variants.{Next, Wrong}
 
@@ -88,9 +90,9 @@ module _ (book : List ℕ) where
       unfolding placedFrom
       next = let k : blocks book - i ≡ suc (blocks book - (i + 1)) = omega arith in inv ∙ rw (k, o)
 
-      pub placed-stop : r ≡ Wrong → false ≡ allInPlace book
+      pub placed-stop : r ≡ Wrong → allInPlace book ≡ false
       unfolding placesOnward
-      placed-stop h = sym (next ∙ rw h)
+      placed-stop h = next ∙ rw h
 
       pub placed-again : (f′ e′ : ℕ) → r ≡ Next f′ e′ → allInPlace book ≡ placedFrom book (i + 1) (blocks book - (i + 1)) f′ e′
       unfolding placesOnward
@@ -104,5 +106,36 @@ module _ (book : List ℕ) where
       pub placed-fields : (f ≡ 0 → ⊥) → false ≡ allInPlace book
       placed-fields h = sym (last ∙ rw (ne-eqb f 0 h))
 
-      pub placed-end : f ≡ 0 → eqb e 0 ≡ allInPlace book
-      placed-end h = sym (last ∙ rw (eq-eqb f 0 h))
+      module _ (h : f ≡ 0) where
+        pub placed-entries : (e ≡ 0 → ⊥) → false ≡ allInPlace book
+        placed-entries g = sym (last ∙ rw (eq-eqb f 0 h, ne-eqb e 0 g))
+
+        pub placed-end : e ≡ 0 → true ≡ allInPlace book
+        placed-end g = sym (last ∙ rw (eq-eqb f 0 h, eq-eqb e 0 g))
+
+-- 2 before 3
+module _ (book : List ℕ) where
+  pub scan-sum : false ≡ sums book → scan.Sum ≡ scanOf book
+  unfolding scanOf
+  scan-sum h = rw (← h)
+
+  pub scan-form : true ≡ sums book → false ≡ allInPlace book → scan.Form ≡ scanOf book
+  unfolding scanOf
+  scan-form h g = rw (← h, ← g)
+
+  pub scan-right : true ≡ sums book → true ≡ allInPlace book → scan.Right ≡ scanOf book
+  unfolding scanOf
+  scan-right h g = rw (← h, ← g)
+
+  module _ (t : Bool) (e : t ≡ sums book) where
+    pub misplaced-form : t ≡ true → scan.Form ≡ misplacedScan book
+    unfolding misplacedScan
+    misplaced-form h = rw (← e, h)
+
+    pub misplaced-sum : t ≡ false → scan.Sum ≡ misplacedScan book
+    unfolding misplacedScan
+    misplaced-sum h = rw (← e, h)
+
+  pub scan-misplaced : (r : Scan) → r ≡ misplacedScan book → allInPlace book ≡ false → r ≡ scanOf book
+  unfolding scanOf misplacedScan
+  scan-misplaced r e h = e ∙ rw h

@@ -11,7 +11,9 @@ use lib.Dec.{eqb, leb, ltb}
 use Rattle.enc_number.specs.Answer.{refusalOf}
 use Rattle.type_book.specs.Book.{blocks, isType}
 use Rattle.type_doubles.specs.Doubles.{distinct}
-use Rattle.type_book_check.specs.Check.{sizeRight, sums, allInPlace, checkBlocks, checkBook, bookNumbers, rootOf, checkRoot}
+use Rattle.type_book_check.specs.Check.{sizeRight, sums, allInPlace, scanOf, checkBlocks, checkBook, bookNumbers, rootOf, checkRoot}
+use Rattle.type_book_check.specs.declared.Scan.{Scan}
+use Rattle.type_book_check.specs.declared.Scan.the-variants as scan
 use Rattle.type_book_check.specs.declared.BookCheck.{BookCheck}
 use Rattle.type_book_check.specs.declared.BookCheck.the-variants.{Valid, Size, Sum, Form, Doubled}
 use Rattle.type_book_check.specs.declared.RootCheck.{RootCheck}
@@ -50,6 +52,12 @@ sized room len h =
       few = leb-true _ _ (and-right (eqb (len % 512) 0) _ b);
     }
 
+-- what is answered after a pass over the blocks, where nothing is wrong by what `go` says
+unfoldable scanned : Scan → BookCheck → BookCheck
+scanned scan.Right go = go
+scanned scan.Sum go = Sum
+scanned scan.Form go = Form
+
 module _ (buffer : List ℕ) (len : ℕ) where
   module _ (z : Sized (length buffer) len) where
     pub book-length : length (take len buffer) ≡ len
@@ -73,24 +81,33 @@ module _ (buffer : List ℕ) (len : ℕ) where
       pub book-few : blocks (take len buffer) ≤ 65536
       book-few = book-blocks fine
 
-      module _ (u : Bool) (o : u ≡ sums (take len buffer)) where
-        pub book-sum : not u ≡ true → Sum ≡ checkBook buffer len
-        unfolding checkBook checkBlocks
-        book-sum g = rw (← e, not-false t h, ← o, not-true u g)
+      module _ (k : Scan) (o : k ≡ scanOf (take len buffer)) where
+        by-scan : checkBook buffer len ≡ scanned k (cond (distinct (take len buffer)) Valid Doubled)
+        unfolding checkBook checkBlocks scanOf scanned
+        by-scan = rw (← e, not-false t h, o) (each (sums (take len buffer)) (allInPlace (take len buffer)))
+          where
+            each : (u v : Bool) → cond u (cond v (cond (distinct (take len buffer)) Valid Doubled) Form) Sum
+                ≡ scanned (cond u (cond v scan.Right scan.Form) scan.Sum) (cond (distinct (take len buffer)) Valid Doubled)
+            each true true = refl
+            each true false = refl
+            each false v = refl
 
-        module _ (g : not u ≡ false) (v : Bool) (p : v ≡ allInPlace (take len buffer)) where
-          pub book-form : not v ≡ true → Form ≡ checkBook buffer len
-          unfolding checkBook checkBlocks
-          book-form k = rw (← e, not-false t h, ← o, not-false u g, ← p, not-true v k)
+        pub book-sum : k ≡ scan.Sum → Sum ≡ checkBook buffer len
+        unfolding scanned
+        book-sum g = sym (by-scan ∙ rw g)
 
-          module _ (k : not v ≡ false) (w : Bool) (q : w ≡ distinct (take len buffer)) where
-            pub book-doubled : not w ≡ true → Doubled ≡ checkBook buffer len
-            unfolding checkBook checkBlocks
-            book-doubled d = rw (← e, not-false t h, ← o, not-false u g, ← p, not-false v k, ← q, not-true w d)
+        pub book-form : k ≡ scan.Form → Form ≡ checkBook buffer len
+        unfolding scanned
+        book-form g = sym (by-scan ∙ rw g)
 
-            pub book-valid : not w ≡ false → Valid ≡ checkBook buffer len
-            unfolding checkBook checkBlocks
-            book-valid d = rw (← e, not-false t h, ← o, not-false u g, ← p, not-false v k, ← q, not-false w d)
+        module _ (g : k ≡ scan.Right) (w : Bool) (q : w ≡ distinct (take len buffer)) where
+          pub book-doubled : w ≡ false → Doubled ≡ checkBook buffer len
+          unfolding scanned
+          book-doubled d = sym (by-scan ∙ rw (g, ← q, d))
+
+          pub book-valid : w ≡ true → Valid ≡ checkBook buffer len
+          unfolding scanned
+          book-valid d = sym (by-scan ∙ rw (g, ← q, d))
 
 -- ---- what a valid book passed
 passed : (t : Bool) (a b : BookCheck) → (b ≡ Valid → ⊥) → cond t a b ≡ Valid → t ≡ true

@@ -12,6 +12,8 @@ use Rattle.type_block_form.specs.Form.{sumRight, typeForm, fieldForm, entryForm
 use Rattle.type_doubles.specs.Doubles.{allFrom, distinct}
 use Rattle.type_book_check.specs.declared.Place.{Place}
 use Rattle.type_book_check.specs.declared.Place.the-variants.{Next, Wrong}
+use Rattle.type_book_check.specs.declared.Scan.{Scan}
+use Rattle.type_book_check.specs.declared.Scan.the-variants as scan
 use Rattle.type_book_check.specs.declared.BookCheck.{BookCheck}
 use Rattle.type_book_check.specs.declared.BookCheck.the-variants.{Valid, Size, Sum, Form, Doubled}
 use Rattle.type_book_check.specs.declared.RootCheck.{RootCheck}
@@ -48,6 +50,14 @@ placedFrom book n (suc k) f e = placesOnward (placedFrom book (n + 1) k) (placeO
 -- 3: all blocks of the book have the form of their places, and nothing is due before the first or after the last
 abbrev pub allInPlace : List ℕ → Bool
 allInPlace book = placedFrom book 0 (blocks book) 0 0
+
+-- the refusal of a book in which a block has not the form of its place: 3, unless 2 comes first
+unfoldable pub misplacedScan : List ℕ → Scan
+misplacedScan book = cond (sums book) scan.Form scan.Sum
+
+-- what a pass over the blocks finds: all of 2 before all of 3
+unfoldable pub scanOf : List ℕ → Scan
+scanOf book = cond (sums book) (cond (allInPlace book) scan.Right scan.Form) scan.Sum
 
 -- 2 to 4 of a book: all of 2 before all of 3, all of 3 before 4, which is `distinct`: no two types of one name
 unfoldable pub checkBlocks : List ℕ → BookCheck

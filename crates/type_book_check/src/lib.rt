@@ -5,7 +5,7 @@ ghost use Prim.Native.Nat.{_≤_, _<_};
 ghost use lib.ListN.{length};
 ghost use Rattle.enc_number.specs.Answer.{refusalOf};
 ghost use Rattle.type_book.specs.Book.{blocks as blocksOf, blockOf};
-ghost use Rattle.type_book_check.specs.Check.{sizeRight, sums, placeOf, allInPlace as placedIn, checkBook, bookNumbers, rootNumbers, rootOf, checkRoot};
+ghost use Rattle.type_book_check.specs.Check.{sizeRight, sums, placeOf, misplacedScan, scanOf, checkBook, bookNumbers, rootNumbers, rootOf, checkRoot};
 ghost use Rattle.type_book_check.specs.Given.{name as byName, isRootName, givenRoot, givenNumbers, checkGiven};
 use type_block_form::all_printable;
 use type_block_form::entry_form;
@@ -48,6 +48,13 @@ enum Place {
     Wrong,
 }
 
+// What one pass over all blocks finds: nothing wrong, or the refusal that comes first of 2 and 3.
+enum Scan {
+    Right,
+    Sum,
+    Form,
+}
+
 // ---- the whole book
 
 fn block_at(book: &[u8], n: u32) -> &[u8]
@@ -66,6 +73,7 @@ fn count(book: &[u8]) -> u32
     type_book::block::blocks(book) as u32
 }
 
+// Every block holds its sum. Asked of a book with a block of a wrong form, since 2 comes before 3.
 fn sums_right(book: &[u8]) -> bool
     requires { ⌜ blocksOf (now book) ≤ 65536 ⌝ }
     ensures { λ r. ⌜ r ≡ sums (now (book .entry)) ⌝ }
@@ -108,26 +116,44 @@ fn due_after(book: &[u8], n: u32, fields: u32, entries: u32) -> Place
     Place::Wrong
 }
 
-fn placed(book: &[u8]) -> bool
+// The refusal of a book in which a block has not the form of its place.
+fn misplaced(book: &[u8]) -> Scan
     requires { ⌜ blocksOf (now book) ≤ 65536 ⌝ }
-    ensures { λ r. ⌜ r ≡ placedIn (now (book .entry)) ⌝ }
+    ensures { λ r. ⌜ r ≡ misplacedScan (now (book .entry)) ⌝ }
+{
+    if sums_right(book) {
+        return Scan::Form;
+    }
+    Scan::Sum
+}
+
+// Sums and forms of all blocks, in one pass: a block's bytes are near when its form is tested.
+fn scanned(book: &[u8]) -> Scan
+    requires { ⌜ blocksOf (now book) ≤ 65536 ⌝ }
+    ensures { λ r. ⌜ r ≡ scanOf (now (book .entry)) ⌝ }
 {
     let n = count(book);
     let mut fields: u32 = 0;
     let mut entries: u32 = 0;
     let mut i: u32 = 0;
     while i < n {
+        if !sum_right(block_at(book, i)) {
+            return Scan::Sum;
+        }
         let Place::Next(f, e) = due_after(book, i, fields, entries) else {
-            return false;
+            return misplaced(book);
         };
         fields = f;
         entries = e;
         i += 1;
     }
     if fields != 0 {
-        return false;
+        return Scan::Form;
     }
-    entries == 0
+    if entries != 0 {
+        return Scan::Form;
+    }
+    Scan::Right
 }
 
 // ---- the calls
@@ -155,16 +181,17 @@ pub fn check_book(buffer: &[u8], len: usize) -> BookCheck
         return BookCheck::Size;
     }
     let book = &buffer[..len];
-    if !sums_right(book) {
-        return BookCheck::Sum;
+    let scan = scanned(book);
+    match scan {
+        Scan::Sum => BookCheck::Sum,
+        Scan::Form => BookCheck::Form,
+        Scan::Right => {
+            if distinct(book, &mut marks) {
+                return BookCheck::Valid;
+            }
+            BookCheck::Doubled
+        }
     }
-    if !placed(book) {
-        return BookCheck::Form;
-    }
-    if !distinct(book, &mut marks) {
-        return BookCheck::Doubled;
-    }
-    BookCheck::Valid
 }
 
 // Document 01's number of a refusal, 0 for none.

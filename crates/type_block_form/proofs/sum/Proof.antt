@@ -39,8 +39,11 @@ loop-less c = search needs
 loop-again : tie.Need-loop-again Inv-loop μ-loop
 loop-again c = (search needs, omega (arith, c .shared-slice-known .given (c .before .before .loop .i)), search sum-again)
 
+cast-result : tie.Need-cast-result Inv-loop μ-loop
+cast-result c = omega arith
+
 returns : tie.Need-returns Inv-loop μ-loop
-returns c = search sum-end
+returns c = (search sum-end, omega arith)
 
 pub sum-spec : {M : Type 1} → statement M
 sum-spec =
@@ -55,4 +58,5 @@ sum-spec =
     add-i
     loop-less
     loop-again
+    cast-result
     returns)

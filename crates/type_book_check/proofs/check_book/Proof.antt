@@ -13,17 +13,17 @@ returns c = book-says _ _ (search book-size)
 slice-aggregate-book : tie.Need-slice-aggregate-book
 slice-aggregate-book c = search book-cut
 
-sums-right-requires : tie.Need-sums-right-requires
-sums-right-requires c κs = search book-few
+scanned-requires : tie.Need-scanned-requires
+scanned-requires c κs = search book-few
 
-returns-2 : tie.Need-returns-2
-returns-2 c = book-says _ _ (search book-sum)
+enum-told : tie.Need-enum-told
+enum-told c = search needs
 
-placed-requires : tie.Need-placed-requires
-placed-requires c κs = search book-few
+enum-told-2 : tie.Need-enum-told-2
+enum-told-2 c = search needs
 
-returns-3 : tie.Need-returns-3
-returns-3 c = book-says _ _ (search book-form)
+enum-told-3 : tie.Need-enum-told-3
+enum-told-3 c = search needs
 
 slice-aggregate-distinct : tie.Need-slice-aggregate-distinct
 slice-aggregate-distinct c = search needs
@@ -31,11 +31,17 @@ slice-aggregate-distinct c = search needs
 distinct-requires : tie.Need-distinct-requires
 distinct-requires c κs = (search needs, search book-few)
 
+returns-2 : tie.Need-returns-2
+returns-2 c = book-says _ _ (search book-valid)
+
+returns-3 : tie.Need-returns-3
+returns-3 c = book-says _ _ (search book-sum)
+
 returns-4 : tie.Need-returns-4
-returns-4 c = book-says _ _ (search book-doubled)
+returns-4 c = book-says _ _ (search book-form)
 
 returns-5 : tie.Need-returns-5
-returns-5 c = book-says _ _ (search book-valid)
+returns-5 c = book-says _ _ (search book-doubled)
 
 pub check-book-spec : {M : Type 1} → statement M
 check-book-spec =
@@ -44,11 +50,13 @@ check-book-spec =
     size-right-requires
     returns
     slice-aggregate-book
-    sums-right-requires
-    returns-2
-    placed-requires
-    returns-3
+    scanned-requires
+    enum-told
+    enum-told-2
+    enum-told-3
     slice-aggregate-distinct
     distinct-requires
+    returns-2
+    returns-3
     returns-4
     returns-5)
