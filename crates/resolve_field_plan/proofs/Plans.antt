@@ -35,7 +35,7 @@ use Rattle.resolve_field_plan.specs.declared.Planned.the-variants as pla
 use Rattle.resolvers.proofs.Numbers.{resolved-is as resolved-by, resolved-says}
 use Rattle.resolve_field_types.proofs.Numbers.{check-says}
 use Rattle.resolve_field_plan.proofs.Numbers.{planned-says}
-use Rattle.resolve_field_plan.specs.Plan.{planEntryBy, planEntryOf, plannedOf, FieldIs, PlannedFieldIs, Known, PlanEntry, Entries, PlanServes, noted, fieldPlanFrom, fieldPlanOf, FieldPlanIs}
+use Rattle.resolve_field_plan.specs.Plan.{planEntryBy, planEntryOf, plannedOf, FieldIs, PlannedFieldIs, Known, PlanEntry, SomeEntry, Earlier, Among, Recent, Entries, PlanServes, noted, fieldPlanFrom, fieldPlanOf, FieldPlanIs}
 
 -- ---- one field
 
@@ -61,6 +61,26 @@ module _ (book : List ℕ) (width f : ℕ) (x : ResolvedField) where
   pub parts : resolveField book width f ≡ answer.Field x → Parts book f x
   unfolding resolveField
   parts e = parts-found (find book (typeNameOf book f)) e
+
+  resolves-of : (n : ℕ) (r : Resolved) → resolveAlias book width n ≡ r → fieldOf book f n r ≡ answer.Field x → resolveAlias book width (x .named) ≡ resolved.Base (x .resolved)
+  unfolding fieldOf
+  resolves-of n (resolved.Base u) q e =
+      let a : _≡_ {A = ResolvedField} (record { offset = offsetOf book f; size = sizeOf book f; named = n; resolved = u; field = f }) x = cc in
+      let m : n ≡ x .named = ap (λ (z : ResolvedField). z .named) a in
+      let b : u ≡ x .resolved = ap (λ (z : ResolvedField). z .resolved) a in
+      rw (← m, ← b) q
+  resolves-of n (resolved.NotFound c) q e = absurd (let z : _≡_ {A = ℕ} 0 1 = cc in omega arith)
+  resolves-of n resolved.TooLong q e = absurd (let z : _≡_ {A = ℕ} 0 1 = cc in omega arith)
+
+  resolves-found : (u : Found) → fieldFound book width f u ≡ answer.Field x → resolveAlias book width (x .named) ≡ resolved.Base (x .resolved)
+  unfolding fieldFound
+  resolves-found (At n) e = resolves-of n (resolveAlias book width n) refl e
+  resolves-found Nothing e = absurd (let z : _≡_ {A = ℕ} 0 1 = cc in omega arith)
+
+  -- what a field's type was named leads to what it resolves to
+  resolves : resolveField book width f ≡ answer.Field x → resolveAlias book width (x .named) ≡ resolved.Base (x .resolved)
+  unfolding resolveField
+  resolves e = resolves-found (find book (typeNameOf book f)) e
 
 lacks-only : {book : List ℕ} {width f : ℕ} (b : ℕ) → resolveField book width f ≡ answer.NotFound b → PlannedFieldIs book width f (planned.NotFound b)
 unfolding plannedOf
@@ -121,6 +141,20 @@ module _ (book : List ℕ) (width f n : ℕ) (w : find book (typeNameOf book f) 
 pub alias-typed : (book : List ℕ) (f n : ℕ) → find book (typeNameOf book f) ≡ At n → isType book n ≡ true
 alias-typed book f n w = found-type book (typeNameOf book f) n w
 
+-- a type that is no alias is what it resolves to
+pub named-plain : (book : List ℕ) (width f n : ℕ) → find book (typeNameOf book f) ≡ At n → (o s : ℕ) (c : AdsTypeCategory) (b : Bool) → c ≡ categoryOf book width n → b ≡ goesOn false c → b ≡ false → o ≡ offsetOf book f → s ≡ sizeOf book f
+    → PlannedFieldIs book width f (planned.Field (record { offset = o; size = s; named = n; resolved = n; category = c }))
+unfolding isFollowed
+named-plain book width f n w o s c b k eb z eo es =
+    let y : isFollowed false book width n ≡ false = rw (← k) (sym eb ∙ z) in
+    let t : isType book n ≡ true = alias-typed book f n w in
+    alias-base book width f n w (resolved.Base n)
+    (record {
+      is = resolved-says _ _ (sym (follow-base (isFollowed false book width) book 31 n y));
+      typed = λ u e. let a : n ≡ u = cc in rw (← a) t;
+    })
+    n o s c refl k eo es
+
 -- by what the field's type name finds
 module _ (book : List ℕ) (width f : ℕ) (x : Found) (ex : x ≡ find book (typeNameOf book f)) where
   pub plan-nothing : x ≡ Nothing → PlannedFieldIs book width f (planned.NotFound f)
@@ -129,20 +163,6 @@ module _ (book : List ℕ) (width f : ℕ) (x : Found) (ex : x ≡ find book (ty
   module _ (n : ℕ) (h : x ≡ At n) where
     pub plan-found : find book (typeNameOf book f) ≡ At n
     plan-found = sym ex ∙ h
-
-    -- a type that is no alias is what it resolves to
-    pub plan-plain : (o s : ℕ) (c : AdsTypeCategory) (b : Bool) → c ≡ categoryOf book width n → b ≡ goesOn false c → b ≡ false → o ≡ offsetOf book f → s ≡ sizeOf book f
-        → PlannedFieldIs book width f (planned.Field (record { offset = o; size = s; named = n; resolved = n; category = c }))
-    unfolding isFollowed
-    plan-plain o s c b k eb z eo es =
-        let y : isFollowed false book width n ≡ false = rw (← k) (sym eb ∙ z) in
-        let t : isType book n ≡ true = alias-typed book f n plan-found in
-        alias-base book width f n plan-found (resolved.Base n)
-        (record {
-          is = resolved-says _ _ (sym (follow-base (isFollowed false book width) book 31 n y));
-          typed = λ u e. let a : n ≡ u = cc in rw (← a) t;
-        })
-        n o s c refl k eo es
 
 -- a type's block number is small, so an entry fits
 pub typed-small : (book : List ℕ) (width f : ℕ) (a : Planned) (x : PlannedField) → ValidBook book → PlannedFieldIs book width f a → a ≡ planned.Field x → x .resolved < 65536
@@ -208,6 +228,39 @@ module _ (book : List ℕ) (width f e : ℕ) (v : ValidBook book) (k : PlanEntry
         category-is = d ∙ w .is .category-is ∙ ap (categoryOf book width) (sym r);
       })
 
+same-type : (book : List ℕ) (width g : ℕ) (z : ResolvedField) (n u : ℕ) → resolveField book width g ≡ answer.Field z → z .named ≡ n → z .resolved ≡ u → resolveAlias book width n ≡ resolved.Base u
+same-type book width g z n u e m r = rw (← m, ← r) (resolves book width g z e)
+
+-- the entry of an earlier field of the same type
+module _ (book : List ℕ) (width f n : ℕ) (v : ValidBook book) (w : find book (typeNameOf book f) ≡ At n) (plan : List ℕ) (i e : ℕ) (h : Earlier book width i plan) (r : Recent plan i n e) (ne : e ≡ 0 → ⊥) where
+  abbrev among : Among plan i n e
+  among = r .found ne
+
+  abbrev other : SomeEntry book width (getD plan (among .place) 0)
+  other = h .at (among .place) (among .inside)
+
+  own : PlanEntry book width (other .field) e
+  own = subst (PlanEntry book width (other .field)) (sym (among .is)) (other .is)
+
+  pub recent-kept : (o s : ℕ) (c : AdsTypeCategory) → o ≡ offsetOf book f → s ≡ sizeOf book f → c ≡ categoryAt ((e - 1) % 16)
+      → PlannedFieldIs book width f (planned.Field (record { offset = o; size = s; named = n; resolved = (e - 1) / 16 % 65536; category = c }))
+  recent-kept o s c eo es ec =
+      let y : FieldIs book width (other .field) (record { offset = offsetOf book (other .field); size = sizeOf book (other .field); named = (e - 1) / 1048576; resolved = (e - 1) / 16 % 65536; category = c }) = entry-kept book width (other .field) e v own ne (offsetOf book (other .field)) (sizeOf book (other .field)) c refl refl ec .field _ refl in
+      let m : y .whole .named ≡ n = y .named-is ∙ among .named-is in
+      let q : resolveAlias book width n ≡ resolved.Base ((e - 1) / 16 % 65536) = same-type book width (other .field) (y .whole) n ((e - 1) / 16 % 65536) (y .found) m (y .resolved-is) in
+      alias-base book width f n w (resolved.Base ((e - 1) / 16 % 65536))
+      (record {
+        is = resolved-says _ _ (sym q);
+        typed = λ u k. let a : (e - 1) / 16 % 65536 ≡ u = cc in rw (← a) (y .typed);
+      })
+      ((e - 1) / 16 % 65536) o s c refl (y .category-is) eo es
+
+pub recent-here : (plan : List ℕ) (i n j e : ℕ) → j < i → e ≡ getD plan j 0 → (e - 1) / 1048576 ≡ n → Recent plan i n e
+recent-here plan i n j e l q m = record { found = λ _. record { place = j; inside = l; is = q; named-is = m } }
+
+pub recent-none : (plan : List ℕ) (i n : ℕ) → Recent plan i n 0
+recent-none plan i n = record { found = λ h. absurd (h refl) }
+
 pub entry-none : (book : List ℕ) (width f : ℕ) → PlanEntry book width f 0
 entry-none book width f = record { known = λ h. absurd (h refl) }
 
@@ -255,6 +308,10 @@ pub record Planning (book : List ℕ) (width t n : ℕ) (before : List ℕ) (i :
   pub left : fieldsCheck book width t ≡ fieldsFrom book width (t + 1 + i) (n - i)
   pub upto : (j : ℕ) → j < i → PlanEntry book width (t + 1 + j) (getD now j 0)
   pub rest : fieldPlanOf book width t before ≡ fieldPlanFrom book width (t + 1 + i) i (n - i) now
+
+-- the entries of the fields before
+pub planning-earlier : (book : List ℕ) (width t n : ℕ) (before : List ℕ) (i : ℕ) (now : List ℕ) → Planning book width t n before i now → Earlier book width i now
+planning-earlier book width t n before i now p = record { at = λ j l. record { field = t + 1 + j; is = p .upto j l } }
 
 -- one more entry, if there is room
 module _ (book : List ℕ) (width t i : ℕ) (plan : List ℕ) (h : (j : ℕ) → j < i → PlanEntry book width (t + 1 + j) (getD plan j 0)) (x : PlannedField) (q : FieldIs book width (t + 1 + i) x) where

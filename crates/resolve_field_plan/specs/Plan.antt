@@ -2,7 +2,7 @@
 use mathlib.Core.Path.{_≡_}
 use mathlib.Core.Bool.{true}
 use mathlib.Core.List.{List, [], _∷_}
-use Prim.Native.Nat.{ℕ, zero, suc, _+_, _*_, _<_}
+use Prim.Native.Nat.{ℕ, zero, suc, _+_, _*_, _-_, _/_, _<_}
 use lib.ListN.{length, getD, set}
 use Rattle.enc_number.specs.Refusals as refusal
 use Rattle.type_book.specs.Book.{isType, fieldsOf}
@@ -69,6 +69,26 @@ pub record Known (book : List ℕ) (width f e : ℕ) : Type 0 where
 -- 0 says nothing of field block f; any other entry is its own
 pub record PlanEntry (book : List ℕ) (width f e : ℕ) : Type 0 where
   pub known : (e ≡ 0 → ⊥) → Known book width f e
+
+-- an entry is 0, or that of what some field block resolves to
+pub record SomeEntry (book : List ℕ) (width e : ℕ) : Type 0 where
+  pub field : ℕ
+  pub is : PlanEntry book width field e
+
+-- each of the first i entries of a plan is 0, or that of some field
+pub record Earlier (book : List ℕ) (width i : ℕ) (plan : List ℕ) : Type 0 where
+  pub at : (j : ℕ) → j < i → SomeEntry book width (getD plan j 0)
+
+-- an entry among the first i of a plan, of a type that was named at that block
+pub record Among (plan : List ℕ) (i named e : ℕ) : Type 0 where
+  pub place : ℕ
+  pub inside : place < i
+  pub is : e ≡ getD plan place 0
+  pub named-is : (e - 1) / 1048576 ≡ named
+
+-- 0, or such an entry
+pub record Recent (plan : List ℕ) (i named e : ℕ) : Type 0 where
+  pub found : (e ≡ 0 → ⊥) → Among plan i named e
 
 -- each field of type block t has an entry that is 0 or its own; past the plan's end it is 0
 pub record Entries (book : List ℕ) (width t : ℕ) (plan : List ℕ) : Type 0 where

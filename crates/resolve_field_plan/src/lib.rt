@@ -1,5 +1,5 @@
 // The fields of a type, resolved once: a plan keeps one number for each field, the block of its type as named and as resolved, and that
-// type's category, so that a type that is read many times is looked up once.
+// type's category, so that a type that is read many times is looked up once. A type that several fields have is resolved once, too.
 ghost use mathlib.Core.Path.{_≡_};
 ghost use mathlib.Core.Bool.{true};
 ghost use Prim.Native.Nat.{_<_};
@@ -7,7 +7,7 @@ ghost use lib.ListN.{getD, set};
 ghost use Rattle.type_book.specs.Book.{isType, typeNameOf};
 ghost use Rattle.type_provider.specs.Find.{find};
 ghost use Rattle.type_book_check.specs.Check.{ValidBook};
-ghost use Rattle.resolve_field_plan.specs.Plan.{planEntryOf, PlanEntry, PlannedFieldIs, FieldPlanIs};
+ghost use Rattle.resolve_field_plan.specs.Plan.{planEntryOf, PlanEntry, PlannedFieldIs, FieldPlanIs, Earlier, Recent};
 use resolve_field_types::FieldsCheck;
 use resolvers::Resolved;
 use type_book::block;
@@ -53,15 +53,11 @@ fn plan_alias(book: &[u8], index: &[u32], width: u8, f: u32, named: u32) -> Plan
     }
 }
 
-// Resolves the type of field block f, and says its category. Most types are no alias: their category is determined once.
-fn plan_field(book: &[u8], index: &[u32], width: u8, f: u32) -> Planned
-    requires { ⌜ ValidBook (now book) ⌝ }
+// Field block f, whose type name finds block `named`. Most types are no alias: their category is determined once.
+fn plan_named(book: &[u8], index: &[u32], width: u8, f: u32, named: u32) -> Planned
+    requires { ⌜ ValidBook (now book) × (find (now book) (typeNameOf (now book) f) ≡ Found.At named) ⌝ }
     ensures { λ r. ⌜ PlannedFieldIs (now (book .entry)) width f r ⌝ }
 {
-    let found = resolvers::named_in(book, index, f);
-    let Found::At(named) = found else {
-        return Planned::NotFound(f);
-    };
     let category = AdsTypeCategory::determine(book, width, named);
     if resolvers::goes_on(category, false) {
         return plan_alias(book, index, width, f, named);
@@ -73,6 +69,18 @@ fn plan_field(book: &[u8], index: &[u32], width: u8, f: u32) -> Planned
         resolved: named,
         category,
     })
+}
+
+// Resolves the type of field block f, and says its category.
+fn plan_field(book: &[u8], index: &[u32], width: u8, f: u32) -> Planned
+    requires { ⌜ ValidBook (now book) ⌝ }
+    ensures { λ r. ⌜ PlannedFieldIs (now (book .entry)) width f r ⌝ }
+{
+    let found = resolvers::named_in(book, index, f);
+    let Found::At(named) = found else {
+        return Planned::NotFound(f);
+    };
+    plan_named(book, index, width, f, named)
 }
 
 // Field block f, by its entry of a plan; without an entry (0) it is resolved here.
@@ -114,6 +122,67 @@ fn note(plan: &mut [u64], i: u32, field: PlannedField)
     }
 }
 
+// The slots in which a plan in the making remembers which field was the last of some types.
+const SLOTS: usize = 32;
+
+// The entry of an earlier field whose type was named at that block, of the first i; 0 where none is remembered. What `last` holds is only a
+// hint: the entry that it leads to says itself which type it is of.
+fn recent(plan: &[u64], last: &[u32], i: u32, named: u32) -> u64
+    ensures { λ r. ⌜ Recent (now (plan .entry)) i named r ⌝ }
+{
+    let slot = named as usize % SLOTS;
+    if slot < last.len() {
+        let j = last[slot];
+        if j < i {
+            let entry = entry_at(plan, j);
+            if entry != 0 {
+                if (entry - 1) / 1048576 == named as u64 {
+                    return entry;
+                }
+            }
+        }
+    }
+    0
+}
+
+// Remembers field i as the last of its type.
+fn remember(last: &mut [u32], named: u32, i: u32) {
+    let slot = named as usize % SLOTS;
+    if slot < last.len() {
+        last[slot] = i;
+    }
+}
+
+// Resolves the type of field block f, after i fields whose entries the plan has.
+fn plan_next(
+    book: &[u8],
+    index: &[u32],
+    width: u8,
+    f: u32,
+    i: u32,
+    plan: &[u64],
+    last: &[u32],
+) -> Planned
+    requires { ⌜ ValidBook (now book) × Earlier (now book) width i (now plan) ⌝ }
+    ensures { λ r. ⌜ PlannedFieldIs (now (book .entry)) width f r ⌝ }
+{
+    let found = resolvers::named_in(book, index, f);
+    let Found::At(named) = found else {
+        return Planned::NotFound(f);
+    };
+    let entry = recent(plan, last, i, named);
+    if entry == 0 {
+        return plan_named(book, index, width, f, named);
+    }
+    Planned::Field(PlannedField {
+        offset: block::offset(book, f),
+        size: block::size(book, f),
+        named,
+        resolved: (((entry - 1) / 16) % 65536) as u32,
+        category: category_at(((entry - 1) % 16) as u32),
+    })
+}
+
 // Resolves all fields of type block t in order, up to the first that is refused, and stores their entries.
 pub fn plan_fields_in(
     book: &[u8],
@@ -126,11 +195,15 @@ pub fn plan_fields_in(
     ensures { λ r. ⌜ FieldPlanIs (now (book .entry)) width t (now (plan .entry)) r (now (plan .exit)) ⌝ }
 {
     let n = block::fields(book, t);
+    let mut last = [0u32; SLOTS];
     let mut i: u32 = 0;
     while i < n {
-        let found = plan_field(book, index, width, t + 1 + i);
+        let found = plan_next(book, index, width, t + 1 + i, i, plan, &last);
         match found {
-            Planned::Field(x) => note(plan, i, x),
+            Planned::Field(x) => {
+                note(plan, i, x);
+                remember(&mut last, x.named, i);
+            }
             Planned::NotFound(b) => return FieldsCheck::NotFound(b),
             Planned::TooLong => return FieldsCheck::TooLong,
         }
