@@ -68,19 +68,19 @@ unfolding enc-integer-integer.integerNumbers enc-integer-integer.integerReadNumb
 plus-32767 = refl
 
 wide-text : _≡_ {A = List ℕ} (readRow (oneType 31 6) (0x41 ∷ 0x00 ∷ 0x3d ∷ 0xd8 ∷ 0x00 ∷ 0x00 ∷ []) 4) ((0 ∷ 1 ∷ 4 ∷ 0x41 ∷ 0xef ∷ 0xbf ∷ 0xbd ∷ []))
-unfolding flatMap block enc-number-le.leValue enc-number-le.leBytes type-book-book.sameName type-book-book.isNamed type-block-form-form.sumOf type-block-form-form.sumRight type-block-form-form.every type-block-form-form.unusedZero type-block-form-form.nameForm type-block-form-form.namesForm type-block-form-form.flagsForm type-block-form-form.typeForm type-block-form-form.fieldForm type-block-form-form.entryForm type-doubles-doubles.allFrom type-doubles-doubles.isOther type-doubles-doubles.isFirst type-book-check-check.sizeRight type-book-check-check.sumAt type-book-check-check.placeOf type-book-check-check.placesOnward type-book-check-check.placedFrom type-book-check-check.checkBlocks type-book-check-check.checkBook type-book-check-check.bookNumbers type-book-check-check.rootOf type-book-check-check.checkRoot type-book-check-check.atRoot type-id-typeid.idOf type-names-text.isOneOf type-names-text.startsWith type-names-text.contains type-names-names.isPointerName type-names-names.isSubRangeName type-names-names.isPrimitiveName type-category-category.isPointer type-category-category.isReference type-category-category.isAlias type-category-category.orElse type-category-category.isUnion type-category-category.methodsCategory type-category-category.fieldsCategory type-category-category.isEmptyStruct type-category-category.bareCategory type-category-category.sizeCategory type-category-category.complexCategory type-category-category.simpleCategory type-category-category.categoryOf type-category-number.categoryNumbers type-category-number.categoryAt type-provider-find.findFrom type-provider-find.find resolvers-resolve.resolvedNumbers resolvers-resolve.isFollowed resolvers-resolve.chainOnward resolvers-resolve.follow resolvers-resolve.lookUp resolvers-calls.resolutionNumbers resolvers-calls.resolution resolvers-calls.rootResolution enc-utf-8-buffer.splice enc-utf-8-buffer.fitsIn enc-utf-8-utf8.leading enc-utf-8-utf8.following enc-utf-8-utf8.afterReply enc-utf-8-utf8.decodeFrom enc-utf-8-utf8.noError enc-utf-8-utf8.found enc-utf-8-utf8.nextFrom enc-utf-8-utf8.encoded enc-utf-8-utf8.utf8Of enc-utf-16-decode.unitAlone enc-utf-16-decode.unitAfter enc-utf-16-decode.decodeFrom enc-utf-16-decode.decodeScalars enc-utf-16-wstring.endFrom enc-text-decoder-text.endBy enc-text-decoder-text.decodedBy tape-record.recordBytes tape-record.recordOf tape-record.stepAt de-leaves-leaf.leafNumbers de-leaves-leaf.boolLeaf de-leaves-leaf.integerLeaf de-leaves-leaf.realOr de-leaves-leaf.numberLeaf de-leaves-leaf.pointerLeaf de-leaves-leaf.decoderOf de-leaves-leaf.textLeaf de-leaves-leaf.entryFrom de-leaves-leaf.unlisted de-leaves-leaf.enumLeaf de-leaves-leaf.kindLeaf de-leaves-leaf.leafBy de-leaves-leaf.leafAt de-output-trace.textBytes de-output-trace.tapeBytes de-output-trace.eventsOf de-output-trace.endOf de-output-trace._then_ de-output-trace.fits de-output-trace.stepOf de-output-trace.fitting de-output-answer.readNumbers tape-array-elements-element.elementItem tape-array-elements-element.shapeAt tape-array-elements-element.shapeCheck tape-array-elements-element.elementCheck tape-array-elements-element.shapePlan tape-array-elements-element.elementPlan de-walk.leafOf de-walk.checked de-walk.fieldValue de-walk.memberOf de-walk.membersFrom de-walk.membersOf de-walk.mapOf de-walk.elementsFrom de-walk.elementsOf de-walk.dimensionOf de-walk.elementBy de-walk.arrayBy de-walk.arrayOf de-walk.shapeWalk de-walk.itemWalk de-walk.walk de-read.rootBy de-read.rootTrace de-read.readTrace time-types-counts.timeOf time-types-counts.countWidth time-types-types.timeTypeOf
+unfolding flatMap block enc-number-le.leValue enc-number-le.leBytes type-book-book.sameName type-book-book.isNamed type-block-form-form.sumOf type-block-form-form.sumRight type-block-form-form.every type-block-form-form.unusedZero type-block-form-form.nameForm type-block-form-form.namesForm type-block-form-form.flagsForm type-block-form-form.typeForm type-block-form-form.fieldForm type-block-form-form.entryForm type-doubles-doubles.allFrom type-doubles-doubles.isOther type-doubles-doubles.isFirst type-book-check-check.sizeRight type-book-check-check.sumAt type-book-check-check.placeOf type-book-check-check.placesOnward type-book-check-check.placedFrom type-book-check-check.checkBlocks type-book-check-check.checkBook type-book-check-check.bookNumbers type-book-check-check.rootOf type-book-check-check.checkRoot type-book-check-check.atRoot type-id-typeid.idOf type-names-text.isOneOf type-names-text.startsWith type-names-text.contains type-names-names.isPointerName type-names-names.isSubRangeName type-names-names.isPrimitiveName type-category-category.isPointer type-category-category.isReference type-category-category.isAlias type-category-category.orElse type-category-category.isUnion type-category-category.methodsCategory type-category-category.fieldsCategory type-category-category.isEmptyStruct type-category-category.bareCategory type-category-category.sizeCategory type-category-category.complexCategory type-category-category.simpleCategory type-category-category.categoryOf type-category-number.categoryNumbers type-category-number.categoryAt type-provider-find.findFrom type-provider-find.find resolvers-resolve.resolvedNumbers resolvers-resolve.isFollowed resolvers-resolve.chainOnward resolvers-resolve.follow resolvers-resolve.lookUp resolvers-calls.resolutionNumbers resolvers-calls.resolution resolvers-calls.rootResolution enc-utf-8-buffer.splice enc-utf-8-buffer.fitsIn enc-utf-8-utf8.leading enc-utf-8-utf8.following enc-utf-8-utf8.afterReply enc-utf-8-utf8.decodeFrom enc-utf-8-utf8.noError enc-utf-8-utf8.found enc-utf-8-utf8.nextFrom enc-utf-8-utf8.encoded enc-utf-8-utf8.utf8Of enc-utf-16-decode.unitAlone enc-utf-16-decode.unitAfter enc-utf-16-decode.decode16From enc-utf-16-decode.decodeScalars enc-utf-16-wstring.end16From enc-text-decoder-text.endBy enc-text-decoder-text.decodedBy tape-record.recordBytes tape-record.recordOf tape-record.stepAt de-leaves-leaf.leafNumbers de-leaves-leaf.boolLeaf de-leaves-leaf.integerLeaf de-leaves-leaf.realOr de-leaves-leaf.numberLeaf de-leaves-leaf.pointerLeaf de-leaves-leaf.decoderOf de-leaves-leaf.textLeaf de-leaves-leaf.entryFrom de-leaves-leaf.unlisted de-leaves-leaf.enumLeaf de-leaves-leaf.kindLeaf de-leaves-leaf.leafBy de-leaves-leaf.leafAt de-output-trace.textBytes de-output-trace.tapeBytes de-output-trace.eventsOf de-output-trace.endOf de-output-trace._then_ de-output-trace.fits de-output-trace.stepOf de-output-trace.fitting de-output-answer.readNumbers tape-array-elements-element.elementItem tape-array-elements-element.shapeAt tape-array-elements-element.shapeCheck tape-array-elements-element.elementCheck tape-array-elements-element.shapePlan tape-array-elements-element.elementPlan de-walk.leafOf de-walk.checked de-walk.fieldValue de-walk.memberOf de-walk.membersFrom de-walk.membersOf de-walk.mapOf de-walk.elementsFrom de-walk.elementsOf de-walk.dimensionOf de-walk.elementBy de-walk.arrayBy de-walk.arrayOf de-walk.shapeWalk de-walk.itemWalk de-walk.readWalk de-read.rootBy de-read.rootTrace de-read.readTrace time-types-counts.timeOf time-types-counts.countWidth time-types-types.timeTypeOf
 wide-text = refl
 
 odd-byte : _≡_ {A = List ℕ} (readRow (oneType 31 1) (0x41 ∷ []) 3) ((0 ∷ 1 ∷ 3 ∷ 0xef ∷ 0xbf ∷ 0xbd ∷ []))
-unfolding flatMap block enc-number-le.leValue enc-number-le.leBytes type-book-book.sameName type-book-book.isNamed type-block-form-form.sumOf type-block-form-form.sumRight type-block-form-form.every type-block-form-form.unusedZero type-block-form-form.nameForm type-block-form-form.namesForm type-block-form-form.flagsForm type-block-form-form.typeForm type-block-form-form.fieldForm type-block-form-form.entryForm type-doubles-doubles.allFrom type-doubles-doubles.isOther type-doubles-doubles.isFirst type-book-check-check.sizeRight type-book-check-check.sumAt type-book-check-check.placeOf type-book-check-check.placesOnward type-book-check-check.placedFrom type-book-check-check.checkBlocks type-book-check-check.checkBook type-book-check-check.bookNumbers type-book-check-check.rootOf type-book-check-check.checkRoot type-book-check-check.atRoot type-id-typeid.idOf type-names-text.isOneOf type-names-text.startsWith type-names-text.contains type-names-names.isPointerName type-names-names.isSubRangeName type-names-names.isPrimitiveName type-category-category.isPointer type-category-category.isReference type-category-category.isAlias type-category-category.orElse type-category-category.isUnion type-category-category.methodsCategory type-category-category.fieldsCategory type-category-category.isEmptyStruct type-category-category.bareCategory type-category-category.sizeCategory type-category-category.complexCategory type-category-category.simpleCategory type-category-category.categoryOf type-category-number.categoryNumbers type-category-number.categoryAt type-provider-find.findFrom type-provider-find.find resolvers-resolve.resolvedNumbers resolvers-resolve.isFollowed resolvers-resolve.chainOnward resolvers-resolve.follow resolvers-resolve.lookUp resolvers-calls.resolutionNumbers resolvers-calls.resolution resolvers-calls.rootResolution enc-utf-8-buffer.splice enc-utf-8-buffer.fitsIn enc-utf-8-utf8.leading enc-utf-8-utf8.following enc-utf-8-utf8.afterReply enc-utf-8-utf8.decodeFrom enc-utf-8-utf8.noError enc-utf-8-utf8.found enc-utf-8-utf8.nextFrom enc-utf-8-utf8.encoded enc-utf-8-utf8.utf8Of enc-utf-16-decode.unitAlone enc-utf-16-decode.unitAfter enc-utf-16-decode.decodeFrom enc-utf-16-decode.decodeScalars enc-utf-16-wstring.endFrom enc-text-decoder-text.endBy enc-text-decoder-text.decodedBy tape-record.recordBytes tape-record.recordOf tape-record.stepAt de-leaves-leaf.leafNumbers de-leaves-leaf.boolLeaf de-leaves-leaf.integerLeaf de-leaves-leaf.realOr de-leaves-leaf.numberLeaf de-leaves-leaf.pointerLeaf de-leaves-leaf.decoderOf de-leaves-leaf.textLeaf de-leaves-leaf.entryFrom de-leaves-leaf.unlisted de-leaves-leaf.enumLeaf de-leaves-leaf.kindLeaf de-leaves-leaf.leafBy de-leaves-leaf.leafAt de-output-trace.textBytes de-output-trace.tapeBytes de-output-trace.eventsOf de-output-trace.endOf de-output-trace._then_ de-output-trace.fits de-output-trace.stepOf de-output-trace.fitting de-output-answer.readNumbers tape-array-elements-element.elementItem tape-array-elements-element.shapeAt tape-array-elements-element.shapeCheck tape-array-elements-element.elementCheck tape-array-elements-element.shapePlan tape-array-elements-element.elementPlan de-walk.leafOf de-walk.checked de-walk.fieldValue de-walk.memberOf de-walk.membersFrom de-walk.membersOf de-walk.mapOf de-walk.elementsFrom de-walk.elementsOf de-walk.dimensionOf de-walk.elementBy de-walk.arrayBy de-walk.arrayOf de-walk.shapeWalk de-walk.itemWalk de-walk.walk de-read.rootBy de-read.rootTrace de-read.readTrace time-types-counts.timeOf time-types-counts.countWidth time-types-types.timeTypeOf
+unfolding flatMap block enc-number-le.leValue enc-number-le.leBytes type-book-book.sameName type-book-book.isNamed type-block-form-form.sumOf type-block-form-form.sumRight type-block-form-form.every type-block-form-form.unusedZero type-block-form-form.nameForm type-block-form-form.namesForm type-block-form-form.flagsForm type-block-form-form.typeForm type-block-form-form.fieldForm type-block-form-form.entryForm type-doubles-doubles.allFrom type-doubles-doubles.isOther type-doubles-doubles.isFirst type-book-check-check.sizeRight type-book-check-check.sumAt type-book-check-check.placeOf type-book-check-check.placesOnward type-book-check-check.placedFrom type-book-check-check.checkBlocks type-book-check-check.checkBook type-book-check-check.bookNumbers type-book-check-check.rootOf type-book-check-check.checkRoot type-book-check-check.atRoot type-id-typeid.idOf type-names-text.isOneOf type-names-text.startsWith type-names-text.contains type-names-names.isPointerName type-names-names.isSubRangeName type-names-names.isPrimitiveName type-category-category.isPointer type-category-category.isReference type-category-category.isAlias type-category-category.orElse type-category-category.isUnion type-category-category.methodsCategory type-category-category.fieldsCategory type-category-category.isEmptyStruct type-category-category.bareCategory type-category-category.sizeCategory type-category-category.complexCategory type-category-category.simpleCategory type-category-category.categoryOf type-category-number.categoryNumbers type-category-number.categoryAt type-provider-find.findFrom type-provider-find.find resolvers-resolve.resolvedNumbers resolvers-resolve.isFollowed resolvers-resolve.chainOnward resolvers-resolve.follow resolvers-resolve.lookUp resolvers-calls.resolutionNumbers resolvers-calls.resolution resolvers-calls.rootResolution enc-utf-8-buffer.splice enc-utf-8-buffer.fitsIn enc-utf-8-utf8.leading enc-utf-8-utf8.following enc-utf-8-utf8.afterReply enc-utf-8-utf8.decodeFrom enc-utf-8-utf8.noError enc-utf-8-utf8.found enc-utf-8-utf8.nextFrom enc-utf-8-utf8.encoded enc-utf-8-utf8.utf8Of enc-utf-16-decode.unitAlone enc-utf-16-decode.unitAfter enc-utf-16-decode.decode16From enc-utf-16-decode.decodeScalars enc-utf-16-wstring.end16From enc-text-decoder-text.endBy enc-text-decoder-text.decodedBy tape-record.recordBytes tape-record.recordOf tape-record.stepAt de-leaves-leaf.leafNumbers de-leaves-leaf.boolLeaf de-leaves-leaf.integerLeaf de-leaves-leaf.realOr de-leaves-leaf.numberLeaf de-leaves-leaf.pointerLeaf de-leaves-leaf.decoderOf de-leaves-leaf.textLeaf de-leaves-leaf.entryFrom de-leaves-leaf.unlisted de-leaves-leaf.enumLeaf de-leaves-leaf.kindLeaf de-leaves-leaf.leafBy de-leaves-leaf.leafAt de-output-trace.textBytes de-output-trace.tapeBytes de-output-trace.eventsOf de-output-trace.endOf de-output-trace._then_ de-output-trace.fits de-output-trace.stepOf de-output-trace.fitting de-output-answer.readNumbers tape-array-elements-element.elementItem tape-array-elements-element.shapeAt tape-array-elements-element.shapeCheck tape-array-elements-element.elementCheck tape-array-elements-element.shapePlan tape-array-elements-element.elementPlan de-walk.leafOf de-walk.checked de-walk.fieldValue de-walk.memberOf de-walk.membersFrom de-walk.membersOf de-walk.mapOf de-walk.elementsFrom de-walk.elementsOf de-walk.dimensionOf de-walk.elementBy de-walk.arrayBy de-walk.arrayOf de-walk.shapeWalk de-walk.itemWalk de-walk.readWalk de-read.rootBy de-read.rootTrace de-read.readTrace time-types-counts.timeOf time-types-counts.countWidth time-types-types.timeTypeOf
 odd-byte = refl
 
 fits-eight : _≡_ {A = List ℕ} (writeRow 8) ((0 ∷ 0x26 ∷ 0x23 ∷ 0x31 ∷ 0x30 ∷ 0x34 ∷ 0x36 ∷ 0x3b ∷ 0x00 ∷ []))
-unfolding flatMap block enc-number-le.leValue enc-number-le.leBytes type-book-book.sameName type-book-book.isNamed type-block-form-form.sumOf type-block-form-form.sumRight type-block-form-form.every type-block-form-form.unusedZero type-block-form-form.nameForm type-block-form-form.namesForm type-block-form-form.flagsForm type-block-form-form.typeForm type-block-form-form.fieldForm type-block-form-form.entryForm type-doubles-doubles.allFrom type-doubles-doubles.isOther type-doubles-doubles.isFirst type-book-check-check.sizeRight type-book-check-check.sumAt type-book-check-check.placeOf type-book-check-check.placesOnward type-book-check-check.placedFrom type-book-check-check.checkBlocks type-book-check-check.checkBook type-book-check-check.bookNumbers type-book-check-check.rootOf type-book-check-check.checkRoot type-book-check-check.atRoot type-id-typeid.idOf type-names-text.isOneOf type-names-text.startsWith type-names-text.contains type-names-names.isPointerName type-names-names.isSubRangeName type-names-names.isPrimitiveName type-category-category.isPointer type-category-category.isReference type-category-category.isAlias type-category-category.orElse type-category-category.isUnion type-category-category.methodsCategory type-category-category.fieldsCategory type-category-category.isEmptyStruct type-category-category.bareCategory type-category-category.sizeCategory type-category-category.complexCategory type-category-category.simpleCategory type-category-category.categoryOf type-category-number.categoryNumbers type-category-number.categoryAt type-provider-find.findFrom type-provider-find.find resolvers-resolve.resolvedNumbers resolvers-resolve.isFollowed resolvers-resolve.chainOnward resolvers-resolve.follow resolvers-resolve.lookUp resolvers-calls.resolutionNumbers resolvers-calls.resolution resolvers-calls.rootResolution enc-integer-integer.integerNumbers enc-integer-integer.integerReadNumbers enc-integer-integer.integerWriteNumbers enc-integer-integer.twosComplement enc-integer-integer.twosBits enc-integer-integer.bytesValue enc-integer-integer.integerOf enc-integer-integer.readInteger enc-integer-integer.fitsSigned enc-integer-integer.fitsUnsigned enc-integer-integer.fitsId enc-integer-integer.writeInteger enc-integer-integer.integerAfter enc-integer-integer.integerBytes enc-utf-8-buffer.splice enc-utf-8-buffer.fitsIn enc-utf-8-utf8.leading enc-utf-8-utf8.following enc-utf-8-utf8.afterReply enc-utf-8-utf8.decodeFrom enc-utf-8-utf8.noError enc-utf-8-utf8.found enc-utf-8-utf8.nextFrom enc-utf-8-utf8.encoded enc-utf-8-utf8.utf8Of enc-windows-1252-index.listedPoints enc-windows-1252-index.codePoint enc-windows-1252-index.firstFrom enc-windows-1252-index.byteOf enc-windows-1252-text.endFrom enc-windows-1252-text.decodeText enc-windows-1252-text.digits enc-windows-1252-text.bytesBy enc-windows-1252-text.encodeText tape-record.recordBytes tape-record.recordOf tape-record.stepAt tape-text.textPart tape-text.nameIn tape-text.recordText tape-form-ranges.unused tape-form-ranges.undeclared tape-form-ranges.declares tape-form-ranges.opens tape-form-ranges.closes tape-form-ranges.isKey tape-form-ranges.isWidth tape-form-ranges.blockIs tape-form-ranges.textIn tape-form-ranges.onlyA tape-form-ranges.empty tape-form-ranges.namesBlock tape-form-ranges.onlyB tape-form-ranges.sized tape-form-ranges.integerFine tape-form-ranges.textual tape-form-ranges.leafBy tape-form-ranges.leafFine tape-form-form.withRecord tape-form-form.formOnward tape-form-form.closingRecord tape-form-form.several tape-form-form.memberAt tape-form-form.recordShape tape-form-form.bodyBy tape-form-form.valueAt tape-form-form.atTapeEnd tape-form-form.formed ser-leaf-leaf.exactly ser-leaf-leaf.boolLeaf ser-leaf-leaf.realLeaf ser-leaf-leaf.integerBy ser-leaf-leaf.pointerLeaf ser-leaf-leaf.integerLeaf ser-leaf-leaf.entryBy ser-leaf-leaf.entryLeaf ser-leaf-leaf.enumLeaf ser-leaf-leaf.padded ser-leaf-leaf.stringBytes ser-leaf-leaf.textBy ser-leaf-leaf.textLeaf ser-leaf-leaf.leafBy ser-leaf-leaf.leafFor ser-write._then_ ser-write.placed ser-write.takenBy ser-write.taken ser-write.endRecordBy ser-write.leafEnd ser-write.leafOf ser-write.checked ser-write.fieldValue ser-write.foundValue ser-write.keyBy ser-write.keyOf ser-write.keysFrom ser-write.mapBy ser-write.mapOf ser-write.elementsFrom ser-write.elementsBy ser-write.dimensionOf ser-write.elementType ser-write.enteredBy ser-write.enteredAt ser-write.arrayBy ser-write.arrayOf ser-write.valueBy ser-write.itemWalk ser-write.walk ser-call.typeWrite ser-call.rootBy ser-call.rootWrite ser-call.refusedBefore ser-call.bookWrite ser-call.writeCall ser-call.writeNumbers time-types-counts.timeOf time-types-counts.countWidth time-types-types.timeTypeOf
+unfolding flatMap block enc-number-le.leValue enc-number-le.leBytes type-book-book.sameName type-book-book.isNamed type-block-form-form.sumOf type-block-form-form.sumRight type-block-form-form.every type-block-form-form.unusedZero type-block-form-form.nameForm type-block-form-form.namesForm type-block-form-form.flagsForm type-block-form-form.typeForm type-block-form-form.fieldForm type-block-form-form.entryForm type-doubles-doubles.allFrom type-doubles-doubles.isOther type-doubles-doubles.isFirst type-book-check-check.sizeRight type-book-check-check.sumAt type-book-check-check.placeOf type-book-check-check.placesOnward type-book-check-check.placedFrom type-book-check-check.checkBlocks type-book-check-check.checkBook type-book-check-check.bookNumbers type-book-check-check.rootOf type-book-check-check.checkRoot type-book-check-check.atRoot type-id-typeid.idOf type-names-text.isOneOf type-names-text.startsWith type-names-text.contains type-names-names.isPointerName type-names-names.isSubRangeName type-names-names.isPrimitiveName type-category-category.isPointer type-category-category.isReference type-category-category.isAlias type-category-category.orElse type-category-category.isUnion type-category-category.methodsCategory type-category-category.fieldsCategory type-category-category.isEmptyStruct type-category-category.bareCategory type-category-category.sizeCategory type-category-category.complexCategory type-category-category.simpleCategory type-category-category.categoryOf type-category-number.categoryNumbers type-category-number.categoryAt type-provider-find.findFrom type-provider-find.find resolvers-resolve.resolvedNumbers resolvers-resolve.isFollowed resolvers-resolve.chainOnward resolvers-resolve.follow resolvers-resolve.lookUp resolvers-calls.resolutionNumbers resolvers-calls.resolution resolvers-calls.rootResolution enc-integer-integer.integerNumbers enc-integer-integer.integerReadNumbers enc-integer-integer.integerWriteNumbers enc-integer-integer.twosComplement enc-integer-integer.twosBits enc-integer-integer.bytesValue enc-integer-integer.integerOf enc-integer-integer.readInteger enc-integer-integer.fitsSigned enc-integer-integer.fitsUnsigned enc-integer-integer.fitsId enc-integer-integer.writeInteger enc-integer-integer.integerAfter enc-integer-integer.integerBytes enc-utf-8-buffer.splice enc-utf-8-buffer.fitsIn enc-utf-8-utf8.leading enc-utf-8-utf8.following enc-utf-8-utf8.afterReply enc-utf-8-utf8.decodeFrom enc-utf-8-utf8.noError enc-utf-8-utf8.found enc-utf-8-utf8.nextFrom enc-utf-8-utf8.encoded enc-utf-8-utf8.utf8Of enc-windows-1252-index.listedPoints enc-windows-1252-index.codePoint enc-windows-1252-index.firstFrom enc-windows-1252-index.byteOf enc-windows-1252-text.endFrom enc-windows-1252-text.decodeText enc-windows-1252-text.digits enc-windows-1252-text.bytesBy enc-windows-1252-text.encodeText tape-record.recordBytes tape-record.recordOf tape-record.stepAt tape-text.textPart tape-text.nameIn tape-text.recordText tape-form-ranges.unused tape-form-ranges.undeclared tape-form-ranges.declares tape-form-ranges.opens tape-form-ranges.closes tape-form-ranges.isKey tape-form-ranges.isWidth tape-form-ranges.blockIs tape-form-ranges.textIn tape-form-ranges.onlyA tape-form-ranges.empty tape-form-ranges.namesBlock tape-form-ranges.onlyB tape-form-ranges.sized tape-form-ranges.integerFine tape-form-ranges.textual tape-form-ranges.leafRanges tape-form-ranges.leafFine tape-form-form.withRecord tape-form-form.formOnward tape-form-form.closingRecord tape-form-form.several tape-form-form.memberAt tape-form-form.recordShape tape-form-form.bodyBy tape-form-form.valueAt tape-form-form.atTapeEnd tape-form-form.formed ser-leaf-leaf.exactly ser-leaf-leaf.boolWrite ser-leaf-leaf.realWrite ser-leaf-leaf.integerBy ser-leaf-leaf.pointerWrite ser-leaf-leaf.integerWrite ser-leaf-leaf.entryBy ser-leaf-leaf.entryLeaf ser-leaf-leaf.enumWrite ser-leaf-leaf.padded ser-leaf-leaf.stringBytes ser-leaf-leaf.textBy ser-leaf-leaf.textWrite ser-leaf-leaf.leafWriteBy ser-leaf-leaf.leafFor ser-write._thenWrites_ ser-write.placed ser-write.takenBy ser-write.taken ser-write.endRecordBy ser-write.leafEnd ser-write.leafWrite ser-write.checkedWrite ser-write.fieldWrite ser-write.foundValue ser-write.keyBy ser-write.keyOf ser-write.keysFrom ser-write.mapBy ser-write.mapWrite ser-write.elementsWrite ser-write.elementsBy ser-write.dimensionWrite ser-write.elementType ser-write.enteredBy ser-write.enteredAt ser-write.arrayWriteBy ser-write.arrayWrite ser-write.valueBy ser-write.itemWrite ser-write.writeWalk ser-call.typeWrite ser-call.rootWriteBy ser-call.rootWrite ser-call.refusedBefore ser-call.bookWrite ser-call.writeCall ser-call.writeNumbers time-types-counts.timeOf time-types-counts.countWidth time-types-types.timeTypeOf
 fits-eight = refl
 
 not-seven : _≡_ {A = List ℕ} (writeRow 7) ((10 ∷ image 7))
-unfolding flatMap block enc-number-le.leValue enc-number-le.leBytes type-book-book.sameName type-book-book.isNamed type-block-form-form.sumOf type-block-form-form.sumRight type-block-form-form.every type-block-form-form.unusedZero type-block-form-form.nameForm type-block-form-form.namesForm type-block-form-form.flagsForm type-block-form-form.typeForm type-block-form-form.fieldForm type-block-form-form.entryForm type-doubles-doubles.allFrom type-doubles-doubles.isOther type-doubles-doubles.isFirst type-book-check-check.sizeRight type-book-check-check.sumAt type-book-check-check.placeOf type-book-check-check.placesOnward type-book-check-check.placedFrom type-book-check-check.checkBlocks type-book-check-check.checkBook type-book-check-check.bookNumbers type-book-check-check.rootOf type-book-check-check.checkRoot type-book-check-check.atRoot type-id-typeid.idOf type-names-text.isOneOf type-names-text.startsWith type-names-text.contains type-names-names.isPointerName type-names-names.isSubRangeName type-names-names.isPrimitiveName type-category-category.isPointer type-category-category.isReference type-category-category.isAlias type-category-category.orElse type-category-category.isUnion type-category-category.methodsCategory type-category-category.fieldsCategory type-category-category.isEmptyStruct type-category-category.bareCategory type-category-category.sizeCategory type-category-category.complexCategory type-category-category.simpleCategory type-category-category.categoryOf type-category-number.categoryNumbers type-category-number.categoryAt type-provider-find.findFrom type-provider-find.find resolvers-resolve.resolvedNumbers resolvers-resolve.isFollowed resolvers-resolve.chainOnward resolvers-resolve.follow resolvers-resolve.lookUp resolvers-calls.resolutionNumbers resolvers-calls.resolution resolvers-calls.rootResolution enc-integer-integer.integerNumbers enc-integer-integer.integerReadNumbers enc-integer-integer.integerWriteNumbers enc-integer-integer.twosComplement enc-integer-integer.twosBits enc-integer-integer.bytesValue enc-integer-integer.integerOf enc-integer-integer.readInteger enc-integer-integer.fitsSigned enc-integer-integer.fitsUnsigned enc-integer-integer.fitsId enc-integer-integer.writeInteger enc-integer-integer.integerAfter enc-integer-integer.integerBytes enc-utf-8-buffer.splice enc-utf-8-buffer.fitsIn enc-utf-8-utf8.leading enc-utf-8-utf8.following enc-utf-8-utf8.afterReply enc-utf-8-utf8.decodeFrom enc-utf-8-utf8.noError enc-utf-8-utf8.found enc-utf-8-utf8.nextFrom enc-utf-8-utf8.encoded enc-utf-8-utf8.utf8Of enc-windows-1252-index.listedPoints enc-windows-1252-index.codePoint enc-windows-1252-index.firstFrom enc-windows-1252-index.byteOf enc-windows-1252-text.endFrom enc-windows-1252-text.decodeText enc-windows-1252-text.digits enc-windows-1252-text.bytesBy enc-windows-1252-text.encodeText tape-record.recordBytes tape-record.recordOf tape-record.stepAt tape-text.textPart tape-text.nameIn tape-text.recordText tape-form-ranges.unused tape-form-ranges.undeclared tape-form-ranges.declares tape-form-ranges.opens tape-form-ranges.closes tape-form-ranges.isKey tape-form-ranges.isWidth tape-form-ranges.blockIs tape-form-ranges.textIn tape-form-ranges.onlyA tape-form-ranges.empty tape-form-ranges.namesBlock tape-form-ranges.onlyB tape-form-ranges.sized tape-form-ranges.integerFine tape-form-ranges.textual tape-form-ranges.leafBy tape-form-ranges.leafFine tape-form-form.withRecord tape-form-form.formOnward tape-form-form.closingRecord tape-form-form.several tape-form-form.memberAt tape-form-form.recordShape tape-form-form.bodyBy tape-form-form.valueAt tape-form-form.atTapeEnd tape-form-form.formed ser-leaf-leaf.exactly ser-leaf-leaf.boolLeaf ser-leaf-leaf.realLeaf ser-leaf-leaf.integerBy ser-leaf-leaf.pointerLeaf ser-leaf-leaf.integerLeaf ser-leaf-leaf.entryBy ser-leaf-leaf.entryLeaf ser-leaf-leaf.enumLeaf ser-leaf-leaf.padded ser-leaf-leaf.stringBytes ser-leaf-leaf.textBy ser-leaf-leaf.textLeaf ser-leaf-leaf.leafBy ser-leaf-leaf.leafFor ser-write._then_ ser-write.placed ser-write.takenBy ser-write.taken ser-write.endRecordBy ser-write.leafEnd ser-write.leafOf ser-write.checked ser-write.fieldValue ser-write.foundValue ser-write.keyBy ser-write.keyOf ser-write.keysFrom ser-write.mapBy ser-write.mapOf ser-write.elementsFrom ser-write.elementsBy ser-write.dimensionOf ser-write.elementType ser-write.enteredBy ser-write.enteredAt ser-write.arrayBy ser-write.arrayOf ser-write.valueBy ser-write.itemWalk ser-write.walk ser-call.typeWrite ser-call.rootBy ser-call.rootWrite ser-call.refusedBefore ser-call.bookWrite ser-call.writeCall ser-call.writeNumbers time-types-counts.timeOf time-types-counts.countWidth time-types-types.timeTypeOf
+unfolding flatMap block enc-number-le.leValue enc-number-le.leBytes type-book-book.sameName type-book-book.isNamed type-block-form-form.sumOf type-block-form-form.sumRight type-block-form-form.every type-block-form-form.unusedZero type-block-form-form.nameForm type-block-form-form.namesForm type-block-form-form.flagsForm type-block-form-form.typeForm type-block-form-form.fieldForm type-block-form-form.entryForm type-doubles-doubles.allFrom type-doubles-doubles.isOther type-doubles-doubles.isFirst type-book-check-check.sizeRight type-book-check-check.sumAt type-book-check-check.placeOf type-book-check-check.placesOnward type-book-check-check.placedFrom type-book-check-check.checkBlocks type-book-check-check.checkBook type-book-check-check.bookNumbers type-book-check-check.rootOf type-book-check-check.checkRoot type-book-check-check.atRoot type-id-typeid.idOf type-names-text.isOneOf type-names-text.startsWith type-names-text.contains type-names-names.isPointerName type-names-names.isSubRangeName type-names-names.isPrimitiveName type-category-category.isPointer type-category-category.isReference type-category-category.isAlias type-category-category.orElse type-category-category.isUnion type-category-category.methodsCategory type-category-category.fieldsCategory type-category-category.isEmptyStruct type-category-category.bareCategory type-category-category.sizeCategory type-category-category.complexCategory type-category-category.simpleCategory type-category-category.categoryOf type-category-number.categoryNumbers type-category-number.categoryAt type-provider-find.findFrom type-provider-find.find resolvers-resolve.resolvedNumbers resolvers-resolve.isFollowed resolvers-resolve.chainOnward resolvers-resolve.follow resolvers-resolve.lookUp resolvers-calls.resolutionNumbers resolvers-calls.resolution resolvers-calls.rootResolution enc-integer-integer.integerNumbers enc-integer-integer.integerReadNumbers enc-integer-integer.integerWriteNumbers enc-integer-integer.twosComplement enc-integer-integer.twosBits enc-integer-integer.bytesValue enc-integer-integer.integerOf enc-integer-integer.readInteger enc-integer-integer.fitsSigned enc-integer-integer.fitsUnsigned enc-integer-integer.fitsId enc-integer-integer.writeInteger enc-integer-integer.integerAfter enc-integer-integer.integerBytes enc-utf-8-buffer.splice enc-utf-8-buffer.fitsIn enc-utf-8-utf8.leading enc-utf-8-utf8.following enc-utf-8-utf8.afterReply enc-utf-8-utf8.decodeFrom enc-utf-8-utf8.noError enc-utf-8-utf8.found enc-utf-8-utf8.nextFrom enc-utf-8-utf8.encoded enc-utf-8-utf8.utf8Of enc-windows-1252-index.listedPoints enc-windows-1252-index.codePoint enc-windows-1252-index.firstFrom enc-windows-1252-index.byteOf enc-windows-1252-text.endFrom enc-windows-1252-text.decodeText enc-windows-1252-text.digits enc-windows-1252-text.bytesBy enc-windows-1252-text.encodeText tape-record.recordBytes tape-record.recordOf tape-record.stepAt tape-text.textPart tape-text.nameIn tape-text.recordText tape-form-ranges.unused tape-form-ranges.undeclared tape-form-ranges.declares tape-form-ranges.opens tape-form-ranges.closes tape-form-ranges.isKey tape-form-ranges.isWidth tape-form-ranges.blockIs tape-form-ranges.textIn tape-form-ranges.onlyA tape-form-ranges.empty tape-form-ranges.namesBlock tape-form-ranges.onlyB tape-form-ranges.sized tape-form-ranges.integerFine tape-form-ranges.textual tape-form-ranges.leafRanges tape-form-ranges.leafFine tape-form-form.withRecord tape-form-form.formOnward tape-form-form.closingRecord tape-form-form.several tape-form-form.memberAt tape-form-form.recordShape tape-form-form.bodyBy tape-form-form.valueAt tape-form-form.atTapeEnd tape-form-form.formed ser-leaf-leaf.exactly ser-leaf-leaf.boolWrite ser-leaf-leaf.realWrite ser-leaf-leaf.integerBy ser-leaf-leaf.pointerWrite ser-leaf-leaf.integerWrite ser-leaf-leaf.entryBy ser-leaf-leaf.entryLeaf ser-leaf-leaf.enumWrite ser-leaf-leaf.padded ser-leaf-leaf.stringBytes ser-leaf-leaf.textBy ser-leaf-leaf.textWrite ser-leaf-leaf.leafWriteBy ser-leaf-leaf.leafFor ser-write._thenWrites_ ser-write.placed ser-write.takenBy ser-write.taken ser-write.endRecordBy ser-write.leafEnd ser-write.leafWrite ser-write.checkedWrite ser-write.fieldWrite ser-write.foundValue ser-write.keyBy ser-write.keyOf ser-write.keysFrom ser-write.mapBy ser-write.mapWrite ser-write.elementsWrite ser-write.elementsBy ser-write.dimensionWrite ser-write.elementType ser-write.enteredBy ser-write.enteredAt ser-write.arrayWriteBy ser-write.arrayWrite ser-write.valueBy ser-write.itemWrite ser-write.writeWalk ser-call.typeWrite ser-call.rootWriteBy ser-call.rootWrite ser-call.refusedBefore ser-call.bookWrite ser-call.writeCall ser-call.writeNumbers time-types-counts.timeOf time-types-counts.countWidth time-types-types.timeTypeOf
 not-seven = refl
 
 int-alias : _≡_ {A = List ℕ} (categoryRow (typeBlock 2 2 0 int int)) ((0 ∷ categoryNumbers category.Alias))

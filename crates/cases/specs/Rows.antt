@@ -15,7 +15,7 @@ use Rattle.resolve_read_modify_write.specs.Calls.{rmwNumbers, rmwCall}
 use Rattle.resolve_missing_types.specs.Calls.{missingNumbers, missingFits, missingCall, missingList}
 use Rattle.tape.specs.Record.{recordBytes}
 use Rattle.de_output.specs.Trace.{Trace, textRecord, textBytes, eventsOf, stepOf}
-use Rattle.de_output.specs.Answer.{readNumbers, answerOf, bufferAfter}
+use Rattle.de_output.specs.Answer.{readNumbers, readAnswerOf, bufferAfter}
 use Rattle.de.specs.Read.{readTrace}
 use Rattle.ser.specs.Write.{Outcome}
 use Rattle.ser.specs.Call.{writeCall, writeNumbers, outputAfter}
@@ -132,7 +132,7 @@ missingRow book = missingNumbers (missingCall book (length book) index 8 0 scrat
 
 -- what a read answers by its trace, on a tape of one record and a text buffer of `room` bytes, and that buffer after it
 abbrev pub readBy : Trace → ℕ → List ℕ
-readBy t room = readNumbers (answerOf (stepOf t 24 room 0 0)) ++ bufferAfter (stepOf t 24 room 0 0) (textBytes (eventsOf t)) (replicate room 0)
+readBy t room = readNumbers (readAnswerOf (stepOf t 24 room 0 0)) ++ bufferAfter (stepOf t 24 room 0 0) (textBytes (eventsOf t)) (replicate room 0)
 
 -- the same of a memory
 abbrev pub readRow : List ℕ → List ℕ → ℕ → List ℕ
@@ -148,7 +148,7 @@ image n = replicate n 0xee
 
 -- the number of what a write came to, 0 for a success, and the output after it
 abbrev pub writeBy : ℕ → Outcome → List ℕ
-writeBy n o = refusalOf (writeNumbers (writer.answerOf o)) ∷ outputAfter (image n) (replicate n 0) o
+writeBy n o = refusalOf (writeNumbers (writer.writeAnswerOf o)) ∷ outputAfter (image n) (replicate n 0) o
 
 -- a write of U+0416 over an image of `n` bytes, of a STRING of that size
 abbrev pub writeRow : ℕ → List ℕ

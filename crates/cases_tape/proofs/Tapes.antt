@@ -9,7 +9,7 @@ use Rattle.enc_integer.specs.Integer.{twosComplement, fitsSigned, fitsUnsigned}
 use Rattle.enc_utf_8.specs.Utf8.{decodeFrom, leading, following, afterReply, noError}
 use Rattle.tape.specs.declared.record.Record.{Record}
 use Rattle.tape.specs.Record.{recordBytes, recordOf, stepAt}
-use Rattle.tape_form.specs.Ranges.{unused, undeclared, isWidth, blockIs, declares, textIn, onlyA, empty, namesBlock, opens, closes, isKey, onlyB, sized, integerFine, textual, leafBy, leafFine}
+use Rattle.tape_form.specs.Ranges.{unused, undeclared, isWidth, blockIs, declares, textIn, onlyA, empty, namesBlock, opens, closes, isKey, onlyB, sized, integerFine, textual, leafRanges, leafFine}
 use Rattle.tape_form.specs.Form.{withRecord, formOnward, closingRecord, several, memberAt, recordShape, bodyBy, valueAt, atTapeEnd, formed}
 use Rattle.tape_form.specs.Tree.{with-A, recordsBytes}
 
@@ -53,7 +53,7 @@ numbers :
     ∷ true ∷ false ∷ true ∷ false
     ∷ true ∷ false ∷ true ∷ false
     ∷ true ∷ false ∷ true ∷ false ∷ []
-unfolding formed atTapeEnd valueAt bodyBy recordShape memberAt several closingRecord formOnward withRecord leafFine leafBy textual integerFine sized onlyB namesBlock empty onlyA textIn blockIs isWidth unused undeclared declares opens closes isKey recordsBytes recordBytes recordOf stepAt leValue leBytes twosComplement fitsSigned fitsUnsigned
+unfolding formed atTapeEnd valueAt bodyBy recordShape memberAt several closingRecord formOnward withRecord leafFine leafRanges textual integerFine sized onlyB namesBlock empty onlyA textIn blockIs isWidth unused undeclared declares opens closes isKey recordsBytes recordBytes recordOf stepAt leValue leBytes twosComplement fitsSigned fitsUnsigned
 numbers = refl
 
 -- texts inside, ended or not, at the end, outside and not UTF-8; entries and keys by the kind of their block
@@ -64,7 +64,7 @@ places :
     ≡ true ∷ true ∷ false ∷ false ∷ true ∷ false ∷ false ∷ false
     ∷ true ∷ false ∷ false
     ∷ true ∷ false ∷ []
-unfolding formed atTapeEnd valueAt bodyBy recordShape memberAt several closingRecord formOnward withRecord leafFine leafBy textual integerFine sized onlyB namesBlock empty onlyA textIn blockIs isWidth unused undeclared declares opens closes isKey recordsBytes recordBytes recordOf stepAt leValue leBytes decodeFrom leading following afterReply noError
+unfolding formed atTapeEnd valueAt bodyBy recordShape memberAt several closingRecord formOnward withRecord leafFine leafRanges textual integerFine sized onlyB namesBlock empty onlyA textIn blockIs isWidth unused undeclared declares opens closes isKey recordsBytes recordBytes recordOf stepAt leValue leBytes decodeFrom leading following afterReply noError
 places = refl
 
 -- counts of elements and of keys; no value, half a value, two values, and 23 bytes
@@ -75,7 +75,7 @@ balance :
     ≡ true ∷ false ∷ false ∷ false
     ∷ true ∷ false
     ∷ false ∷ false ∷ false ∷ false ∷ false ∷ []
-unfolding formed atTapeEnd valueAt bodyBy recordShape memberAt several closingRecord formOnward withRecord leafFine leafBy textual integerFine sized onlyB namesBlock empty onlyA textIn blockIs isWidth unused undeclared declares opens closes isKey recordsBytes recordBytes recordOf stepAt leValue leBytes
+unfolding formed atTapeEnd valueAt bodyBy recordShape memberAt several closingRecord formOnward withRecord leafFine leafRanges textual integerFine sized onlyB namesBlock empty onlyA textIn blockIs isWidth unused undeclared declares opens closes isKey recordsBytes recordBytes recordOf stepAt leValue leBytes
 balance = refl
 
 -- 64 arrays, the innermost empty; with a unit in it; bytes 2 and 3 in use; bytes 4 to 7 a field block, past the book, or used in an end or a key
@@ -84,5 +84,5 @@ levels :
     ∷ is (record { kind = 13; width = 0; spare = 1; declared = 0; a = 0; b = 0 } ∷ []) ∷ is (typed 13 1 0 ∷ []) ∷ is (typed 13 3 0 ∷ [])
     ∷ is (with-A 1 0 ∷ typed 2 1 0 ∷ []) ∷ is (with-A 3 1 ∷ typed 4 1 1 ∷ unit ∷ with-A 5 0 ∷ []) ∷ []
     ≡ true ∷ false ∷ true ∷ false ∷ false ∷ false ∷ false ∷ false ∷ []
-unfolding formed atTapeEnd valueAt bodyBy recordShape memberAt several closingRecord formOnward withRecord leafFine leafBy textual integerFine sized onlyB namesBlock empty onlyA textIn blockIs isWidth unused undeclared declares opens closes isKey recordsBytes recordBytes recordOf stepAt leValue leBytes
+unfolding formed atTapeEnd valueAt bodyBy recordShape memberAt several closingRecord formOnward withRecord leafFine leafRanges textual integerFine sized onlyB namesBlock empty onlyA textIn blockIs isWidth unused undeclared declares opens closes isKey recordsBytes recordBytes recordOf stepAt leValue leBytes
 levels = refl

@@ -20,12 +20,12 @@ use Rattle.resolve_missing_types.specs.Calls.{missingCall, MissingIs}
 use Rattle.resolve_missing_types.specs.Given.{givenMissing, GivenMissingIs}
 use Rattle.resolve_missing_types.proofs.Numbers.{missing-says}
 use Rattle.closure.specs.Calls.{Ours, bookOf, Call, ask, add, bytes, next, afterCalls, Each, none, more}
-use Rattle.closure.specs.Demand.{rootName, Lent, CallIs, Fetched, ListedNone, Closed, Premises as Held, Claim as Claimed, Demand3}
+use Rattle.closure.specs.Demand.{rootName, Lent, CallIs, Fetched, ListedNone, Closed, Premises, Claim, Demand3}
 use Rattle.closure.specs.Demand as demand
 use Rattle.closure.proofs.Steps.{Sound, base, ours}
 use Rattle.closure.proofs.Asks.{Theirs, root-check}
 use Rattle.closure.proofs.Lists.{each-first, each-rest, sound-next, found-next, found-after}
-use Rattle.closure_named.specs.Named.{Premises, NamedCallIs, NamedFetched, NamedNone, here, later, NamedClosed, Claim, FromNothing}
+use Rattle.closure_named.specs.Named.{NamedPremises, NamedCallIs, NamedFetched, NamedNone, here, later, NamedClosed, NamedClaim, FromNothing}
 use Rattle.closure_named.proofs.Lacks.{given-found}
 use Rattle.closure_named.proofs.Nothing.{listing-at, name-formed}
 
@@ -93,9 +93,9 @@ module _ (c : List ℕ) (width root : ℕ) (name : List ℕ) (w : Theirs c width
 
 -- ---- the theorem
 
-module _ (c : List ℕ) (width root : ℕ) (s : Ours) (is : List Call) (p : Held c width root s is) where
+module _ (c : List ℕ) (width root : ℕ) (s : Ours) (is : List Call) (p : Premises c width root s is) where
   -- demand 3's premises for a root block are those for its name
-  pub premises-by-name : Premises c width (rootName root s) s is
+  pub premises-by-name : NamedPremises c width (rootName root s) s is
   premises-by-name =
       record {
         calls = p .calls;
@@ -109,7 +109,7 @@ module _ (c : List ℕ) (width root : ℕ) (s : Ours) (is : List Call) (p : Held
       }
 
   -- and what is claimed by the name is what demand 3 claims of the block
-  pub claim-by-name : Claim c width (rootName root s) s is → Claimed c width root s is
+  pub claim-by-name : NamedClaim c width (rootName root s) s is → Claim c width root s is
   claim-by-name q =
       let w : Theirs c width (rootName root s) = record { valid = p .theirs-valid; few = p .few; short = p .short } in
       let o : Sound c root (rootName root s) s =

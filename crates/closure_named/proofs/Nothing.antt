@@ -21,14 +21,14 @@ use Rattle.resolve_walk.specs.Reached.{Needed, reached, start, Distinct, none a
 use Rattle.resolve_missing_types.specs.Needs.{Lacking, Defined}
 use Rattle.closure_books.proofs.Covered.{different}
 use Rattle.closure.specs.Calls.{Ours, bookOf, Call, ask, add, bytes, next, afterCalls, Each, none, more}
-use Rattle.closure.specs.Demand.{rootName, Lent, AddedNext, end, this, other, refused, Fetched, asksListing, Closed, Claim as Claimed, Premises as Held}
+use Rattle.closure.specs.Demand.{rootName, Lent, AddedNext, end, this, other, refused, Fetched, asksListing, Closed, Claim, Premises}
 use Rattle.closure.specs.Demand as demand
 use Rattle.closure.proofs.Bases.{Base, unchanged, none-refused, add-keeps, add-finds}
 use Rattle.closure.proofs.Steps.{Sound, base}
 use Rattle.closure.proofs.Asks.{Theirs}
 use Rattle.closure.proofs.Lists.{each-first, each-rest, sound-next, found-next, sound-after, found-after, bounded}
 use Rattle.closure.proofs.Demand.{demand3}
-use Rattle.closure_named.specs.Named.{Premises, FetchedBy, NamedFetched, anyBy, namedListing, Bound, NamedNone, here, later, NamedClosed, Claim, FromNothing}
+use Rattle.closure_named.specs.Named.{NamedPremises, FetchedBy, NamedFetched, anyBy, namedListing, NamedBound, NamedNone, here, later, NamedClosed, NamedClaim, FromNothing}
 use Rattle.closure_named.proofs.Lacks.{given-found, sound-at, base-next, calls-are}
 
 module _ (c : List ℕ) (width : ℕ) (name : List ℕ) (w : Theirs c width name) (formed : isRootName name ≡ true) where
@@ -62,7 +62,7 @@ module _ (c : List ℕ) (width : ℕ) (name : List ℕ) (w : Theirs c width name
 
   -- ---- the bound
 
-  -- as `Bound`, of names that lack in a book s at first, and among which the root's is not
+  -- as `NamedBound`, of names that lack in a book s at first, and among which the root's is not
   record Others (s : Ours) (is : List Call) (now : Ours) : Type 0 where
     names : List (List ℕ)
     distinct : Distinct names
@@ -131,7 +131,7 @@ module _ (c : List ℕ) (width : ℕ) (name : List ℕ) (w : Theirs c width name
       earlier (bytes m) is s (each-first g) o refl
       (added-bound is a (next c (bytes m) s) (each-rest g) (each-rest f) (base-next c width name w formed (bytes m) is s (each-first g) o))
 
-  pub bound-is : (is : List Call) (s : Ours) → Each c (Lent c) s is → Each c (NamedFetched c width name) s is → Base c s → Bound c width name s is
+  pub bound-is : (is : List Call) (s : Ours) → Each c (Lent c) s is → Each c (NamedFetched c width name) s is → Base c s → NamedBound c width name s is
   unfolding namedListing
   bound-is [] s g f o =
       record {
@@ -143,7 +143,7 @@ module _ (c : List ℕ) (width : ℕ) (name : List ℕ) (w : Theirs c width name
       }
   bound-is (ask ix sc ls ∷ is) s g f o = by (find (bookOf s) name) refl
     where
-      by : (h : Found) → find (bookOf s) name ≡ h → Bound c width name s (ask ix sc ls ∷ is)
+      by : (h : Found) → find (bookOf s) name ≡ h → NamedBound c width name s (ask ix sc ls ∷ is)
       by (At t) e =
           let q = found-bound (ask ix sc ls ∷ is) s g f o t e in
           record { names = q .names; distinct = q .distinct; needed = q .needed; lacking = q .lacking; many = q .many }
@@ -168,7 +168,7 @@ module _ (c : List ℕ) (width : ℕ) (name : List ℕ) (w : Theirs c width name
 
   module _ (defines : (x : List ℕ) → Needed c width name x → Defined c x) where
     -- a book that has the root's name meets demand 3's premises
-    held : (is : List Call) (s : Ours) → Each c (Lent c) s is → (t : ℕ) → Sound c t name s → Held c width t s is
+    held : (is : List Call) (s : Ours) → Each c (Lent c) s is → (t : ℕ) → Sound c t name s → Premises c width t s is
     held is s g t h =
         let n : nameOf (bookOf s) t ≡ name = h .named in
         record {

@@ -14,7 +14,7 @@ use Rattle.closure.specs.Calls.{Ours, bookOf, Call, ask, add, none, more}
 use Rattle.closure.specs.Demand.{rootName}
 use Rattle.closure.proofs.Lists.{each-first}
 use Rattle.closure.proofs.Witness.{theirs, lent, ours, witness}
-use Rattle.closure_named.specs.Named.{Premises}
+use Rattle.closure_named.specs.Named.{NamedPremises}
 
 -- our buffer, with nothing in it
 abbrev pub nothing : Ours
@@ -27,7 +27,7 @@ root = witness .covers .only 0 (witness .holds)
 abbrev pub asked : Call
 asked = ask (replicate 16384 0) (replicate 8192 0) (replicate 4096 0)
 
-pub from-nothing-witness : Premises theirs 8 (rootName 0 ours) nothing (asked ∷ add (root .block) ∷ asked ∷ [])
+pub from-nothing-witness : NamedPremises theirs 8 (rootName 0 ours) nothing (asked ∷ add (root .block) ∷ asked ∷ [])
 from-nothing-witness =
     record {
       calls = more (each-first (witness .calls)) (more (root .type) (more (each-first (witness .calls)) none));

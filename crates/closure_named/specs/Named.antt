@@ -36,7 +36,7 @@ use Rattle.closure.specs.Demand.{Lent, AskIs, AddIs, BytesIs, AddedNext, any, C
 
 -- those of demand 3, of the controller's book c, "one pointer width", the root's name, our buffer s at first, and the list of calls; but ours need not
 -- hold the root
-pub record Premises (c : List ℕ) (width : ℕ) (name : List ℕ) (s : Ours) (is : List Call) : Type 0 where
+pub record NamedPremises (c : List ℕ) (width : ℕ) (name : List ℕ) (s : Ours) (is : List Call) : Type 0 where
   pub calls : Each c (Lent c) s is
   pub theirs-valid : ValidBook c
   pub ours-valid : checkBook (s .buffer) (s .len) ≡ Valid
@@ -98,7 +98,7 @@ namedListing c width name (add n ∷ is) s = namedListing c width name is (next 
 namedListing c width name (bytes more ∷ is) s = namedListing c width name is (next c (bytes more) s)
 
 -- "at most as many asks list any as needed names were lacking at first", the root's own among them where it was
-pub record Bound (c : List ℕ) (width : ℕ) (name : List ℕ) (s : Ours) (is : List Call) : Type 0 where
+pub record NamedBound (c : List ℕ) (width : ℕ) (name : List ℕ) (s : Ours) (is : List Call) : Type 0 where
   pub names : List (List ℕ)
   pub distinct : Distinct names
   pub needed : (x : List ℕ) → List·Memᴰ x names → Needed c width name x
@@ -123,11 +123,11 @@ pub record NamedClosed (c : List ℕ) (width : ℕ) (name : List ℕ) (s : Ours)
 -- ---- demand 3 from nothing
 
 -- what is claimed of a list of calls
-pub record Claim (c : List ℕ) (width : ℕ) (name : List ℕ) (s : Ours) (is : List Call) : Type 0 where
+pub record NamedClaim (c : List ℕ) (width : ℕ) (name : List ℕ) (s : Ours) (is : List Call) : Type 0 where
   pub calls : Each c (NamedCallIs c width name) s is
-  pub bound : Each c (NamedFetched c width name) s is → Bound c width name s is
+  pub bound : Each c (NamedFetched c width name) s is → NamedBound c width name s is
   pub closed : NamedNone c width name s is → NamedClosed c width name (afterCalls c is s)
 
 -- "The asks and adds of demand 3 may now begin from nothing"
 unfoldable pub FromNothing : Type 0
-FromNothing = (c : List ℕ) (width : ℕ) (name : List ℕ) (s : Ours) (is : List Call) → Premises c width name s is → Claim c width name s is
+FromNothing = (c : List ℕ) (width : ℕ) (name : List ℕ) (s : Ours) (is : List Call) → NamedPremises c width name s is → NamedClaim c width name s is

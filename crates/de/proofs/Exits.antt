@@ -40,11 +40,11 @@ use Rattle.tape.specs.Record.{newRecord, declaring}
 use Rattle.de_output.specs.Trace.{rec, one, From, Halts}
 use Rattle.tape_array_elements.specs.Element.{whole, elementItem, shapeAt, shapeCheck, elementCheck, ElementChecked}
 use Rattle.tape_array_elements.proofs.Items.{item-last, item-further}
-use Rattle.de.specs.Plans.{Given, GivenElement, memberPart, PartIs, fieldTrace}
+use Rattle.de.specs.Plans.{ReadPlan, ReadElementPlan, memberPart, PartIs, fieldTrace}
 use Rattle.de.specs.declared.reading.Part.{Part}
 use Rattle.de.specs.declared.reading.Part.the-variants as part
 use Rattle.de_leaf_output.specs.declared.Typed.{Typed}
-use Rattle.de.specs.Walk.{Ctx, ctx, typedOf, Child, leafOf, checked, memberOf, membersFrom, membersOf, mapOf, elementsFrom, elementsOf, dimensionOf, elementBy, arrayOf, shapeWalk, walk}
+use Rattle.de.specs.Walk.{Ctx, ctx, typedOf, Child, leafOf, checked, memberOf, membersFrom, membersOf, mapOf, elementsFrom, elementsOf, dimensionOf, elementBy, arrayOf, shapeWalk, readWalk}
 use Rattle.de_leaves.specs.Leaf.{leafAt}
 use Rattle.de_leaf_output.specs.Leaves.{traceOf}
 use Rattle.tape_shape.specs.Value.{shapeOf}
@@ -61,27 +61,27 @@ unfolding shapeAt
 shape-is c t k y ey ek = ek ∙ ap shapeOf ey
 
 -- a plan that was given for a type with fields is ready
-pub map-ready : (book : List ℕ) (width t : ℕ) (plan : List ℕ) (k : Shape) (y : AdsTypeCategory) → y ≡ categoryOf book width t → k ≡ shapeOf y → k ≡ shape.Map → Given (ctx book width) t plan → PlanServes book width t plan
+pub map-ready : (book : List ℕ) (width t : ℕ) (plan : List ℕ) (k : Shape) (y : AdsTypeCategory) → y ≡ categoryOf book width t → k ≡ shapeOf y → k ≡ shape.Map → ReadPlan (ctx book width) t plan → PlanServes book width t plan
 map-ready book width t plan k y ey ek z g = g .given (sym (shape-is (ctx book width) t k y ey ek) ∙ z)
 
 -- no plan is given
-pub given-none : (c : Ctx) (t : ℕ) (l : List ℕ) → Given c t (take (0 - 0) (drop 0 l))
+pub given-none : (c : Ctx) (t : ℕ) (l : List ℕ) → ReadPlan c t (take (0 - 0) (drop 0 l))
 given-none c t l = record { given = λ h. ready-none (c .book) (c .width) t }
 
 module _ (c : Ctx) (left : ℕ) (x : Typed) (mem : List ℕ) {tape txt : List ℕ} {s r : Step} where
-  pub value-deep : left ≡ 0 → Halts s 14 0 r → From (walk c left (whole x) mem) tape txt s r tape txt
+  pub value-deep : left ≡ 0 → Halts s 14 0 r → From (readWalk c left (whole x) mem) tape txt s r tape txt
   value-deep e h = from-as (walks.walk-deep c left mem (whole x) e) (halted h)
 
   module _ (n : left ≡ 0 → ⊥) (k : Shape) (ey : x .category ≡ categoryOf (c .book) (c .width) (x .resolved)) (ek : k ≡ shapeOf (x .category)) where
-    pub value-map : {tape′ txt′ : List ℕ} → k ≡ shape.Map → From (mapOf (walk c (left - 1)) c x mem) tape txt s r tape′ txt′ → From (walk c left (whole x) mem) tape txt s r tape′ txt′
+    pub value-map : {tape′ txt′ : List ℕ} → k ≡ shape.Map → From (mapOf (readWalk c (left - 1)) c x mem) tape txt s r tape′ txt′ → From (readWalk c left (whole x) mem) tape txt s r tape′ txt′
     unfolding shapeWalk
     value-map q h = from-as (walks.walk-shape c left mem x shape.Map n (sym q ∙ shape-is c (x .resolved) k (x .category) ey ek)) h
 
-    pub value-array : {tape′ txt′ : List ℕ} → k ≡ shape.Array → From (arrayOf (walk c (left - 1)) c x mem) tape txt s r tape′ txt′ → From (walk c left (whole x) mem) tape txt s r tape′ txt′
+    pub value-array : {tape′ txt′ : List ℕ} → k ≡ shape.Array → From (arrayOf (readWalk c (left - 1)) c x mem) tape txt s r tape′ txt′ → From (readWalk c left (whole x) mem) tape txt s r tape′ txt′
     unfolding shapeWalk
     value-array q h = from-as (walks.walk-shape c left mem x shape.Array n (sym q ∙ shape-is c (x .resolved) k (x .category) ey ek)) h
 
-    pub value-leaf : {tape′ txt′ : List ℕ} → k ≡ shape.Leaf → From (traceOf (x .named) (leafAt (c .book) (c .width) (x .resolved) mem) mem) tape txt s r tape′ txt′ → From (walk c left (whole x) mem) tape txt s r tape′ txt′
+    pub value-leaf : {tape′ txt′ : List ℕ} → k ≡ shape.Leaf → From (traceOf (x .named) (leafAt (c .book) (c .width) (x .resolved) mem) mem) tape txt s r tape′ txt′ → From (readWalk c left (whole x) mem) tape txt s r tape′ txt′
     unfolding shapeWalk leafOf
     value-leaf q h = from-as (walks.walk-shape c left mem x shape.Leaf n (sym q ∙ shape-is c (x .resolved) k (x .category) ey ek)) h
 
@@ -269,14 +269,14 @@ module _ (child : Child) (c : Ctx) (m d t : ℕ) (e : Typed) (n : ℕ) (mem : Li
 -- ---- element
 
 module _ (c : Ctx) (left d t : ℕ) (e : Typed) (mem : List ℕ) {tape txt : List ℕ} {s r : Step} (b : Bool) (q : b ≡ isLast (c .book) d t) where
-  pub element-last : {tape′ txt′ : List ℕ} → b ≡ true → From (walk c left (whole e) mem) tape txt s r tape′ txt′ → From (walk c left (elementItem (c .book) d t e) mem) tape txt s r tape′ txt′
+  pub element-last : {tape′ txt′ : List ℕ} → b ≡ true → From (readWalk c left (whole e) mem) tape txt s r tape′ txt′ → From (readWalk c left (elementItem (c .book) d t e) mem) tape txt s r tape′ txt′
   element-last h x = rw (item-last (c .book) d t e b q h) x
 
-  pub element-deep : b ≡ false → left ≡ 0 → Halts s 14 0 r → From (walk c left (elementItem (c .book) d t e) mem) tape txt s r tape txt
+  pub element-deep : b ≡ false → left ≡ 0 → Halts s 14 0 r → From (readWalk c left (elementItem (c .book) d t e) mem) tape txt s r tape txt
   element-deep h z x = from-as (walks.walk-deep c left mem (elementItem (c .book) d t e) z) (halted x)
 
-  pub element-further : {tape′ txt′ : List ℕ} → b ≡ false → (left ≡ 0 → ⊥) → From (dimensionOf (walk c (left - 1)) c t (d + 1) t e mem) tape txt s r tape′ txt′
-      → From (walk c left (elementItem (c .book) d t e) mem) tape txt s r tape′ txt′
+  pub element-further : {tape′ txt′ : List ℕ} → b ≡ false → (left ≡ 0 → ⊥) → From (dimensionOf (readWalk c (left - 1)) c t (d + 1) t e mem) tape txt s r tape′ txt′
+      → From (readWalk c left (elementItem (c .book) d t e) mem) tape txt s r tape′ txt′
   element-further h n x = rw (item-further (c .book) d t e b q h) (from-as (walks.walk-further c left mem (d + 1) t e n) x)
 
 -- ---- what calls ask
@@ -303,12 +303,12 @@ pub own-entries : (book : List ℕ) (width t : ℕ) (k : FieldsCheck) (before af
 own-entries book width t k before after p z = p .entries z
 
 -- the same for the elements of an array, none of whose fields is refused
-pub own-elements : (c : Ctx) (d t e : ℕ) (k : FieldsCheck) (before after : List ℕ) → ElementChecked (c .book) (c .width) d t e before k after → k ≡ check.Fine → GivenElement c d t e after
+pub own-elements : (c : Ctx) (d t e : ℕ) (k : FieldsCheck) (before after : List ℕ) → ElementChecked (c .book) (c .width) d t e before k after → k ≡ check.Fine → ReadElementPlan c d t e after
 unfolding elementCheck shapeCheck
 own-elements c d t e k before after p z =
     let h : elementCheck (c .book) (c .width) d t e ≡ check.Fine = sym (p .is) ∙ z in
     record { given = λ l. record { given = λ m. record { entries = p .entries z l m; fine = λ _. (rw (l, m) at h) } } }
 
 -- in the last dimension what is given is given for the element
-pub last-given : (c : Ctx) (d t e : ℕ) (plan : List ℕ) (b : Bool) → b ≡ isLast (c .book) d t → b ≡ true → GivenElement c d t e plan → Given c e plan
+pub last-given : (c : Ctx) (d t e : ℕ) (plan : List ℕ) (b : Bool) → b ≡ isLast (c .book) d t → b ≡ true → ReadElementPlan c d t e plan → ReadPlan c e plan
 last-given c d t e plan b q h g = g .given (sym q ∙ h)

@@ -25,7 +25,7 @@ use Rattle.de_leaf_output.specs.Numbers.{NumberRecordIs}
 use Rattle.de_output.specs.declared.Step.{Step}
 use Rattle.de_output.specs.Trace.{rec, one, From}
 use Rattle.de_output.proofs.Runs.{from-as, chain}
-use Rattle.de.specs.Walk.{Ctx, ctx, leafOf, fieldValue, memberOf, shapeWalk, walk}
+use Rattle.de.specs.Walk.{Ctx, ctx, leafOf, fieldValue, memberOf, shapeWalk, readWalk}
 use Rattle.de.specs.Plans.{fieldTrace, FieldNumber}
 use Rattle.de.proofs.Walks as walks
 
@@ -53,7 +53,7 @@ number-shape category.Interface e = refl
 
 -- a value that is a number, one level down
 module _ (c : Ctx) (left : ℕ) (n : left ≡ 0 → ⊥) (x : Typed) (ex : x .category ≡ categoryOf (c .book) (c .width) (x .resolved)) (mem : List ℕ) (r : Record) (q : NumberRecordIs (c .book) x mem r) (h : r .kind ≡ 0 → ⊥) where
-  pub value-number : walk c left (whole x) mem ≡ one (rec r)
+  pub value-number : readWalk c left (whole x) mem ≡ one (rec r)
   unfolding shapeWalk leafOf leafAt shapeAt
   value-number =
       let s : shape.Leaf ≡ shapeAt (c .book) (c .width) (x .resolved) = number-shape (x .category) (q .number h) ∙ ap shapeOf ex in
@@ -75,9 +75,9 @@ module _ (book : List ℕ) (width left f : ℕ) (mem : List ℕ) (e : ℕ) (v : 
 -- ---- member: its key, then its value
 
 module _ (c : Ctx) (left : ℕ) (mem : List ℕ) (f : ℕ) {tape tape₁ tape₂ txt txt₁ txt₂ : List ℕ} {s k r : Step} (key : From (one (rec (newRecord 4 0 f 0))) tape txt s k tape₁ txt₁) where
-  pub member-field : From (fieldTrace (walk c left) c mem f) tape₁ txt₁ k r tape₂ txt₂ → From (memberOf (walk c left) c mem f) tape txt s r tape₂ txt₂
+  pub member-field : From (fieldTrace (readWalk c left) c mem f) tape₁ txt₁ k r tape₂ txt₂ → From (memberOf (readWalk c left) c mem f) tape txt s r tape₂ txt₂
   unfolding memberOf
   member-field v = chain key v
 
-  pub member-number : (x : Record) → FieldNumber c left f mem x → (x .kind ≡ 0 → ⊥) → From (one (rec x)) tape₁ txt₁ k r tape₂ txt₂ → From (memberOf (walk c left) c mem f) tape txt s r tape₂ txt₂
+  pub member-number : (x : Record) → FieldNumber c left f mem x → (x .kind ≡ 0 → ⊥) → From (one (rec x)) tape₁ txt₁ k r tape₂ txt₂ → From (memberOf (readWalk c left) c mem f) tape txt s r tape₂ txt₂
   member-number x q h v = member-field (from-as (q .is h) v)

@@ -29,26 +29,26 @@ use Rattle.de_leaf_output.specs.declared.Typed.{Typed}
 use Rattle.de.specs.declared.reading.Part.{Part}
 use Rattle.de.specs.declared.reading.Part.the-variants as part
 use Rattle.de.specs.Plans.{memberPart, fieldTrace}
-use Rattle.de.specs.Walk.{Ctx, typedOf, Child, checked, fieldValue, memberOf, membersFrom, membersOf, mapOf, elementsFrom, elementsOf, dimensionOf, elementBy, arrayBy, arrayOf, shapeWalk, itemWalk, walk}
+use Rattle.de.specs.Walk.{Ctx, typedOf, Child, checked, fieldValue, memberOf, membersFrom, membersOf, mapOf, elementsFrom, elementsOf, dimensionOf, elementBy, arrayBy, arrayOf, shapeWalk, itemWalk, readWalk}
 
 -- ---- a value
 
 module _ (c : Ctx) (left : ℕ) (mem : List ℕ) where
-  pub walk-deep : (i : Content Typed) → left ≡ 0 → walk c left i mem ≡ refuse 14 0
-  unfolding walk
+  pub walk-deep : (i : Content Typed) → left ≡ 0 → readWalk c left i mem ≡ refuse 14 0
+  unfolding readWalk
   walk-deep i e = rw e
 
-  pub walk-shape : (x : Typed) (k : Shape) → (left ≡ 0 → ⊥) → k ≡ shapeAt (c .book) (c .width) (x .resolved) → walk c left (whole x) mem ≡ shapeWalk (walk c (left - 1)) c x mem k
-  unfolding walk itemWalk
+  pub walk-shape : (x : Typed) (k : Shape) → (left ≡ 0 → ⊥) → k ≡ shapeAt (c .book) (c .width) (x .resolved) → readWalk c left (whole x) mem ≡ shapeWalk (readWalk c (left - 1)) c x mem k
+  unfolding readWalk itemWalk
   walk-shape x k n q =
       let e : left ≡ suc (left - 1) = omega arith in
-      ap (λ (l : ℕ). walk c l (whole x) mem) e ∙ rw q
+      ap (λ (l : ℕ). readWalk c l (whole x) mem) e ∙ rw q
 
-  pub walk-further : (d t : ℕ) (e : Typed) → (left ≡ 0 → ⊥) → walk c left (further d t e) mem ≡ dimensionOf (walk c (left - 1)) c t d t e mem
-  unfolding walk itemWalk
+  pub walk-further : (d t : ℕ) (e : Typed) → (left ≡ 0 → ⊥) → readWalk c left (further d t e) mem ≡ dimensionOf (readWalk c (left - 1)) c t d t e mem
+  unfolding readWalk itemWalk
   walk-further d t e n =
       let q : left ≡ suc (left - 1) = omega arith in
-      ap (λ (l : ℕ). walk c l (further d t e) mem) q
+      ap (λ (l : ℕ). readWalk c l (further d t e) mem) q
 
 -- ---- a field, and the fields
 

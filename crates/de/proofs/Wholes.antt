@@ -23,7 +23,7 @@ use Rattle.de_output.specs.Trace.{From, refuse}
 use Rattle.type_category.specs.Category.{categoryOf}
 use Rattle.type_category.specs.declared.type_category.AdsTypeCategory.{AdsTypeCategory}
 use Rattle.tape_array_elements.specs.Element.{whole}
-use Rattle.de.specs.Walk.{Ctx, ctx, walk}
+use Rattle.de.specs.Walk.{Ctx, ctx, readWalk}
 use Rattle.de.specs.Read.{rootBy, rootTrace, readTrace, givenTrace}
 use Rattle.resolvers.proofs.Numbers.{resolved-is, lacks-numbers, long-numbers}
 use Rattle.de_output.specs.Answer.{ReadIs, Finished}
@@ -45,11 +45,11 @@ module _ (c : Ctx) (n : ℕ) (mem : List ℕ) (k : Resolved) (q : ResolvedIs (c 
   root-endless e f = read-as (rw (← came c n k q, e, long-numbers)) (read-refused 8 0 f)
 
   pub root-base : (t : ℕ) → k ≡ resolved.Base t → (y : AdsTypeCategory) → y ≡ categoryOf (c .book) (c .width) t → (s : Step) {tape₁ txt₁ : List ℕ}
-      → From (walk c 64 (whole (record { named = n; resolved = t; category = y })) mem) tape txt (Next 0 0) s tape₁ txt₁
+      → From (readWalk c 64 (whole (record { named = n; resolved = t; category = y })) mem) tape txt (Next 0 0) s tape₁ txt₁
       → length tape₁ ≡ length tape → length txt₁ ≡ length txt → Finished s tape₁ txt₁ r tape₂ txt₂ → ReadIs (rootTrace c n mem) tape txt r tape₂ txt₂
   unfolding rootTrace rootBy
   root-base t e y ey s {tape₁} {txt₁} h a b f =
-      read-as (rw (← came c n k q, e, ← ey)) (read-by (walk c 64 (whole (record { named = n; resolved = t; category = y })) mem) tape txt tape₁ txt₁ s (h .on 0 0 refl) a b f)
+      read-as (rw (← came c n k q, e, ← ey)) (read-by (readWalk c 64 (whole (record { named = n; resolved = t; category = y })) mem) tape txt tape₁ txt₁ s (h .on 0 0 refl) a b f)
 
 -- ---- any bytes
 

@@ -21,15 +21,15 @@ use Rattle.de.specs.declared.reading.Part.{Part}
 use Rattle.de.specs.declared.reading.Part.the-variants as part
 use Rattle.tape.specs.declared.record.Record.{Record}
 use Rattle.de_output.specs.Trace.{Trace, rec, one}
-use Rattle.de.specs.Walk.{Ctx, typedOf, Child, fieldValue, walk}
+use Rattle.de.specs.Walk.{Ctx, typedOf, Child, fieldValue, readWalk}
 
 -- the plan of a type that has fields is empty, or none of them is refused
-pub record Given (c : Ctx) (t : ℕ) (plan : List ℕ) : Type 0 where
+pub record ReadPlan (c : Ctx) (t : ℕ) (plan : List ℕ) : Type 0 where
   pub given : shapeAt (c .book) (c .width) t ≡ shape.Map → PlanServes (c .book) (c .width) t plan
 
 -- the same of the elements of type e, in the last dimension
-pub record GivenElement (c : Ctx) (d t e : ℕ) (plan : List ℕ) : Type 0 where
-  pub given : isLast (c .book) d t ≡ true → Given c e plan
+pub record ReadElementPlan (c : Ctx) (d t e : ℕ) (plan : List ℕ) : Type 0 where
+  pub given : isLast (c .book) d t ≡ true → ReadPlan c e plan
 
 -- what a field is in `len` bytes, by what resolving it came to: its type and its bytes, 10 if it passes their end, 7 with its block, or 8
 unfoldable pub memberPart : Ctx → ℕ → FieldAnswer → Part
@@ -60,4 +60,4 @@ fieldTrace child c mem f = fieldValue child c mem (resolveField (c .book) (c .wi
 
 -- a record of kind 0 says nothing; any other is all that field block f emits after its key
 pub record FieldNumber (c : Ctx) (left f : ℕ) (mem : List ℕ) (r : Record) : Type 0 where
-  pub is : (r .kind ≡ 0 → ⊥) → fieldTrace (walk c left) c mem f ≡ one (rec r)
+  pub is : (r .kind ≡ 0 → ⊥) → fieldTrace (readWalk c left) c mem f ≡ one (rec r)

@@ -10,11 +10,11 @@ use Rattle.resolvers.specs.declared.Resolved.{Resolved}
 use Rattle.resolvers.specs.declared.Resolved.the-variants as resolved
 use Rattle.de_output.specs.Trace.{Trace, refuse}
 use Rattle.tape_array_elements.specs.Element.{whole}
-use Rattle.de.specs.Walk.{Ctx, ctx, typedOf, refuseBy, walk}
+use Rattle.de.specs.Walk.{Ctx, ctx, typedOf, refuseBy, readWalk}
 
 -- by what the aliases of root block n come to: its value, with 64 levels; or 7 with its block, or 8
 unfoldable pub rootBy : Ctx → ℕ → List ℕ → Resolved → Trace
-rootBy c n mem (resolved.Base t) = walk c 64 (whole (typedOf c n t)) mem
+rootBy c n mem (resolved.Base t) = readWalk c 64 (whole (typedOf c n t)) mem
 rootBy c n mem (resolved.NotFound b) = refuseBy (resolvedNumbers (resolved.NotFound b))
 rootBy c n mem resolved.TooLong = refuseBy (resolvedNumbers resolved.TooLong)
 

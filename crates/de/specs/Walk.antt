@@ -141,6 +141,6 @@ itemWalk child c (whole x) mem = shapeWalk child c x mem (shapeAt (c .book) (c .
 itemWalk child c (further d t e) mem = dimensionOf child c t d t e mem
 
 -- `left` is the number of levels left: with none, 14
-unfoldable pub walk : Ctx → ℕ → Child
-walk c zero i mem = refuse refusal.tooDeep 0
-walk c (suc left) i mem = itemWalk (walk c left) c i mem
+unfoldable pub readWalk : Ctx → ℕ → Child
+readWalk c zero i mem = refuse refusal.tooDeep 0
+readWalk c (suc left) i mem = itemWalk (readWalk c left) c i mem

@@ -5,11 +5,11 @@ ghost use lib.ListN.{length};
 ghost use Rattle.type_book_check.specs.Check.{ValidBook};
 ghost use Rattle.type_book.specs.Book.{isType};
 ghost use Rattle.type_category.specs.Category.{categoryOf};
-ghost use Rattle.de.specs.Plans.{GivenElement};
+ghost use Rattle.de.specs.Plans.{ReadElementPlan};
 ghost use Rattle.de_output.specs.Trace.{From};
 ghost use Rattle.tape_shape.specs.Array.{Fills, FillsNext};
 ghost use Rattle.tape_array_elements.specs.Element.{elementItem};
-ghost use Rattle.de.specs.Walk.{ctx, walk, arrayOf, dimensionOf, elementsOf};
+ghost use Rattle.de.specs.Walk.{ctx, readWalk, arrayOf, dimensionOf, elementsOf};
 use crate::deserializer::value;
 use crate::reading::Place;
 use crate::reading::Reading;
@@ -41,7 +41,7 @@ pub(crate) fn array(
     text: &mut [u8],
 ) -> Step
     requires { ⌜ ValidBook (now book) × (isType (now book) (v .typed .resolved) ≡ true) ⌝ }
-    ensures { λ r. ⌜ From (arrayOf (walk (ctx (now (book .entry)) (v .width)) (v .left)) (ctx (now (book .entry)) (v .width)) (v .typed) (now (bytes .entry))) (now (tape .entry)) (now (text .entry)) s r (now (tape .exit)) (now (text .exit)) ⌝ }
+    ensures { λ r. ⌜ From (arrayOf (readWalk (ctx (now (book .entry)) (v .width)) (v .left)) (ctx (now (book .entry)) (v .width)) (v .typed) (now (bytes .entry))) (now (tape .entry)) (now (text .entry)) s r (now (tape .exit)) (now (text .exit)) ⌝ }
 {
     let t = v.typed.resolved;
     let size = type_book::block::size(book, t) as usize;
@@ -91,7 +91,7 @@ pub(crate) fn dimension(
     text: &mut [u8],
 ) -> Step
     requires { ⌜ ValidBook (now book) × (isType (now book) (p .element .resolved) ≡ true) × (p .element .category ≡ categoryOf (now book) (p .width) (p .element .resolved)) × Fills (now book) (p .d) (p .t) (p .element .resolved) (length (now bytes)) ⌝ }
-    ensures { λ r. ⌜ From (dimensionOf (walk (ctx (now (book .entry)) (p .width)) (p .left)) (ctx (now (book .entry)) (p .width)) (p .named) (p .d) (p .t) (p .element) (now (bytes .entry))) (now (tape .entry)) (now (text .entry)) s r (now (tape .exit)) (now (text .exit)) ⌝ }
+    ensures { λ r. ⌜ From (dimensionOf (readWalk (ctx (now (book .entry)) (p .width)) (p .left)) (ctx (now (book .entry)) (p .width)) (p .named) (p .d) (p .t) (p .element) (now (bytes .entry))) (now (tape .entry)) (now (text .entry)) s r (now (tape .exit)) (now (text .exit)) ⌝ }
 {
     let element = p.element;
     let category = element.category;
@@ -124,8 +124,8 @@ pub(crate) fn elements(
     tape: &mut [u8],
     text: &mut [u8],
 ) -> Step
-    requires { ⌜ ValidBook (now book) × (isType (now book) (p .element .resolved) ≡ true) × (p .element .category ≡ categoryOf (now book) (p .width) (p .element .resolved)) × GivenElement (ctx (now book) (p .width)) (p .d) (p .t) (p .element .resolved) (now plan) × Fills (now book) (p .d) (p .t) (p .element .resolved) (length (now bytes)) ⌝ }
-    ensures { λ r. ⌜ From (elementsOf (walk (ctx (now (book .entry)) (p .width)) (p .left)) (ctx (now (book .entry)) (p .width)) (p .named) (p .d) (p .t) (p .element) (now (bytes .entry))) (now (tape .entry)) (now (text .entry)) s r (now (tape .exit)) (now (text .exit)) ⌝ }
+    requires { ⌜ ValidBook (now book) × (isType (now book) (p .element .resolved) ≡ true) × (p .element .category ≡ categoryOf (now book) (p .width) (p .element .resolved)) × ReadElementPlan (ctx (now book) (p .width)) (p .d) (p .t) (p .element .resolved) (now plan) × Fills (now book) (p .d) (p .t) (p .element .resolved) (length (now bytes)) ⌝ }
+    ensures { λ r. ⌜ From (elementsOf (readWalk (ctx (now (book .entry)) (p .width)) (p .left)) (ctx (now (book .entry)) (p .width)) (p .named) (p .d) (p .t) (p .element) (now (bytes .entry))) (now (tape .entry)) (now (text .entry)) s r (now (tape .exit)) (now (text .exit)) ⌝ }
 {
     let n = type_book::block::count(book, p.t, p.d) as usize;
     let mut here = put_frame(s, tape, text, ARRAY, p.named, n as u64);
@@ -155,8 +155,8 @@ pub(crate) fn element(
     tape: &mut [u8],
     text: &mut [u8],
 ) -> Step
-    requires { ⌜ ValidBook (now book) × (isType (now book) (p .element .resolved) ≡ true) × (p .element .category ≡ categoryOf (now book) (p .width) (p .element .resolved)) × GivenElement (ctx (now book) (p .width)) (p .d) (p .t) (p .element .resolved) (now plan) × FillsNext (now book) (p .d) (p .t) (p .element .resolved) (length (now bytes)) ⌝ }
-    ensures { λ r. ⌜ From (walk (ctx (now (book .entry)) (p .width)) (p .left) (elementItem (now (book .entry)) (p .d) (p .t) (p .element)) (now (bytes .entry))) (now (tape .entry)) (now (text .entry)) s r (now (tape .exit)) (now (text .exit)) ⌝ }
+    requires { ⌜ ValidBook (now book) × (isType (now book) (p .element .resolved) ≡ true) × (p .element .category ≡ categoryOf (now book) (p .width) (p .element .resolved)) × ReadElementPlan (ctx (now book) (p .width)) (p .d) (p .t) (p .element .resolved) (now plan) × FillsNext (now book) (p .d) (p .t) (p .element .resolved) (length (now bytes)) ⌝ }
+    ensures { λ r. ⌜ From (readWalk (ctx (now (book .entry)) (p .width)) (p .left) (elementItem (now (book .entry)) (p .d) (p .t) (p .element)) (now (bytes .entry))) (now (tape .entry)) (now (text .entry)) s r (now (tape .exit)) (now (text .exit)) ⌝ }
 {
     let typed = p.element;
     if is_last(book, p.d, p.t) {

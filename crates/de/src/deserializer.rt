@@ -4,11 +4,11 @@ ghost use Rattle.type_book_check.specs.Check.{ValidBook};
 ghost use Rattle.type_book.specs.Book.{isType};
 ghost use mathlib.Core.Bool.{true};
 ghost use Rattle.type_category.specs.Category.{categoryOf};
-ghost use Rattle.de.specs.Plans.{Given};
+ghost use Rattle.de.specs.Plans.{ReadPlan};
 ghost use Rattle.de_output.specs.Answer.{ReadIs};
 ghost use Rattle.de_output.specs.Trace.{From};
 ghost use Rattle.tape_array_elements.specs.Element.{whole};
-ghost use Rattle.de.specs.Walk.{ctx, walk};
+ghost use Rattle.de.specs.Walk.{ctx, readWalk};
 ghost use Rattle.type_book_check.specs.Given.{name as byName};
 ghost use Rattle.de.specs.Read.{rootTrace, readTrace, givenTrace};
 use crate::array_access::array;
@@ -38,8 +38,8 @@ pub(crate) fn value(
     tape: &mut [u8],
     text: &mut [u8],
 ) -> Step
-    requires { ⌜ ValidBook (now book) × (isType (now book) (v .typed .resolved) ≡ true) × (v .typed .category ≡ categoryOf (now book) (v .width) (v .typed .resolved)) × Given (ctx (now book) (v .width)) (v .typed .resolved) (now plan) ⌝ }
-    ensures { λ r. ⌜ From (walk (ctx (now (book .entry)) (v .width)) (v .left) (whole (v .typed)) (now (bytes .entry))) (now (tape .entry)) (now (text .entry)) s r (now (tape .exit)) (now (text .exit)) ⌝ }
+    requires { ⌜ ValidBook (now book) × (isType (now book) (v .typed .resolved) ≡ true) × (v .typed .category ≡ categoryOf (now book) (v .width) (v .typed .resolved)) × ReadPlan (ctx (now book) (v .width)) (v .typed .resolved) (now plan) ⌝ }
+    ensures { λ r. ⌜ From (readWalk (ctx (now (book .entry)) (v .width)) (v .left) (whole (v .typed)) (now (bytes .entry))) (now (tape .entry)) (now (text .entry)) s r (now (tape .exit)) (now (text .exit)) ⌝ }
 {
     if v.left == 0 {
         return de_output::stop(s, 14, 0);

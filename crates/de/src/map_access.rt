@@ -8,7 +8,7 @@ ghost use Rattle.type_book.specs.Book.{isType};
 ghost use Rattle.resolve_field_plan.specs.Plan.{PlanEntry, Entries, PlanServes};
 ghost use Rattle.de_output.specs.Trace.{From};
 ghost use Rattle.de.specs.Plans.{PartIs, FieldNumber, fieldTrace};
-ghost use Rattle.de.specs.Walk.{ctx, walk, mapOf, membersOf, memberOf};
+ghost use Rattle.de.specs.Walk.{ctx, readWalk, mapOf, membersOf, memberOf};
 use crate::deserializer::value;
 use crate::reading::Member;
 use crate::reading::Part;
@@ -42,7 +42,7 @@ pub(crate) fn map(
     text: &mut [u8],
 ) -> Step
     requires { ⌜ ValidBook (now book) × (isType (now book) (v .typed .resolved) ≡ true) × PlanServes (now book) (v .width) (v .typed .resolved) (now plan) ⌝ }
-    ensures { λ r. ⌜ From (mapOf (walk (ctx (now (book .entry)) (v .width)) (v .left)) (ctx (now (book .entry)) (v .width)) (v .typed) (now (bytes .entry))) (now (tape .entry)) (now (text .entry)) s r (now (tape .exit)) (now (text .exit)) ⌝ }
+    ensures { λ r. ⌜ From (mapOf (readWalk (ctx (now (book .entry)) (v .width)) (v .left)) (ctx (now (book .entry)) (v .width)) (v .typed) (now (bytes .entry))) (now (tape .entry)) (now (text .entry)) s r (now (tape .exit)) (now (text .exit)) ⌝ }
 {
     let t = v.typed.resolved;
     let size = type_book::block::size(book, t) as usize;
@@ -73,7 +73,7 @@ pub(crate) fn members(
     text: &mut [u8],
 ) -> Step
     requires { ⌜ ValidBook (now book) × (isType (now book) (v .typed .resolved) ≡ true) × Entries (now book) (v .width) (v .typed .resolved) (now plan) ⌝ }
-    ensures { λ r. ⌜ From (membersOf (walk (ctx (now (book .entry)) (v .width)) (v .left)) (ctx (now (book .entry)) (v .width)) (v .typed) (now (bytes .entry))) (now (tape .entry)) (now (text .entry)) s r (now (tape .exit)) (now (text .exit)) ⌝ }
+    ensures { λ r. ⌜ From (membersOf (readWalk (ctx (now (book .entry)) (v .width)) (v .left)) (ctx (now (book .entry)) (v .width)) (v .typed) (now (bytes .entry))) (now (tape .entry)) (now (text .entry)) s r (now (tape .exit)) (now (text .exit)) ⌝ }
 {
     let t = v.typed.resolved;
     let n = type_book::block::fields(book, t);
@@ -158,7 +158,7 @@ pub(crate) fn field(
     text: &mut [u8],
 ) -> Step
     requires { ⌜ ValidBook (now book) × PlanEntry (now book) (m .width) (m .f) (m .entry) ⌝ }
-    ensures { λ r. ⌜ From (fieldTrace (walk (ctx (now (book .entry)) (m .width)) (m .left)) (ctx (now (book .entry)) (m .width)) (now (bytes .entry)) (m .f)) (now (tape .entry)) (now (text .entry)) s r (now (tape .exit)) (now (text .exit)) ⌝ }
+    ensures { λ r. ⌜ From (fieldTrace (readWalk (ctx (now (book .entry)) (m .width)) (m .left)) (ctx (now (book .entry)) (m .width)) (now (bytes .entry)) (m .f)) (now (tape .entry)) (now (text .entry)) s r (now (tape .exit)) (now (text .exit)) ⌝ }
 {
     let part = part_of(book, index, m, bytes);
     match part {
@@ -187,7 +187,7 @@ pub(crate) fn member(
     text: &mut [u8],
 ) -> Step
     requires { ⌜ ValidBook (now book) × PlanEntry (now book) (m .width) (m .f) (m .entry) ⌝ }
-    ensures { λ r. ⌜ From (memberOf (walk (ctx (now (book .entry)) (m .width)) (m .left)) (ctx (now (book .entry)) (m .width)) (now (bytes .entry)) (m .f)) (now (tape .entry)) (now (text .entry)) s r (now (tape .exit)) (now (text .exit)) ⌝ }
+    ensures { λ r. ⌜ From (memberOf (readWalk (ctx (now (book .entry)) (m .width)) (m .left)) (ctx (now (book .entry)) (m .width)) (now (bytes .entry)) (m .f)) (now (tape .entry)) (now (text .entry)) s r (now (tape .exit)) (now (text .exit)) ⌝ }
 {
     let key = put_frame(s, tape, text, KEY, 0, m.f as u64);
     let number = number_of(book, m, bytes);

@@ -9,7 +9,7 @@ use Rattle.de_output.specs.declared.Step.the-variants.{Next, Stop}
 use Rattle.de_output.specs.declared.ReadAnswer.{ReadAnswer}
 use Rattle.de_output.specs.declared.ReadAnswer.the-variants.{Done, NotFound, Refused}
 use Rattle.de_output.specs.Trace.{Trace, tapeBytes, textBytes, eventsOf, refuse, stepOf, Ran}
-use Rattle.de_output.specs.Answer.{readNumbers, readRefusal, answerOf, bufferAfter, ReadIs, Finished}
+use Rattle.de_output.specs.Answer.{readNumbers, readRefusal, readAnswerOf, bufferAfter, ReadIs, Finished}
 use Rattle.de_output.proofs.Numbers.{read-says}
 use Rattle.de_output.proofs.Runs.{refused, next-stop, went}
 
@@ -25,7 +25,7 @@ module _ (t : Trace) (tape txt tape₁ txt₁ : List ℕ) (s : Step) (h : Ran t 
 
   pub read-by : ReadIs t tape txt r tape₂ txt₂
   read-by = record {
-    answer = f .answer ∙ ap (λ (z : Step). readNumbers (answerOf z)) (h .answer);
+    answer = f .answer ∙ ap (λ (z : Step). readNumbers (readAnswerOf z)) (h .answer);
     tape-is = tape-by (stepOf t (length tape) (length txt) 0 0) (h .answer);
     text-is = text-by (stepOf t (length tape) (length txt) 0 0) (h .answer);
   }

@@ -16,7 +16,7 @@ use lib.Dec.{leb}
 use borrow.Author.Tests.{leb-true, leb-false, le-leb, lt-leb}
 use Rattle.de_output.specs.declared.Step.{Step}
 use Rattle.de_output.specs.declared.Step.the-variants.{Next, Stop}
-use Rattle.de_output.specs.Trace.{Event, rec, text, textRecord, textBytes, tapeBytes, Trace, eventsOf, endOf, one, fits, stepOf, fitting, Ran, From}
+use Rattle.de_output.specs.Trace.{TapeEvent, rec, text, textRecord, textBytes, tapeBytes, Trace, eventsOf, endOf, one, fits, stepOf, fitting, Ran, From}
 use Rattle.de_output.proofs.Runs.{fitting-all, from-next}
 
 not-fits : (b : Bool) (xs out : List ℕ) (at : ℕ) → fitsIn xs at (length out) ≡ b → put.Full ≡ cond b (put.Next (at + length xs)) put.Full → b ≡ false
@@ -31,7 +31,7 @@ and-false true = refl
 and-false false = refl
 
 -- one event that does not fit: nothing is put
-none-put : (e : Event) (tape txt : List ℕ) (at from : ℕ) → fits (e ∷ []) at from (length tape) (length txt) ≡ false → Ran (one e) tape txt at from (Stop 15 0) tape txt
+none-put : (e : TapeEvent) (tape txt : List ℕ) (at from : ℕ) → fits (e ∷ []) at from (length tape) (length txt) ≡ false → Ran (one e) tape txt at from (Stop 15 0) tape txt
 unfolding stepOf eventsOf fitting tapeBytes textBytes
 none-put e tape txt at from h = record { answer = rw h; wrote = rw h (sym (splice-none tape at)); told = rw h (sym (splice-none txt from)) }
 

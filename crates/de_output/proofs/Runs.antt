@@ -11,20 +11,20 @@ use Rattle.enc_utf_8.proofs.Splices.{length-splice, splice-none, splice-both, f
 use Rattle.tape.specs.Record.{recordBytes}
 use Rattle.de_output.specs.declared.Step.{Step}
 use Rattle.de_output.specs.declared.Step.the-variants.{Next, Stop}
-use Rattle.de_output.specs.Trace.{Event, rec, text, textRecord, textBytes, tapeBytes, Trace, done, stop, eventsOf, endOf, refuse, _then_, fits, stepOf, fitting, Ran, From, Halts}
+use Rattle.de_output.specs.Trace.{TapeEvent, rec, text, textRecord, textBytes, tapeBytes, Trace, done, stop, eventsOf, endOf, refuse, _then_, fits, stepOf, fitting, Ran, From, Halts}
 
 pub next-stop : {X : Type 0} {n m k b : ℕ} → Next n m ≡ Stop k b → X
 next-stop e = absurd (let z : _≡_ {A = ℕ} 0 1 = cc in omega arith)
 
 -- ---- events in two parts
 
-pub text-then : (xs ys : List Event) → textBytes (xs ++ ys) ≡ textBytes xs ++ textBytes ys
+pub text-then : (xs ys : List TapeEvent) → textBytes (xs ++ ys) ≡ textBytes xs ++ textBytes ys
 unfolding textBytes
 text-then [] ys = refl
 text-then (rec r ∷ xs) ys = text-then xs ys
 text-then (text w d t ∷ xs) ys = rw (text-then xs ys) (sym (append-assoc t (textBytes xs) (textBytes ys)))
 
-pub tape-then : (from : ℕ) (xs ys : List Event) → tapeBytes from (xs ++ ys) ≡ tapeBytes from xs ++ tapeBytes (from + length (textBytes xs)) ys
+pub tape-then : (from : ℕ) (xs ys : List TapeEvent) → tapeBytes from (xs ++ ys) ≡ tapeBytes from xs ++ tapeBytes (from + length (textBytes xs)) ys
 unfolding tapeBytes textBytes
 tape-then from [] ys = let e : from + 0 ≡ from = omega arith in rw e
 tape-then from (rec r ∷ xs) ys = rw (tape-then from xs ys) (sym (append-assoc (recordBytes r) (tapeBytes from xs) (tapeBytes (from + length (textBytes xs)) ys)))
@@ -41,24 +41,24 @@ and-right true b h = h
 and-right false b h = absurd (let z : _≡_ {A = ℕ} 0 1 = cc in omega arith)
 
 -- the events fit, buffer by buffer
-pub record Fit (es : List Event) (at from tapeRoom textRoom : ℕ) : Type 0 where
+pub record Fit (es : List TapeEvent) (at from tapeRoom textRoom : ℕ) : Type 0 where
   pub tape : fitsIn (tapeBytes from es) at tapeRoom ≡ true
   pub txt : fitsIn (textBytes es) from textRoom ≡ true
 
-fit : (es : List Event) (at from tapeRoom textRoom : ℕ) → fits es at from tapeRoom textRoom ≡ true → Fit es at from tapeRoom textRoom
+fit : (es : List TapeEvent) (at from tapeRoom textRoom : ℕ) → fits es at from tapeRoom textRoom ≡ true → Fit es at from tapeRoom textRoom
 unfolding fits
 fit es at from tapeRoom textRoom h =
     let a = fitsIn (tapeBytes from es) at tapeRoom in
     let b = fitsIn (textBytes es) from textRoom in
     record { tape = and-left a b h; txt = and-right a b h }
 
-fits-then : (xs ys : List Event) (at from tapeRoom textRoom : ℕ) → Fit xs at from tapeRoom textRoom
+fits-then : (xs ys : List TapeEvent) (at from tapeRoom textRoom : ℕ) → Fit xs at from tapeRoom textRoom
     → fits (xs ++ ys) at from tapeRoom textRoom ≡ fits ys (at + length (tapeBytes from xs)) (from + length (textBytes xs)) tapeRoom textRoom
 unfolding fits
 fits-then xs ys at from tapeRoom textRoom h =
     rw (tape-then from xs ys, text-then xs ys, fitsIn-then (tapeBytes from xs) (tapeBytes (from + length (textBytes xs)) ys) tapeRoom at (h .tape), fitsIn-then (textBytes xs) (textBytes ys) textRoom from (h .txt))
 
-unfits-then : (xs ys : List Event) (at from tapeRoom textRoom : ℕ) → fits xs at from tapeRoom textRoom ≡ false → fits (xs ++ ys) at from tapeRoom textRoom ≡ false
+unfits-then : (xs ys : List TapeEvent) (at from tapeRoom textRoom : ℕ) → fits xs at from tapeRoom textRoom ≡ false → fits (xs ++ ys) at from tapeRoom textRoom ≡ false
 unfolding fits
 unfits-then xs ys at from tapeRoom textRoom h =
     by (fitsIn (tapeBytes from xs) at tapeRoom) refl (fitsIn (textBytes xs) from textRoom) refl h
@@ -79,7 +79,7 @@ true-false : {X : Type 0} {b : Bool} → b ≡ true → b ≡ false → X
 true-false e f = absurd (let z : _≡_ {A = ℕ} 0 1 = cc in omega arith)
 
 -- what follows the events xs, which fit, is put after them
-fitting-then : (xs ys : List Event) (at from tapeRoom textRoom : ℕ) → fits xs at from tapeRoom textRoom ≡ true
+fitting-then : (xs ys : List TapeEvent) (at from tapeRoom textRoom : ℕ) → fits xs at from tapeRoom textRoom ≡ true
     → fitting (xs ++ ys) at from tapeRoom textRoom ≡ xs ++ fitting ys (at + length (tapeBytes from xs)) (from + length (textBytes xs)) tapeRoom textRoom
 unfolding fitting tapeBytes textBytes
 fitting-then [] ys at from tapeRoom textRoom h = let e : at + 0 ≡ at = omega arith in let f : from + 0 ≡ from = omega arith in rw (e, f)
@@ -106,16 +106,16 @@ fitting-then (x ∷ xs) ys at from tapeRoom textRoom h = by (fits (x ∷ []) at 
     by false e more = true-false h (unfits-then (x ∷ []) xs at from tapeRoom textRoom e)
 
 -- events that fit are all put
-pub fitting-all : (xs : List Event) (at from tapeRoom textRoom : ℕ) → fits xs at from tapeRoom textRoom ≡ true → fitting xs at from tapeRoom textRoom ≡ xs
+pub fitting-all : (xs : List TapeEvent) (at from tapeRoom textRoom : ℕ) → fits xs at from tapeRoom textRoom ≡ true → fitting xs at from tapeRoom textRoom ≡ xs
 unfolding fitting
-fitting-all xs at from tapeRoom textRoom h = ap (λ (l : List Event). fitting l at from tapeRoom textRoom) (sym (append-nil xs)) ∙ fitting-then xs [] at from tapeRoom textRoom h ∙ append-nil xs
+fitting-all xs at from tapeRoom textRoom h = ap (λ (l : List TapeEvent). fitting l at from tapeRoom textRoom) (sym (append-nil xs)) ∙ fitting-then xs [] at from tapeRoom textRoom h ∙ append-nil xs
 
 none-fit : (at from tapeRoom textRoom : ℕ) → fits [] at from tapeRoom textRoom ≡ true
 unfolding fits tapeBytes textBytes
 none-fit at from tapeRoom textRoom = rw (fits-none at tapeRoom, fits-none from textRoom)
 
 -- after events that do not all fit nothing more is put
-fitting-over : (xs ys : List Event) (at from tapeRoom textRoom : ℕ) → fits xs at from tapeRoom textRoom ≡ false → fitting (xs ++ ys) at from tapeRoom textRoom ≡ fitting xs at from tapeRoom textRoom
+fitting-over : (xs ys : List TapeEvent) (at from tapeRoom textRoom : ℕ) → fits xs at from tapeRoom textRoom ≡ false → fitting (xs ++ ys) at from tapeRoom textRoom ≡ fitting xs at from tapeRoom textRoom
 unfolding fitting
 fitting-over [] ys at from tapeRoom textRoom h = true-false (none-fit at from tapeRoom textRoom) h
 fitting-over (x ∷ xs) ys at from tapeRoom textRoom h = by (fits (x ∷ []) at from tapeRoom textRoom) refl (λ g. fitting-over xs ys (at + length (tapeBytes from (x ∷ []))) (from + length (textBytes (x ∷ []))) tapeRoom textRoom g)
@@ -177,7 +177,7 @@ refused {tape} {txt} {at} {from} n b = record { answer = rw (none-fit at from (l
 
 -- ---- two traces
 
-step-then : (xs : List Event) (u : Trace) (tapeRoom textRoom at from : ℕ) → Fit xs at from tapeRoom textRoom
+step-then : (xs : List TapeEvent) (u : Trace) (tapeRoom textRoom at from : ℕ) → Fit xs at from tapeRoom textRoom
     → stepOf (done xs then u) tapeRoom textRoom at from ≡ stepOf u tapeRoom textRoom (at + length (tapeBytes from xs)) (from + length (textBytes xs))
 unfolding stepOf eventsOf endOf _then_
 step-then xs (done ys) tapeRoom textRoom at from h =
@@ -186,12 +186,12 @@ step-then xs (done ys) tapeRoom textRoom at from h =
     rw (fits-then xs ys at from tapeRoom textRoom h, e, f)
 step-then xs (stop ys n b) tapeRoom textRoom at from h = rw (fits-then xs ys at from tapeRoom textRoom h)
 
-events-then : (xs : List Event) (u : Trace) → eventsOf (done xs then u) ≡ xs ++ eventsOf u
+events-then : (xs : List TapeEvent) (u : Trace) → eventsOf (done xs then u) ≡ xs ++ eventsOf u
 unfolding eventsOf _then_
 events-then xs (done ys) = refl
 events-then xs (stop ys n b) = refl
 
-next-done : (xs : List Event) (u : Trace) {tape tape₁ tape₂ txt txt₁ txt₂ : List ℕ} {at at₁ from from₁ : ℕ} {r : Step} → fits xs at from (length tape) (length txt) ≡ true
+next-done : (xs : List TapeEvent) (u : Trace) {tape tape₁ tape₂ txt txt₁ txt₂ : List ℕ} {at at₁ from from₁ : ℕ} {r : Step} → fits xs at from (length tape) (length txt) ≡ true
     → at₁ ≡ at + length (tapeBytes from xs) → from₁ ≡ from + length (textBytes xs) → tape₁ ≡ splice tape at (tapeBytes from xs) → txt₁ ≡ splice txt from (textBytes xs)
     → Ran u tape₁ txt₁ at₁ from₁ r tape₂ txt₂ → Ran (done xs then u) tape txt at from r tape₂ txt₂
 next-done xs u {tape} {tape₁} {tape₂} {txt} {txt₁} {txt₂} {at} {at₁} {from} {from₁} {r} g e f w v b =

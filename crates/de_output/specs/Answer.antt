@@ -25,9 +25,9 @@ abbrev pub readRefusal : ℕ → ℕ → ReadAnswer
 readRefusal n b = cond (eqb n refusal.notFound) (NotFound b) (Refused n)
 
 -- the number of records and of text bytes, or the refusal
-abbrev pub answerOf : Step → ReadAnswer
-answerOf (Next n m) = Done (n / 24) m
-answerOf (Stop n b) = readRefusal n b
+abbrev pub readAnswerOf : Step → ReadAnswer
+readAnswerOf (Next n m) = Done (n / 24) m
+readAnswerOf (Stop n b) = readRefusal n b
 
 -- a buffer after the call: what was emitted over what it held, or zeros after a refusal
 abbrev pub bufferAfter : Step → List ℕ → List ℕ → List ℕ
@@ -36,7 +36,7 @@ bufferAfter (Stop n b) bytes buffer = replicate (length buffer) 0
 
 -- 15 if what the trace emits does not fit, else its end
 pub record ReadIs (t : Trace) (tape txt : List ℕ) (r : ReadAnswer) (tape′ txt′ : List ℕ) : Type 0 where
-  pub answer : readNumbers r ≡ readNumbers (answerOf (stepOf t (length tape) (length txt) 0 0))
+  pub answer : readNumbers r ≡ readNumbers (readAnswerOf (stepOf t (length tape) (length txt) 0 0))
   pub tape-is : tape′ ≡ bufferAfter (stepOf t (length tape) (length txt) 0 0) (tapeBytes 0 (eventsOf t)) tape
   pub text-is : txt′ ≡ bufferAfter (stepOf t (length tape) (length txt) 0 0) (textBytes (eventsOf t)) txt
 
@@ -47,7 +47,7 @@ endedBuffer (Stop n b) buffer = replicate (length buffer) 0
 
 -- what is left to do after the last step: the answer, and zeros after a refusal; and what that is in each case
 pub record Finished (s : Step) (tape txt : List ℕ) (r : ReadAnswer) (tape′ txt′ : List ℕ) : Type 0 where
-  pub answer : readNumbers r ≡ readNumbers (answerOf s)
+  pub answer : readNumbers r ≡ readNumbers (readAnswerOf s)
   pub tape-is : tape′ ≡ endedBuffer s tape
   pub text-is : txt′ ≡ endedBuffer s txt
   pub on : (n m : ℕ) → s ≡ Next n m → (tape′ ≡ tape) × (txt′ ≡ txt)

@@ -17,29 +17,29 @@ abbrev pub textRecord : ℕ → ℕ → ℕ → ℕ → Record
 textRecord width declared from len = record { kind = 11; width = width; spare = 0; declared = declared; a = from; b = len }
 
 -- a record of the tape; or a text, with byte 1 and bytes 4 to 7 of the record that it has
-pub data Event : Type 0 where
-  rec : Record → Event
-  text : ℕ → ℕ → List ℕ → Event
+pub data TapeEvent : Type 0 where
+  rec : Record → TapeEvent
+  text : ℕ → ℕ → List ℕ → TapeEvent
 
 -- the bytes of the texts, one after the other
-unfoldable pub textBytes : List Event → List ℕ
+unfoldable pub textBytes : List TapeEvent → List ℕ
 textBytes [] = []
 textBytes (rec r ∷ es) = textBytes es
 textBytes (text w d xs ∷ es) = xs ++ textBytes es
 
 -- the bytes of the records, where the first text starts at `from`
-unfoldable pub tapeBytes : ℕ → List Event → List ℕ
+unfoldable pub tapeBytes : ℕ → List TapeEvent → List ℕ
 tapeBytes from [] = []
 tapeBytes from (rec r ∷ es) = recordBytes r ++ tapeBytes from es
 tapeBytes from (text w d xs ∷ es) = recordBytes (textRecord w d from (length xs)) ++ tapeBytes (from + length xs) es
 
 -- what is emitted up to the end; or up to a refusal, with document 01's number and the block that 7 carries (else 0)
 pub data Trace : Type 0 where
-  done : List Event → Trace
-  stop : List Event → ℕ → ℕ → Trace
+  done : List TapeEvent → Trace
+  stop : List TapeEvent → ℕ → ℕ → Trace
 
 -- what a trace emits
-unfoldable pub eventsOf : Trace → List Event
+unfoldable pub eventsOf : Trace → List TapeEvent
 eventsOf (done es) = es
 eventsOf (stop es n b) = es
 
@@ -49,7 +49,7 @@ endOf (done es) at from = Next (at + length (tapeBytes from es)) (from + length 
 endOf (stop es n b) at from = Stop n b
 
 -- a trace of one event, without a refusal
-abbrev pub one : Event → Trace
+abbrev pub one : TapeEvent → Trace
 one e = done (e ∷ [])
 
 -- a refusal before any event: its number, and the block that 7 carries (else 0)
@@ -64,7 +64,7 @@ done xs then stop ys n b = stop (xs ++ ys) n b
 stop xs n b then u = stop xs n b
 
 -- the records and the texts fit
-unfoldable pub fits : List Event → ℕ → ℕ → ℕ → ℕ → Bool
+unfoldable pub fits : List TapeEvent → ℕ → ℕ → ℕ → ℕ → Bool
 fits es at from tapeRoom textRoom = fitsIn (tapeBytes from es) at tapeRoom && fitsIn (textBytes es) from textRoom
 
 -- the answer of a trace at two buffers: 15 if what it emits does not fit, else where it ends
@@ -72,7 +72,7 @@ unfoldable pub stepOf : Trace → ℕ → ℕ → ℕ → ℕ → Step
 stepOf t tapeRoom textRoom at from = cond (fits (eventsOf t) at from tapeRoom textRoom) (endOf t at from) (Stop refusal.noRoom 0)
 
 -- the events that are put on the tape and into the text: from the first on, up to one that does not fit
-unfoldable pub fitting : List Event → ℕ → ℕ → ℕ → ℕ → List Event
+unfoldable pub fitting : List TapeEvent → ℕ → ℕ → ℕ → ℕ → List TapeEvent
 fitting [] at from tapeRoom textRoom = []
 fitting (e ∷ es) at from tapeRoom textRoom =
     cond (fits (e ∷ []) at from tapeRoom textRoom)

@@ -52,10 +52,10 @@ module _ (bytes : List ℕ) where
   cut-pair i h = rw (drop-two bytes i h)
 
   abbrev Later : ℕ → Type 0
-  Later i = i ≤ length bytes → wstringEnd bytes ≡ wide.endFrom i (drop i bytes) → wasFound (wstringEnd bytes) ≡ hasZeroPair (drop i bytes)
+  Later i = i ≤ length bytes → wstringEnd bytes ≡ wide.end16From i (drop i bytes) → wasFound (wstringEnd bytes) ≡ hasZeroPair (drop i bytes)
 
   -- a WSTRING, from byte i on, where fewer than k pairs are left
-  pair-from : (k i : ℕ) → i ≤ length bytes → length bytes < i + k + k → wstringEnd bytes ≡ wide.endFrom i (drop i bytes) → wasFound (wstringEnd bytes) ≡ hasZeroPair (drop i bytes)
+  pair-from : (k i : ℕ) → i ≤ length bytes → length bytes < i + k + k → wstringEnd bytes ≡ wide.end16From i (drop i bytes) → wasFound (wstringEnd bytes) ≡ hasZeroPair (drop i bytes)
   pair-from zero i l e inv = absurd (omega arith)
   pair-from (suc k) i l e inv = split (λ h v. pair-from k (i + 2) h (omega arith) v) (leb (i + 2) (length bytes)) refl
     where

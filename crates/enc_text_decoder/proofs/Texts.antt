@@ -29,10 +29,10 @@ pub decoded-windows : {d : Decoder} (bytes : List ℕ) {out out′ : List ℕ} {
 unfolding decodedBy
 decoded-windows bytes e h = rw e h
 
-pub decoded-wide : {d : Decoder} (bytes : List ℕ) {out out′ : List ℕ} {at : ℕ} {p : Put} → d ≡ decoder.Utf16 → Wrote (utf16.decodeText bytes) out at p out′ → Wrote (decodedBy d bytes) out at p out′
+pub decoded-wide : {d : Decoder} (bytes : List ℕ) {out out′ : List ℕ} {at : ℕ} {p : Put} → d ≡ decoder.Utf16 → Wrote (utf16.decode16Text bytes) out at p out′ → Wrote (decodedBy d bytes) out at p out′
 unfolding decodedBy
 decoded-wide bytes e h = rw e h
 
-pub decoded-marked : {d : Decoder} (bytes : List ℕ) {out out′ : List ℕ} {at : ℕ} {p : Put} → d ≡ decoder.Utf8 → Wrote (utf8.decodeText bytes) out at p out′ → Wrote (decodedBy d bytes) out at p out′
+pub decoded-marked : {d : Decoder} (bytes : List ℕ) {out out′ : List ℕ} {at : ℕ} {p : Put} → d ≡ decoder.Utf8 → Wrote (utf8.decode8Text bytes) out at p out′ → Wrote (decodedBy d bytes) out at p out′
 unfolding decodedBy
 decoded-marked bytes e h = rw e h

@@ -18,5 +18,5 @@ endBy decoder.Utf8 bytes = windows1252.stringEnd bytes
 -- a text's bytes in UTF-8
 unfoldable pub decodedBy : Decoder → List ℕ → List ℕ
 decodedBy decoder.Windows1252 bytes = windows1252.decodeText bytes
-decodedBy decoder.Utf16 bytes = utf16.decodeText bytes
-decodedBy decoder.Utf8 bytes = utf8.decodeText bytes
+decodedBy decoder.Utf16 bytes = utf16.decode16Text bytes
+decodedBy decoder.Utf8 bytes = utf8.decode8Text bytes

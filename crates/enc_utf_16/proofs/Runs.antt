@@ -14,7 +14,7 @@ use Rattle.enc_utf_8.specs.declared.Room.{Room}
 use Rattle.enc_utf_8.specs.declared.Room.the-variants.{Fits, Over}
 use Rattle.enc_utf_8.specs.Buffer.{splice, Wrote, roomFor}
 use Rattle.enc_utf_8.proofs.Splices.{splice-none, splice-long, splice-splice, wrote-splice, wrote-full, wrote-none, wrote-as, went, stayed}
-use Rattle.enc_utf_16.specs.Step.{ScalarAt, LeftToWrite}
+use Rattle.enc_utf_16.specs.Step.{ScalarAtIn, LeftToWrite}
 
 pub left-all : (whole out : List ℕ) (at : ℕ) → at + length whole ≤ length out → LeftToWrite whole out at whole out at
 left-all whole out at h = record { place = refl; buffer = refl; long = refl; fits = h }
@@ -117,7 +117,7 @@ module _ (scalarsOf : List ℕ → List ℕ) (bytesOf : ℕ → List ℕ) (nil :
   unfolding flatMap
   text-end at h = rw (drop-of-length-le bytes h, nil)
 
-  module _ (at code next : ℕ) (here : ScalarAt scalarsOf bytes at code next) where
+  module _ (at code next : ℕ) (here : ScalarAtIn scalarsOf bytes at code next) where
     -- the text from a place on is the scalar value there and the text after it
     pub text-here : flatMap bytesOf (scalarsOf (drop at bytes)) ≡ bytesOf code ++ flatMap bytesOf (scalarsOf (drop next bytes))
     unfolding flatMap

@@ -26,21 +26,21 @@ unitAfter (some lead) u =
 
 -- the decoder with its leading byte, its leading surrogate and the bytes left. Steps 1 and 2: at the end one error, if there is a leading byte or a leading surrogate.
 -- Step 3: with no leading byte, the byte becomes it. Step 4: the leading byte and the next byte are a code unit
-unfoldable pub decodeFrom : Option ℕ → Option ℕ → List ℕ → List Item
-decodeFrom none none [] = []
-decodeFrom none (some lead) [] = error ∷ []
-decodeFrom (some low) lead [] = error ∷ []
-decodeFrom none lead (x ∷ xs) = decodeFrom (some x) lead xs
-decodeFrom (some low) lead (x ∷ xs) = unitAfter lead (unitOf low x) .items ++ decodeFrom none (unitAfter lead (unitOf low x) .leading) xs
+unfoldable pub decode16From : Option ℕ → Option ℕ → List ℕ → List Item
+decode16From none none [] = []
+decode16From none (some lead) [] = error ∷ []
+decode16From (some low) lead [] = error ∷ []
+decode16From none lead (x ∷ xs) = decode16From (some x) lead xs
+decode16From (some low) lead (x ∷ xs) = unitAfter lead (unitOf low x) .items ++ decode16From none (unitAfter lead (unitOf low x) .leading) xs
 
 -- the scalar values and errors of the bytes; no byte order mark is looked for
 abbrev pub decodeItems : List ℕ → List Item
-decodeItems bytes = decodeFrom none none bytes
+decodeItems bytes = decode16From none none bytes
 
 -- the scalar values of the bytes, U+FFFD for each error
 unfoldable pub decodeScalars : List ℕ → List ℕ
 decodeScalars bytes = map replaced (decodeItems bytes)
 
 -- the bytes as UTF-8
-abbrev pub decodeText : List ℕ → List ℕ
-decodeText bytes = flatMap utf8Of (decodeScalars bytes)
+abbrev pub decode16Text : List ℕ → List ℕ
+decode16Text bytes = flatMap utf8Of (decodeScalars bytes)

@@ -23,5 +23,5 @@ unfoldable pub utf16Of : ℕ → List ℕ
 utf16Of c = cond (ltb c 0x10000) (unitBytes c) (unitBytes (leadingOf c) ++ unitBytes (trailingOf c))
 
 -- the scalar values of a UTF-8 text, U+FFFD for what is ill-formed, as UTF-16LE
-abbrev pub encodeText : List ℕ → List ℕ
-encodeText text = flatMap utf16Of (scalars text)
+abbrev pub encode16Text : List ℕ → List ℕ
+encode16Text text = flatMap utf16Of (scalars text)

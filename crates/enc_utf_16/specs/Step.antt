@@ -6,7 +6,7 @@ use lib.ListN.{length, drop}
 use Rattle.enc_utf_8.specs.Buffer.{splice}
 
 -- at a place stands the scalar value `code`, and `next` is the place after it, where `scalarsOf` gives the scalar values of bytes
-pub record ScalarAt (scalarsOf : List ℕ → List ℕ) (bytes : List ℕ) (at code next : ℕ) : Type 0 where
+pub record ScalarAtIn (scalarsOf : List ℕ → List ℕ) (bytes : List ℕ) (at code next : ℕ) : Type 0 where
   pub is : scalarsOf (drop at bytes) ≡ code ∷ scalarsOf (drop next bytes)
   pub later : at < next
   pub within : next ≤ length bytes

@@ -7,11 +7,11 @@ use Rattle.enc_utf_8.specs.declared.TextEnd.{TextEnd}
 use Rattle.enc_utf_8.specs.declared.TextEnd.the-variants.{Terminated, Unterminated}
 
 -- the end, with n bytes before: the first zero pair of the pairs that follow, else all, an odd byte included
-unfoldable pub endFrom : ℕ → List ℕ → TextEnd
-endFrom n [] = Unterminated n
-endFrom n (x ∷ []) = Unterminated (n + 1)
-endFrom n (x ∷ y ∷ xs) = cond (eqb x 0 && eqb y 0) (Terminated n) (endFrom (n + 2) xs)
+unfoldable pub end16From : ℕ → List ℕ → TextEnd
+end16From n [] = Unterminated n
+end16From n (x ∷ []) = Unterminated (n + 1)
+end16From n (x ∷ y ∷ xs) = cond (eqb x 0 && eqb y 0) (Terminated n) (end16From (n + 2) xs)
 
 -- the first aligned zero pair, at byte 0, 2, 4 and so on, else all
 abbrev pub wstringEnd : List ℕ → TextEnd
-wstringEnd bytes = endFrom 0 bytes
+wstringEnd bytes = end16From 0 bytes

@@ -14,18 +14,18 @@ use Rattle.enc_utf_8.proofs.Encodes.{utf8-one, utf8-two, utf8-short, len-two}
 use Rattle.enc_utf_8.proofs.Splices.{wrote-as, wrote-full, stored-1, stored-2}
 use Rattle.enc_number.proofs.ByteOrder.{leValue-two}
 use Rattle.enc_utf_16.specs.Unit16.{unitOf}
-use Rattle.enc_utf_16.specs.Decode.{decodeScalars, decodeText}
-use Rattle.enc_utf_16.specs.Step.{ScalarAt, LeftToWrite}
+use Rattle.enc_utf_16.specs.Decode.{decodeScalars, decode16Text}
+use Rattle.enc_utf_16.specs.Step.{ScalarAtIn, LeftToWrite}
 use Rattle.enc_utf_16_scalar.proofs.Decodes.{nothing-left, scalar-low}
 use Rattle.enc_utf_16_ascii.specs.Ascii16.{AsciiUnits, lows}
 use Rattle.enc_utf_16_ascii.proofs.Blocks.{lows-length}
-use Rattle.enc_utf_16_decoder.specs.Step.{TextAt, PartWrote}
+use Rattle.enc_utf_16_decoder.specs.Step.{TextAt16, PartWrote}
 use Rattle.enc_utf_16.proofs.Runs.{left-all, left-left, left-part, left-never, room-over, text-here}
 
 -- ---- what a block is of a text
 
 ascii-here : (bytes : List ℕ) (at : ℕ) → at + 2 ≤ length bytes → unitOf (getD bytes at 0) (getD bytes (at + 1) 0) < 0x80
-    → decodeText (drop at bytes) ≡ getD bytes at 0 ∷ decodeText (drop (at + 2) bytes)
+    → decode16Text (drop at bytes) ≡ getD bytes at 0 ∷ decode16Text (drop (at + 2) bytes)
 ascii-here bytes at h l =
     let u = unitOf (getD bytes at 0) (getD bytes (at + 1) 0) in
     let e : u ≡ getD bytes at 0 = omega (arith, leValue-two (getD bytes at 0) (getD bytes (at + 1) 0)) in
@@ -38,7 +38,7 @@ shifted bytes at n a = record {
   low = λ i l. let e : at + 2 + 2 * i ≡ at + 2 * suc i = omega arith in rw e (a .low (suc i) (omega arith));
 }
 
-ascii-text : (bytes : List ℕ) (n at : ℕ) → AsciiUnits bytes at n → decodeText (drop at bytes) ≡ lows bytes at n ++ decodeText (drop (at + 2 * n) bytes)
+ascii-text : (bytes : List ℕ) (n at : ℕ) → AsciiUnits bytes at n → decode16Text (drop at bytes) ≡ lows bytes at n ++ decode16Text (drop (at + 2 * n) bytes)
 unfolding lows
 ascii-text bytes zero at a = let e : at + 2 * 0 ≡ at = omega arith in rw e
 ascii-text bytes (suc n) at a =
@@ -48,10 +48,10 @@ ascii-text bytes (suc n) at a =
     ∙ ap (λ (l : List ℕ). getD bytes at 0 ∷ l) (ascii-text bytes n (at + 2) (shifted bytes at n a))
     ∙ rw f
 
-block-text : (bytes : List ℕ) (at : ℕ) → AsciiUnits bytes at 32 → decodeText (drop at bytes) ≡ lows bytes at 32 ++ decodeText (drop (at + 64) bytes)
+block-text : (bytes : List ℕ) (at : ℕ) → AsciiUnits bytes at 32 → decode16Text (drop at bytes) ≡ lows bytes at 32 ++ decode16Text (drop (at + 64) bytes)
 block-text bytes at a = ascii-text bytes 32 at a
 
-block-length : (bytes : List ℕ) (at : ℕ) → AsciiUnits bytes at 32 → length (decodeText (drop at bytes)) ≡ 32 + length (decodeText (drop (at + 64) bytes))
+block-length : (bytes : List ℕ) (at : ℕ) → AsciiUnits bytes at 32 → length (decode16Text (drop at bytes)) ≡ 32 + length (decode16Text (drop (at + 64) bytes))
 block-length bytes at a =
     let k : length (lows bytes at 32) ≡ 32 = lows-length bytes 32 at in
     ap length (block-text bytes at a) ∙ length-append (lows bytes at 32) _ ∙ rw k
@@ -60,41 +60,41 @@ module _ (bytes : List ℕ) (at : ℕ) (t : Bool) (a : t ≡ true → AsciiUnits
   pub block-whole : at + 64 ≤ length bytes
   block-whole = omega (arith, a q .whole)
 
-  pub block-measured : TextAt bytes at 32 (at + 64)
+  pub block-measured : TextAt16 bytes at 32 (at + 64)
   block-measured = record { is = block-length bytes at (a q); later = omega arith; within = block-whole }
 
-  block-left : (whole out₀ out out′ : List ℕ) (start to r : ℕ) → LeftToWrite whole out₀ start (decodeText (drop at bytes)) out to → Wrote (lows bytes at 32) out to (Next r) out′
-      → LeftToWrite whole out₀ start (decodeText (drop (at + 64) bytes)) out′ r
+  block-left : (whole out₀ out out′ : List ℕ) (start to r : ℕ) → LeftToWrite whole out₀ start (decode16Text (drop at bytes)) out to → Wrote (lows bytes at 32) out to (Next r) out′
+      → LeftToWrite whole out₀ start (decode16Text (drop (at + 64) bytes)) out′ r
   block-left whole out₀ out out′ start to r inv w = left-part (lows bytes at 32) _ (rw (block-text bytes at (a q)) at inv) w r refl
 
-  module _ (out : List ℕ) (to : ℕ) (f : to + length (decodeText (drop at bytes)) ≤ length out) where
+  module _ (out : List ℕ) (to : ℕ) (f : to + length (decode16Text (drop at bytes)) ≤ length out) where
     pub block-room : to + 32 ≤ length out
     block-room = omega (arith, block-length bytes at (a q))
 
     pub block-written : (r : ℕ) (out′ : List ℕ) → Wrote (lows bytes at 32) out to (Next r) out′ → PartWrote bytes at out to (at + 64) out′ r
     block-written r out′ w = record {
-      left = block-left (decodeText (drop at bytes)) out out out′ to to r (left-all (decodeText (drop at bytes)) out to f) w;
+      left = block-left (decode16Text (drop at bytes)) out out out′ to to r (left-all (decode16Text (drop at bytes)) out to f) w;
       later = omega arith;
       within = block-whole;
     }
 
 -- ---- the scalar values of a block, one by one
 
-module _ (bytes out out₁ : List ℕ) (from to at next : ℕ) (q : LeftToWrite (decodeText (drop from bytes)) out to (decodeText (drop at bytes)) out₁ next) where
+module _ (bytes out out₁ : List ℕ) (from to at next : ℕ) (q : LeftToWrite (decode16Text (drop from bytes)) out to (decode16Text (drop at bytes)) out₁ next) where
   pub units-written : (end : ℕ) → from < end → end ≤ at → at ≤ length bytes → PartWrote bytes from out to at out₁ next
   units-written end h l k = record { left = q; later = omega arith; within = k }
 
   -- what fits is never refused
-  pub units-never : (code after : ℕ) (r : Put) (out₂ : List ℕ) → ScalarAt decodeScalars bytes at code after → Wrote (utf8Of code) out₁ next r out₂ → r ≡ Full → PartWrote bytes from out to at out₂ next
+  pub units-never : (code after : ℕ) (r : Put) (out₂ : List ℕ) → ScalarAtIn decodeScalars bytes at code after → Wrote (utf8Of code) out₁ next r out₂ → r ≡ Full → PartWrote bytes from out to at out₂ next
   units-never code after r out₂ s w e = left-never (utf8Of code) _ (rw (text-here decodeScalars utf8Of nothing-left bytes at code after s) at q) w e
 
 -- ---- what was written
 
-module _ (bytes whole out₀ out : List ℕ) (start from to : ℕ) (q : LeftToWrite whole out₀ start (decodeText (drop from bytes)) out to) where
-  pub part-room : to + length (decodeText (drop from bytes)) ≤ length out
+module _ (bytes whole out₀ out : List ℕ) (start from to : ℕ) (q : LeftToWrite whole out₀ start (decode16Text (drop from bytes)) out to) where
+  pub part-room : to + length (decode16Text (drop from bytes)) ≤ length out
   part-room = q .fits
 
-  pub part-next : (from′ to′ : ℕ) (out′ : List ℕ) → PartWrote bytes from out to from′ out′ to′ → LeftToWrite whole out₀ start (decodeText (drop from′ bytes)) out′ to′
+  pub part-next : (from′ to′ : ℕ) (out′ : List ℕ) → PartWrote bytes from out to from′ out′ to′ → LeftToWrite whole out₀ start (decode16Text (drop from′ bytes)) out′ to′
   part-next from′ to′ out′ p = left-left q (p .left)
 
 -- ---- the same, measured
@@ -102,23 +102,23 @@ module _ (bytes whole out₀ out : List ℕ) (start from to : ℕ) (q : LeftToWr
 pub four-at-most : (code n : ℕ) → n ≡ length (utf8Of code) → n ≤ 4
 four-at-most code n e = omega (arith, utf8-short code .four-at-most)
 
-module _ (bytes : List ℕ) (at next size : ℕ) (q : length (decodeText (drop at bytes)) ≡ size + length (decodeText (drop next bytes))) where
-  pub units-more : (code after n : ℕ) → ScalarAt decodeScalars bytes next code after → n ≡ length (utf8Of code)
-      → length (decodeText (drop at bytes)) ≡ size + n + length (decodeText (drop after bytes))
+module _ (bytes : List ℕ) (at next size : ℕ) (q : length (decode16Text (drop at bytes)) ≡ size + length (decode16Text (drop next bytes))) where
+  pub units-more : (code after n : ℕ) → ScalarAtIn decodeScalars bytes next code after → n ≡ length (utf8Of code)
+      → length (decode16Text (drop at bytes)) ≡ size + n + length (decode16Text (drop after bytes))
   units-more code after n s e =
       let k = ap length (text-here decodeScalars utf8Of nothing-left bytes next code after s) ∙ length-append (utf8Of code) _ in
       omega (arith, k)
 
-  pub units-measured : (end : ℕ) → at < end → end ≤ next → next ≤ length bytes → TextAt bytes at size next
+  pub units-measured : (end : ℕ) → at < end → end ≤ next → next ≤ length bytes → TextAt16 bytes at size next
   units-measured end h l k = record { is = q; later = omega arith; within = k }
 
 -- ---- what was measured
 
-module _ (bytes : List ℕ) (at size next used : ℕ) (here : TextAt bytes at size next) (inv : used + length (decodeText (drop at bytes)) ≡ length (decodeText bytes)) where
-  pub part-again : used + size + length (decodeText (drop next bytes)) ≡ length (decodeText bytes)
+module _ (bytes : List ℕ) (at size next used : ℕ) (here : TextAt16 bytes at size next) (inv : used + length (decode16Text (drop at bytes)) ≡ length (decode16Text bytes)) where
+  pub part-again : used + size + length (decode16Text (drop next bytes)) ≡ length (decode16Text bytes)
   part-again = omega (arith, here .is)
 
-  pub part-over : (room : ℕ) → used ≤ room → room - used < size → Over ≡ roomFor (length (decodeText bytes)) room
+  pub part-over : (room : ℕ) → used ≤ room → room - used < size → Over ≡ roomFor (length (decode16Text bytes)) room
   part-over room a h = room-over _ room (omega (arith, here .is))
 
 -- ---- put_8

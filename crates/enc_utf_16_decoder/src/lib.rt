@@ -5,8 +5,8 @@ ghost use lib.ListN.{length, drop};
 ghost use lib.Dec.{leb};
 ghost use Rattle.enc_utf_8.specs.Utf8.{utf8Of};
 ghost use Rattle.enc_utf_8.specs.Buffer.{Wrote, roomFor};
-ghost use Rattle.enc_utf_16.specs.Decode.{decodeText};
-ghost use Rattle.enc_utf_16_decoder.specs.Step.{TextAt, PartWrote};
+ghost use Rattle.enc_utf_16.specs.Decode.{decode16Text};
+ghost use Rattle.enc_utf_16_decoder.specs.Step.{TextAt16, PartWrote};
 use enc_ascii::block_end;
 use enc_utf_8::Put;
 use enc_utf_8::Room;
@@ -38,7 +38,7 @@ fn short_len(code: u32) -> usize
 // How many bytes in UTF-8 the scalar values take that begin from `at` on, before `end`.
 fn measure_units(bytes: &[u8], at: usize, end: usize) -> Measured
     requires { ⌜ (at < end) × (end ≤ length (now bytes)) × (end ≤ at + 64) ⌝ }
-    ensures { λ r. ⌜ TextAt (now (bytes .entry)) at (r .size) (r .next) ⌝ }
+    ensures { λ r. ⌜ TextAt16 (now (bytes .entry)) at (r .size) (r .next) ⌝ }
 {
     let mut size = 0;
     let mut next = at;
@@ -53,7 +53,7 @@ fn measure_units(bytes: &[u8], at: usize, end: usize) -> Measured
 // The same of a block from `at` on.
 fn measure(bytes: &[u8], at: usize) -> Measured
     requires { ⌜ at < length (now bytes) ⌝ }
-    ensures { λ r. ⌜ TextAt (now (bytes .entry)) at (r .size) (r .next) ⌝ }
+    ensures { λ r. ⌜ TextAt16 (now (bytes .entry)) at (r .size) (r .next) ⌝ }
 {
     if ascii_block(bytes, at) {
         return Measured {
@@ -66,7 +66,7 @@ fn measure(bytes: &[u8], at: usize) -> Measured
 
 // How many bytes the text takes in UTF-8, where that is at most `room`.
 pub fn decoded_len(bytes: &[u8], room: usize) -> Room
-    ensures { λ r. ⌜ r ≡ roomFor (length (decodeText (now (bytes .entry)))) room ⌝ }
+    ensures { λ r. ⌜ r ≡ roomFor (length (decode16Text (now (bytes .entry)))) room ⌝ }
 {
     let mut at = 0;
     let mut used = 0;
@@ -83,7 +83,7 @@ pub fn decoded_len(bytes: &[u8], room: usize) -> Room
 
 // Whether the text takes at most `room` bytes in UTF-8. No byte gives more than three, so a short text is not measured.
 fn fits_in(bytes: &[u8], room: usize) -> bool
-    ensures { λ r. ⌜ r ≡ leb (length (decodeText (now (bytes .entry)))) room ⌝ }
+    ensures { λ r. ⌜ r ≡ leb (length (decode16Text (now (bytes .entry)))) room ⌝ }
 {
     if bytes.len() <= room / 3 {
         return true;
@@ -119,7 +119,7 @@ fn put_8(out: &mut [u8], at: usize, code: u32) -> Put
 // Writes in UTF-8, from `to` on, the scalar values that begin from `from` on, before `end`.
 fn write_units(bytes: &[u8], from: usize, end: usize, out: &mut [u8], to: usize) -> Places
     requires { ⌜ (from < end) × (end ≤ length (now bytes)) ⌝ }
-    requires { ⌜ to + length (decodeText (drop from (now bytes))) ≤ length (now out) ⌝ }
+    requires { ⌜ to + length (decode16Text (drop from (now bytes))) ≤ length (now out) ⌝ }
     ensures { λ r. ⌜ PartWrote (now (bytes .entry)) from (now (out .entry)) to (r .from) (now (out .exit)) (r .to) ⌝ }
 {
     let mut at = from;
@@ -145,7 +145,7 @@ fn write_units(bytes: &[u8], from: usize, end: usize, out: &mut [u8], to: usize)
 // The same of a block from `from` on.
 fn write_block(bytes: &[u8], from: usize, out: &mut [u8], to: usize) -> Places
     requires { ⌜ from < length (now bytes) ⌝ }
-    requires { ⌜ to + length (decodeText (drop from (now bytes))) ≤ length (now out) ⌝ }
+    requires { ⌜ to + length (decode16Text (drop from (now bytes))) ≤ length (now out) ⌝ }
     ensures { λ r. ⌜ PartWrote (now (bytes .entry)) from (now (out .entry)) to (r .from) (now (out .exit)) (r .to) ⌝ }
 {
     if ascii_block(bytes, from) {
@@ -160,8 +160,8 @@ fn write_block(bytes: &[u8], from: usize, out: &mut [u8], to: usize) -> Places
 
 // Writes the text in UTF-8 from `at` on, where it fits, and gives the place after it.
 fn write_8(bytes: &[u8], out: &mut [u8], at: usize) -> usize
-    requires { ⌜ at + length (decodeText (now bytes)) ≤ length (now out) ⌝ }
-    ensures { λ r. ⌜ Wrote (decodeText (now (bytes .entry))) (now (out .entry)) at (Put.Next r) (now (out .exit)) ⌝ }
+    requires { ⌜ at + length (decode16Text (now bytes)) ≤ length (now out) ⌝ }
+    ensures { λ r. ⌜ Wrote (decode16Text (now (bytes .entry))) (now (out .entry)) at (Put.Next r) (now (out .exit)) ⌝ }
 {
     let mut from = 0;
     let mut to = at;
@@ -175,7 +175,7 @@ fn write_8(bytes: &[u8], out: &mut [u8], at: usize) -> usize
 
 // Decodes UTF-16LE to UTF-8 from `at` on; the buffer is not touched where the text does not fit. An empty text fits anywhere.
 pub fn decode(bytes: &[u8], out: &mut [u8], at: usize) -> Put
-    ensures { λ r. ⌜ Wrote (decodeText (now (bytes .entry))) (now (out .entry)) at r (now (out .exit)) ⌝ }
+    ensures { λ r. ⌜ Wrote (decode16Text (now (bytes .entry))) (now (out .entry)) at r (now (out .exit)) ⌝ }
 {
     if bytes.len() == 0 {
         return Put::Next(at);

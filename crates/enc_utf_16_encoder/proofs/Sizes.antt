@@ -7,8 +7,8 @@ use native.Mathlib.Omega.{arith}
 use lib.ListN.{length, length-append}
 use lib.Dec.{eqb, leb, ltb}
 use borrow.Author.Tests.{le-leb, ltb-true, ltb-false}
-use Rattle.enc_utf_8.specs.Utf8.{Item, scalar, error, replaced, State, state, initial, Reply, give, continue, leading, following, afterReply, decodeFrom}
-use Rattle.enc_utf_16.specs.Encode.{utf16Of, encodeText}
+use Rattle.enc_utf_8.specs.Utf8.{Item, scalar, error, replaced, State, state, initial, DecoderReply, give, continue, leading, following, afterReply, decodeFrom}
+use Rattle.enc_utf_16.specs.Encode.{utf16Of, encode16Text}
 use Rattle.enc_utf_16_encoder.proofs.Encodes.{one-length, two-length}
 
 -- one scalar value takes four bytes at most
@@ -51,7 +51,7 @@ module _ (bs : List ℕ) (ih : (s : State) → size (decodeFrom s bs) ≤ 2 * (h
   ascii : (b : ℕ) → b < 0x80 → size (scalar b ∷ decodeFrom initial bs) ≤ 2 * (1 + length bs)
   ascii b h = omega (arith, size-item (scalar b) (decodeFrom initial bs), one-length b (omega arith), ih initial)
 
-  size-if : (b k n : ℕ) (p q : Reply) → (b < k → size (afterReply p (λ s. decodeFrom s bs)) ≤ n) → size (afterReply q (λ s. decodeFrom s bs)) ≤ n → size (afterReply (cond (ltb b k) p q) (λ s. decodeFrom s bs)) ≤ n
+  size-if : (b k n : ℕ) (p q : DecoderReply) → (b < k → size (afterReply p (λ s. decodeFrom s bs)) ≤ n) → size (afterReply q (λ s. decodeFrom s bs)) ≤ n → size (afterReply (cond (ltb b k) p q) (λ s. decodeFrom s bs)) ≤ n
   size-if b k n p q x y = by (ltb b k) refl
     where
       by : (t : Bool) → ltb b k ≡ t → size (afterReply (cond t p q) (λ s. decodeFrom s bs)) ≤ n
@@ -97,5 +97,5 @@ size-from (b ∷ bs) (state code seen needed lower upper) =
     by false true l f = omega arith
     by false false l f = omega (arith, size-item error (afterReply (leading b) (λ s. decodeFrom s bs)), one-length 0xfffd (omega arith))
 
-pub fits-short : (text : List ℕ) (room : ℕ) → length text ≤ room / 2 → true ≡ leb (length (encodeText text)) room
+pub fits-short : (text : List ℕ) (room : ℕ) → length text ≤ room / 2 → true ≡ leb (length (encode16Text text)) room
 fits-short text room h = sym (le-leb _ room (omega (arith, size-from text initial)))

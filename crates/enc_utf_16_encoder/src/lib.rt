@@ -6,8 +6,8 @@ ghost use lib.ListN.{length};
 ghost use lib.Dec.{leb};
 ghost use Rattle.enc_utf_8.specs.Utf8.{scalars};
 ghost use Rattle.enc_utf_8.specs.Buffer.{Wrote, roomFor};
-ghost use Rattle.enc_utf_16.specs.Encode.{unitBytes, utf16Of, encodeText};
-ghost use Rattle.enc_utf_16.specs.Step.{ScalarAt};
+ghost use Rattle.enc_utf_16.specs.Encode.{unitBytes, utf16Of, encode16Text};
+ghost use Rattle.enc_utf_16.specs.Step.{ScalarAtIn};
 use enc_utf_8::Char;
 use enc_utf_8::Put;
 use enc_utf_8::Room;
@@ -25,7 +25,7 @@ struct Scalar {
 // The scalar value at a place of a UTF-8 text; U+FFFD for what is ill-formed.
 fn long_scalar_8(text: &[u8], at: usize) -> Scalar
     requires { ⌜ at < length (now text) ⌝ }
-    ensures { λ r. ⌜ ScalarAt scalars (now (text .entry)) at (r .code) (r .next) ⌝ }
+    ensures { λ r. ⌜ ScalarAtIn scalars (now (text .entry)) at (r .code) (r .next) ⌝ }
 {
     match next(text, at) {
         Char::Code(code, next) => Scalar { code, next },
@@ -43,7 +43,7 @@ fn long_scalar_8(text: &[u8], at: usize) -> Scalar
 // The same. ASCII is told first, since most text is ASCII.
 fn scalar_8(text: &[u8], at: usize) -> Scalar
     requires { ⌜ at < length (now text) ⌝ }
-    ensures { λ r. ⌜ ScalarAt scalars (now (text .entry)) at (r .code) (r .next) ⌝ }
+    ensures { λ r. ⌜ ScalarAtIn scalars (now (text .entry)) at (r .code) (r .next) ⌝ }
 {
     let first = text[at];
     if first < 0x80 {
@@ -110,7 +110,7 @@ fn put_16(out: &mut [u8], at: usize, code: u32) -> Put
 
 // How many bytes the text takes in UTF-16, where that is at most `room`.
 pub fn encoded_len(text: &[u8], room: usize) -> Room
-    ensures { λ r. ⌜ r ≡ roomFor (length (encodeText (now (text .entry)))) room ⌝ }
+    ensures { λ r. ⌜ r ≡ roomFor (length (encode16Text (now (text .entry)))) room ⌝ }
 {
     let mut at = 0;
     let mut used = 0;
@@ -128,8 +128,8 @@ pub fn encoded_len(text: &[u8], room: usize) -> Room
 
 // Writes the text in UTF-16LE, where it fits, and gives the place after it.
 fn write_16(text: &[u8], out: &mut [u8]) -> usize
-    requires { ⌜ length (encodeText (now text)) ≤ length (now out) ⌝ }
-    ensures { λ r. ⌜ Wrote (encodeText (now (text .entry))) (now (out .entry)) 0 (Put.Next r) (now (out .exit)) ⌝ }
+    requires { ⌜ length (encode16Text (now text)) ≤ length (now out) ⌝ }
+    ensures { λ r. ⌜ Wrote (encode16Text (now (text .entry))) (now (out .entry)) 0 (Put.Next r) (now (out .exit)) ⌝ }
 {
     let mut from = 0;
     let mut to = 0;
@@ -146,7 +146,7 @@ fn write_16(text: &[u8], out: &mut [u8]) -> usize
 
 // Whether the text takes at most `room` bytes in UTF-16. No byte gives more than two, so a short text is not measured.
 fn encoded_fits_in(text: &[u8], room: usize) -> bool
-    ensures { λ r. ⌜ r ≡ leb (length (encodeText (now (text .entry)))) room ⌝ }
+    ensures { λ r. ⌜ r ≡ leb (length (encode16Text (now (text .entry)))) room ⌝ }
 {
     if text.len() <= room / 2 {
         return true;
@@ -159,7 +159,7 @@ fn encoded_fits_in(text: &[u8], room: usize) -> bool
 
 // Encodes UTF-8 to UTF-16LE; the buffer is not touched where the text does not fit.
 pub fn encode(text: &[u8], out: &mut [u8]) -> Put
-    ensures { λ r. ⌜ Wrote (encodeText (now (text .entry))) (now (out .entry)) 0 r (now (out .exit)) ⌝ }
+    ensures { λ r. ⌜ Wrote (encode16Text (now (text .entry))) (now (out .entry)) 0 r (now (out .exit)) ⌝ }
 {
     if encoded_fits_in(text, out.len()) {
         return Put::Next(write_16(text, out));

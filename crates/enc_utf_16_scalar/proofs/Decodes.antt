@@ -14,8 +14,8 @@ use borrow.Author.Tests.{le-leb, lt-leb, ltb-true, ltb-false}
 use Rattle.enc_utf_8.specs.Utf8.{Item, scalar, error, replaced, utf8Of}
 use Rattle.enc_utf_8.proofs.Encodes.{utf8-short, len-one, len-two, len-three}
 use Rattle.enc_utf_16.specs.Unit16.{unitOf, isLeading, isTrailing, fromSurrogates}
-use Rattle.enc_utf_16.specs.Decode.{unitAlone, unitAfter, decodeFrom, decodeItems, decodeScalars, decodeText}
-use Rattle.enc_utf_16.specs.Step.{ScalarAt}
+use Rattle.enc_utf_16.specs.Decode.{unitAlone, unitAfter, decode16From, decodeItems, decodeScalars, decode16Text}
+use Rattle.enc_utf_16.specs.Step.{ScalarAtIn}
 use Rattle.enc_utf_16_scalar.specs.Units.{UnitAt, SurrogateAt, firstSize, FirstScalar}
 use Rattle.enc_utf_16.proofs.Ends.{drop-two}
 use Rattle.enc_number.proofs.ByteOrder.{leValue-two}
@@ -43,51 +43,51 @@ trailing-above u h = let a : 0xDC00 ≤ u = omega arith in rw (le-leb 0xDC00 u a
 -- ---- the decoder at the first code unit
 
 pub odd-byte : (x : ℕ) → decodeItems (x ∷ []) ≡ error ∷ []
-unfolding decodeFrom
+unfolding decode16From
 odd-byte x = refl
 
 module _ (x y : ℕ) where
   pub plain-unit : (xs : List ℕ) → isLeading (unitOf x y) ≡ false → isTrailing (unitOf x y) ≡ false → decodeItems (x ∷ y ∷ xs) ≡ scalar (unitOf x y) ∷ decodeItems xs
-  unfolding decodeFrom unitAfter unitAlone
+  unfolding decode16From unitAfter unitAlone
   plain-unit xs l t = rw (l, t)
 
   pub trailing-unit : (xs : List ℕ) → isLeading (unitOf x y) ≡ false → isTrailing (unitOf x y) ≡ true → decodeItems (x ∷ y ∷ xs) ≡ error ∷ decodeItems xs
-  unfolding decodeFrom unitAfter unitAlone
+  unfolding decode16From unitAfter unitAlone
   trailing-unit xs l t = rw (l, t)
 
   module _ (l : isLeading (unitOf x y) ≡ true) where
     pub leading-end : decodeItems (x ∷ y ∷ []) ≡ error ∷ []
-    unfolding decodeFrom unitAfter unitAlone
+    unfolding decode16From unitAfter unitAlone
     leading-end = rw l
 
     pub leading-odd : (z : ℕ) → decodeItems (x ∷ y ∷ z ∷ []) ≡ error ∷ []
-    unfolding decodeFrom unitAfter unitAlone
+    unfolding decode16From unitAfter unitAlone
     leading-odd z = rw l
 
     pub leading-pair : (z w : ℕ) (xs : List ℕ) → isTrailing (unitOf z w) ≡ true → decodeItems (x ∷ y ∷ z ∷ w ∷ xs) ≡ scalar (fromSurrogates (unitOf x y) (unitOf z w)) ∷ decodeItems xs
-    unfolding decodeFrom unitAfter unitAlone
+    unfolding decode16From unitAfter unitAlone
     leading-pair z w xs t = rw (l, t)
 
     -- the standard's step 5: the bytes of the unit are restored, and taken again
     pub leading-restored : (z w : ℕ) (xs : List ℕ) → isTrailing (unitOf z w) ≡ false → decodeItems (x ∷ y ∷ z ∷ w ∷ xs) ≡ error ∷ decodeItems (z ∷ w ∷ xs)
-    unfolding decodeFrom unitAfter unitAlone
+    unfolding decode16From unitAfter unitAlone
     leading-restored z w xs t = rw (l, t)
 
 -- ---- bytes are never decoded to nothing
 
-surrogate-kept : (low : Option ℕ) (lead : ℕ) (xs : List ℕ) → 0 < length (decodeFrom low (some lead) xs)
-unfolding decodeFrom unitAfter
+surrogate-kept : (low : Option ℕ) (lead : ℕ) (xs : List ℕ) → 0 < length (decode16From low (some lead) xs)
+unfolding decode16From unitAfter
 surrogate-kept none lead [] = omega arith
 surrogate-kept (some low) lead [] = omega arith
 surrogate-kept none lead (x ∷ xs) = surrogate-kept (some x) lead xs
 surrogate-kept (some low) lead (x ∷ xs) = by (isTrailing (unitOf low x)) refl
   where
-    by : (b : Bool) → isTrailing (unitOf low x) ≡ b → 0 < length (decodeFrom (some low) (some lead) (x ∷ xs))
+    by : (b : Bool) → isTrailing (unitOf low x) ≡ b → 0 < length (decode16From (some low) (some lead) (x ∷ xs))
     by true e = rw e (omega arith)
     by false e = rw e (omega arith)
 
 unit-kept : (x y : ℕ) (xs : List ℕ) → 0 < length (decodeItems (x ∷ y ∷ xs))
-unfolding decodeFrom unitAfter unitAlone
+unfolding decode16From unitAfter unitAlone
 unit-kept x y xs = by (isLeading (unitOf x y)) (isTrailing (unitOf x y)) refl refl
   where
     by : (l t : Bool) → isLeading (unitOf x y) ≡ l → isTrailing (unitOf x y) ≡ t → 0 < length (decodeItems (x ∷ y ∷ xs))
@@ -96,7 +96,7 @@ unit-kept x y xs = by (isLeading (unitOf x y)) (isTrailing (unitOf x y)) refl re
     by false false e f = rw (e, f) (omega arith)
 
 items-kept : (bytes : List ℕ) → (length bytes ≡ 0 → ⊥) → 0 < length (decodeItems bytes)
-unfolding decodeFrom
+unfolding decode16From
 items-kept [] h = absurd (h refl)
 items-kept (x ∷ []) h = omega arith
 items-kept (x ∷ y ∷ xs) h = unit-kept x y xs
@@ -107,7 +107,7 @@ unfolding flatMap
 some-text f p [] h = absurd (omega arith)
 some-text f p (c ∷ l) h = simp length-append (omega (arith, p c))
 
-pub text-some : (bytes : List ℕ) → (length bytes ≡ 0 → ⊥) → 0 < length (decodeText bytes)
+pub text-some : (bytes : List ℕ) → (length bytes ≡ 0 → ⊥) → 0 < length (decode16Text bytes)
 unfolding decodeScalars
 text-some bytes h = some-text utf8Of (λ c. utf8-short c .some) _ (simp length-map (items-kept bytes h))
 
@@ -156,27 +156,27 @@ text-append [] js = refl
 text-append (i ∷ is) js = rw (text-append is js, append-assoc)
 
 size-from : (low lead : Option ℕ) (xs : List ℕ) → heldByte low < 256 → ((i : ℕ) → getD xs i 0 < 256)
-    → length (textOf (decodeFrom low lead xs)) ≤ 3 * ((length xs + held low + 1) / 2) + 3 * held lead
-unfolding decodeFrom flatMap
+    → length (textOf (decode16From low lead xs)) ≤ 3 * ((length xs + held low + 1) / 2) + 3 * held lead
+unfolding decode16From flatMap
 size-from none none [] a h = omega arith
 size-from none (some l) [] a h = rw append-nil (omega (arith, unit-three 0xfffd (omega arith)))
 size-from (some b) lead [] a h = rw append-nil (omega (arith, unit-three 0xfffd (omega arith)))
 size-from none lead (x ∷ xs) a h = omega (arith, size-from (some x) lead xs (h 0) (λ i. h (suc i)))
 size-from (some b) lead (x ∷ xs) a h =
     let g = unitAfter lead (unitOf b x) in
-    rw (text-append (g .items) (decodeFrom none (g .leading) xs), length-append)
+    rw (text-append (g .items) (decode16From none (g .leading) xs), length-append)
     (omega (arith, after-size lead (unitOf b x) (omega (arith, h 0, leValue-two b x)), size-from none (g .leading) xs (omega arith) (λ i. h (suc i))))
 
 -- the most bytes that a text takes in UTF-8
-pub text-room : (bytes : List ℕ) → ((i : ℕ) → getD bytes i 0 < 256) → length (decodeText bytes) ≤ 3 * (length bytes / 2) + 3 * (length bytes % 2)
+pub text-room : (bytes : List ℕ) → ((i : ℕ) → getD bytes i 0 < 256) → length (decode16Text bytes) ≤ 3 * (length bytes / 2) + 3 * (length bytes % 2)
 unfolding decodeScalars
 text-room bytes h = omega (arith, size-from none none bytes (omega arith) h)
 
-pub fits-short : (bytes : List ℕ) (room : ℕ) → ((i : ℕ) → Fits w8 (getD bytes i 0)) → length bytes ≤ room / 3 → true ≡ leb (length (decodeText bytes)) room
+pub fits-short : (bytes : List ℕ) (room : ℕ) → ((i : ℕ) → Fits w8 (getD bytes i 0)) → length bytes ≤ room / 3 → true ≡ leb (length (decode16Text bytes)) room
 fits-short bytes room f h = sym (le-leb _ room (omega (arith, text-room bytes (λ i. f i .fits))))
 
 pub nothing-left : decodeScalars [] ≡ []
-unfolding decodeScalars decodeFrom
+unfolding decodeScalars decode16From
 nothing-left = refl
 
 -- ---- how many bytes it takes
@@ -227,7 +227,7 @@ module _ (bytes : List ℕ) (at : ℕ) where
 
   -- one error, and the end
   last : (xs : List ℕ) → drop at bytes ≡ xs → decodeItems xs ≡ error ∷ [] → at < length bytes → length bytes ≡ at + firstSize xs → FirstScalar bytes at 0xfffd (length bytes)
-  unfolding decodeFrom
+  unfolding decode16From
   last xs d e a p = here (length bytes) error (rw (d, drop-length) e) a (omega arith) (p ∙ rw d)
 
   pub scalar-odd : at < length bytes → length bytes - at < 2 → FirstScalar bytes at 0xfffd (at + 1)

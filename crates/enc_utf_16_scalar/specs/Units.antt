@@ -6,7 +6,7 @@ use Prim.Native.Nat.{ℕ, _+_, _≤_}
 use lib.ListN.{length, getD, drop}
 use Rattle.enc_utf_16.specs.Unit16.{unitOf, isLeading, isTrailing}
 use Rattle.enc_utf_16.specs.Decode.{decodeScalars}
-use Rattle.enc_utf_16.specs.Step.{ScalarAt}
+use Rattle.enc_utf_16.specs.Step.{ScalarAtIn}
 
 -- the two bytes at a place are the code unit u
 pub record UnitAt (bytes : List ℕ) (at u : ℕ) : Type 0 where
@@ -30,5 +30,5 @@ firstSize (x ∷ y ∷ z ∷ w ∷ bytes) = cond (isLeading (unitOf x y) && isTr
 
 -- the first scalar value from a place on, and the place after the bytes that it takes
 pub record FirstScalar (bytes : List ℕ) (at code next : ℕ) : Type 0 where
-  pub scalar : ScalarAt decodeScalars bytes at code next
+  pub scalar : ScalarAtIn decodeScalars bytes at code next
   pub place : next ≡ at + firstSize (drop at bytes)

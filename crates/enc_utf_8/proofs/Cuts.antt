@@ -10,7 +10,7 @@ use lib.Dec.{leb, ltb, eqb, eqb·suc-zero}
 use borrow.Author.Tests.{leb-true, ltb-true, le-leb, lt-leb, lt-ltb, le-ltb, eq-eqb, ne-eqb}
 use Rattle.enc_utf_8.specs.declared.Char.{Char}
 use Rattle.enc_utf_8.specs.declared.Char.the-variants.{Code, Error, End}
-use Rattle.enc_utf_8.specs.Utf8.{Item, scalar, error, State, state, initial, Reply, give, continue, lowerOf, upperOf, leading, following, afterReply, decodeFrom, decode, noError, wellFormed, trail, found, nextFrom, nextAt, ValidTo, Stretch}
+use Rattle.enc_utf_8.specs.Utf8.{Item, scalar, error, State, state, initial, DecoderReply, give, continue, lowerOf, upperOf, leading, following, afterReply, decodeFrom, decode, noError, wellFormed, trail, found, nextFrom, nextAt, ValidTo, Stretch}
 use Rattle.enc_utf_8.proofs.Items.{next-code, next-error, next-none, formed-again, formed-not, formed-none, formed-end}
 
 never : {X : Type 0} → false ≡ true → X
@@ -27,11 +27,11 @@ abbrev Fine : State → Type 0
 Fine (state code seen needed lower upper) = (0x80 ≤ lower) × (upper < 0xc0)
 
 -- the state that a reply goes on in
-abbrev FineReply : Reply → Type 0
+abbrev FineReply : DecoderReply → Type 0
 FineReply (give i) = Unit {0}
 FineReply (continue s) = Fine s
 
-fine-if : (t : Bool) (p q : Reply) → FineReply p → FineReply q → FineReply (cond t p q)
+fine-if : (t : Bool) (p q : DecoderReply) → FineReply p → FineReply q → FineReply (cond t p q)
 fine-if true p q x y = x
 fine-if false p q x y = y
 
@@ -98,7 +98,7 @@ cut-if : (t : Bool) (is js ks ls : List Item) (ys : List ℕ) → (noError is �
 cut-if true is js ks ls ys p q h = p h
 cut-if false is js ks ls ys p q h = q h
 
-cut-reply : (p : Reply) (xs ys : List ℕ) → FineReply p → ((s : State) → Fine s → noError (decodeFrom s (xs ++ ys)) ≡ true → Cut (noError (decodeFrom s xs)) ys)
+cut-reply : (p : DecoderReply) (xs ys : List ℕ) → FineReply p → ((s : State) → Fine s → noError (decodeFrom s (xs ++ ys)) ≡ true → Cut (noError (decodeFrom s xs)) ys)
     → noError (afterReply p (λ s. decodeFrom s (xs ++ ys))) ≡ true → Cut (noError (afterReply p (λ s. decodeFrom s xs))) ys
 unfolding afterReply noError
 cut-reply (give (scalar c)) xs ys f k h = k initial (omega arith, omega arith) h
@@ -240,7 +240,7 @@ module _ (c e : ℕ) where
   by-code P true x y p q h = p h
   by-code P false x y p q h = q h
 
-  past-reply : (p : Reply) (at : ℕ) (bs : List ℕ) → ((s : State) → nextFrom s (at + 1) bs ≡ Code c e → at + 1 < e) → found p at (λ s. nextFrom s (at + 1) bs) ≡ Code c e → at < e
+  past-reply : (p : DecoderReply) (at : ℕ) (bs : List ℕ) → ((s : State) → nextFrom s (at + 1) bs ≡ Code c e → at + 1 < e) → found p at (λ s. nextFrom s (at + 1) bs) ≡ Code c e → at < e
   unfolding found
   past-reply (give (scalar d)) at bs k h = let z : at + 1 ≡ e = cc in omega arith
   past-reply (give error) at bs k h = not-error (at + 1) c e h
@@ -257,7 +257,7 @@ module _ (c e : ℕ) where
   same-if true x y z w p q h = p h
   same-if false x y z w p q h = q h
 
-  same-reply : (p : Reply) (at : ℕ) (bs cs : List ℕ) → ((s : State) → nextFrom s (at + 1) bs ≡ Code c e → nextFrom s (at + 1) cs ≡ Code c e)
+  same-reply : (p : DecoderReply) (at : ℕ) (bs cs : List ℕ) → ((s : State) → nextFrom s (at + 1) bs ≡ Code c e → nextFrom s (at + 1) cs ≡ Code c e)
       → found p at (λ s. nextFrom s (at + 1) bs) ≡ Code c e → found p at (λ s. nextFrom s (at + 1) cs) ≡ Code c e
   unfolding found
   same-reply (give (scalar d)) at bs cs k h = h
@@ -324,7 +324,7 @@ join-if : (t : Bool) (is js ks ls : List Item) (b : Bool) → (noError ks ≡ tr
 join-if true is js ks ls b p q h = p h
 join-if false is js ks ls b p q h = q h
 
-join-reply : (p : Reply) (xs ys : List ℕ) (b : Bool) → ((s : State) → noError (decodeFrom s xs) ≡ true → noError (decodeFrom s (xs ++ ys)) ≡ b)
+join-reply : (p : DecoderReply) (xs ys : List ℕ) (b : Bool) → ((s : State) → noError (decodeFrom s xs) ≡ true → noError (decodeFrom s (xs ++ ys)) ≡ b)
     → noError (afterReply p (λ s. decodeFrom s xs)) ≡ true → noError (afterReply p (λ s. decodeFrom s (xs ++ ys))) ≡ b
 unfolding afterReply noError
 join-reply (give (scalar c)) xs ys b k h = k initial h

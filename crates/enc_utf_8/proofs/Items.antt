@@ -9,7 +9,7 @@ use lib.Seq.{drop-drop}
 use lib.Dec.{leb, ltb, eqb, eqb·suc-zero}
 use Rattle.enc_utf_8.specs.declared.Char.{Char}
 use Rattle.enc_utf_8.specs.declared.Char.the-variants.{Code, Error, End}
-use Rattle.enc_utf_8.specs.Utf8.{Item, scalar, error, State, state, initial, Reply, give, continue, leading, following, afterReply, decodeFrom, decode, noError, wellFormed, replaced, scalars, found, nextFrom, nextAt}
+use Rattle.enc_utf_8.specs.Utf8.{Item, scalar, error, State, state, initial, DecoderReply, give, continue, leading, following, afterReply, decodeFrom, decode, noError, wellFormed, replaced, scalars, found, nextFrom, nextAt}
 
 -- the item `i` took the bytes of `bs` up to the place `e`, where `at` is the place of the first, and the items are `is`
 record Took (i : Item) (e at : ℕ) (bs : List ℕ) (is : List Item) : Type 0 where
@@ -47,7 +47,7 @@ tells-later b (tells-code t) = tells-code (took-later b t)
 tells-later b (tells-error t) = tells-error (took-later b t)
 tells-later b tells-end = tells-end
 
-tells-reply : (p : Reply) (at b : ℕ) (bs : List ℕ) → ((s : State) → Tells (nextFrom s (at + 1) bs) (at + 1) bs (decodeFrom s bs))
+tells-reply : (p : DecoderReply) (at b : ℕ) (bs : List ℕ) → ((s : State) → Tells (nextFrom s (at + 1) bs) (at + 1) bs (decodeFrom s bs))
     → Tells (found p at (λ s. nextFrom s (at + 1) bs)) at (b ∷ bs) (afterReply p (λ s. decodeFrom s bs))
 unfolding found afterReply
 tells-reply (give (scalar c)) at b bs k = tells-code (took-one (scalar c) at b bs)
@@ -99,7 +99,7 @@ moves-later : {r : Char} {at : ℕ} {bs : List ℕ} {is : List Item} → Some r 
 moves-later some-code (tells-code t) = moves-code (took-past t)
 moves-later some-error (tells-error t) = moves-error (took-past t)
 
-moves-if : (t : Bool) (p q : Reply) (at : ℕ) (rest : State → Char) → Moves (found p at rest) at → Moves (found q at rest) at → Moves (found (cond t p q) at rest) at
+moves-if : (t : Bool) (p q : DecoderReply) (at : ℕ) (rest : State → Char) → Moves (found p at rest) at → Moves (found q at rest) at → Moves (found (cond t p q) at rest) at
 moves-if true p q at rest x y = x
 moves-if false p q at rest x y = y
 

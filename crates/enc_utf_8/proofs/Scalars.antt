@@ -9,7 +9,7 @@ use lib.Dec.{leb, ltb, eqb}
 use borrow.Author.Tests.{ltb-true, ltb-false, leb-true, eqb-true, eqb-false}
 use Rattle.enc_utf_8.specs.declared.Char.{Char}
 use Rattle.enc_utf_8.specs.declared.Char.the-variants.{Code, Error, End}
-use Rattle.enc_utf_8.specs.Utf8.{State, state, initial, lowerOf, upperOf, Reply, leading, following, found, nextFrom, nextAt, isScalar}
+use Rattle.enc_utf_8.specs.Utf8.{State, state, initial, lowerOf, upperOf, DecoderReply, leading, following, found, nextFrom, nextAt, isScalar}
 use Rattle.enc_utf_8.proofs.Encodes.{scalar-low, scalar-high}
 use Rattle.enc_utf_8.proofs.Decodes.{fewer, lower-other, upper-other}
 
@@ -110,7 +110,7 @@ module _ (bs : List ℕ) (at b : ℕ) where
           rw (← lower-other b (λ e. omega arith) n, ← upper-other b (λ e. omega arith) m)
           (sound (λ c l′ h′. scalar-high c (omega arith) (omega arith)) (three-range 0x80 0xbf (omega arith) (omega arith) bs at (b % 8)))
 
-sound-if : (b k : ℕ) (p q : Reply) (at : ℕ) (rest : State → Char) → (b < k → Sound (found p at rest)) → (k ≤ b → Sound (found q at rest)) → Sound (found (cond (ltb b k) p q) at rest)
+sound-if : (b k : ℕ) (p q : DecoderReply) (at : ℕ) (rest : State → Char) → (b < k → Sound (found p at rest)) → (k ≤ b → Sound (found q at rest)) → Sound (found (cond (ltb b k) p q) at rest)
 sound-if b k p q at rest x y = by (ltb b k) refl
   where
     by : (t : Bool) → ltb b k ≡ t → Sound (found (cond t p q) at rest)

@@ -32,12 +32,12 @@ abbrev pub upperOf : ℕ → ℕ
 upperOf lead = cond (eqb lead 0xed) 0x9f (cond (eqb lead 0xf4) 0x8f 0xbf)
 
 -- what the decoder does with a byte that it takes: it hands out an item and is in its initial state again, or it goes on in another state
-pub data Reply : Type 0 where
-  give : Item → Reply
-  continue : State → Reply
+pub data DecoderReply : Type 0 where
+  give : Item → DecoderReply
+  continue : State → DecoderReply
 
 -- step 3: the byte where no bytes are needed
-unfoldable pub leading : ℕ → Reply
+unfoldable pub leading : ℕ → DecoderReply
 leading b =
     cond (ltb b 0x80) (give (scalar b))
     (cond (ltb b 0xc2) (give error)
@@ -47,14 +47,14 @@ leading b =
     (give error)))))
 
 -- steps 5 to 11: a byte that lies between the boundaries, with the code point, the bytes seen and the bytes needed so far
-unfoldable pub following : ℕ → ℕ → ℕ → ℕ → Reply
+unfoldable pub following : ℕ → ℕ → ℕ → ℕ → DecoderReply
 following code seen needed b =
     cond (eqb (seen + 1) needed)
     (give (scalar (code * 64 + b % 64)))
     (continue (state (code * 64 + b % 64) (seen + 1) needed 0x80 0xbf))
 
 -- what comes after a reply, where `rest` comes from a state on
-unfoldable pub afterReply : Reply → (State → List Item) → List Item
+unfoldable pub afterReply : DecoderReply → (State → List Item) → List Item
 afterReply (give i) rest = i ∷ rest initial
 afterReply (continue s) rest = rest s
 
@@ -108,7 +108,7 @@ scalars bytes = map replaced (decode bytes)
 -- ---- the decoder's first item, and the place after the bytes that it took
 
 -- what comes after a reply to the byte at `at`, where `rest` comes from a state on
-unfoldable pub found : Reply → ℕ → (State → Char) → Char
+unfoldable pub found : DecoderReply → ℕ → (State → Char) → Char
 found (give (scalar c)) at rest = Code c (at + 1)
 found (give error) at rest = Error (at + 1)
 found (continue s) at rest = rest s

@@ -16,7 +16,7 @@ use Rattle.enc_utf_8.specs.Buffer.{Wrote, Laid, roomFor}
 use Rattle.enc_utf_8.specs.Utf8.{utf8Of, wellFormed, ValidTo, Stretch}
 use Rattle.enc_utf_8.proofs.Splices.{wrote-as}
 use Rattle.enc_utf_8.proofs.Lays.{Rest, rest-all, rest-room, rest-next, rest-end, laid-as, put-went, put-never, room-fits, room-over, count-all, wrote-laid, wrote-over}
-use Rattle.enc_utf_8_replacing.specs.Text.{decodeText}
+use Rattle.enc_utf_8_replacing.specs.Text.{decode8Text}
 use Rattle.enc_utf_8_replacing.specs.Step.{ScalarAt, TextAt}
 use Rattle.enc_utf_8_replacing.proofs.Texts.{text-formed, text-part, text-scalar, text-end, decode-some}
 
@@ -57,8 +57,8 @@ module _ (bytes : List ℕ) (at : ℕ) where
 
 -- ---- decoded_len
 
-module _ (bytes : List ℕ) (at used all : ℕ) (inv : used + length (decodeText (drop at bytes)) ≡ all) where
-  pub length-again : (size next : ℕ) → TextAt bytes at size next → used + size + length (decodeText (drop next bytes)) ≡ all
+module _ (bytes : List ℕ) (at used all : ℕ) (inv : used + length (decode8Text (drop at bytes)) ≡ all) where
+  pub length-again : (size next : ℕ) → TextAt bytes at size next → used + size + length (decode8Text (drop next bytes)) ≡ all
   length-again size next h = omega (arith, h .is)
 
   pub length-over : (size next room : ℕ) → TextAt bytes at size next → used ≤ room → room - used < size → Over ≡ roomFor all room
@@ -96,19 +96,19 @@ first-stretch bytes formed v = record {
   formed = let k : formed - 0 ≡ formed = omega arith in rw k (v .begins);
 }
 
-module _ (xs out bytes out₁ : List ℕ) (at from end to : ℕ) (q : Rest xs out at (decodeText (drop from bytes)) out₁ to) (f : Stretch bytes from end) where
+module _ (xs out bytes out₁ : List ℕ) (at from end to : ℕ) (q : Rest xs out at (decode8Text (drop from bytes)) out₁ to) (f : Stretch bytes from end) where
   pub part-room : to + length (take (end - from) (drop from bytes)) ≤ length out₁
-  part-room = rest-room (take (end - from) (drop from bytes)) (decodeText (drop end bytes)) q (text-part bytes from end f)
+  part-room = rest-room (take (end - from) (drop from bytes)) (decode8Text (drop end bytes)) q (text-part bytes from end f)
 
   module _ (n : ℕ) (out₂ : List ℕ) (l : Laid (take (end - from) (drop from bytes)) out₁ to n out₂) where
-    passed : Rest xs out at (decodeText (drop end bytes)) out₂ n
+    passed : Rest xs out at (decode8Text (drop end bytes)) out₂ n
     passed = rest-next q (text-part bytes from end f) l
 
     module _ (code next : ℕ) (s : ScalarAt bytes end code next) where
       pub scalar-room : n + length (utf8Of code) ≤ length out₂
-      scalar-room = rest-room (utf8Of code) (decodeText (drop next bytes)) passed (text-scalar bytes end code next s)
+      scalar-room = rest-room (utf8Of code) (decode8Text (drop next bytes)) passed (text-scalar bytes end code next s)
 
-      pub text-again : (m : ℕ) (out₃ : List ℕ) → Laid (utf8Of code) out₂ n m out₃ → Rest xs out at (decodeText (drop next bytes)) out₃ m
+      pub text-again : (m : ℕ) (out₃ : List ℕ) → Laid (utf8Of code) out₂ n m out₃ → Rest xs out at (decode8Text (drop next bytes)) out₃ m
       text-again m out₃ k = rest-next passed (text-scalar bytes end code next s) k
 
     pub text-done : length bytes ≤ end → Laid xs out at n out₂
@@ -120,24 +120,24 @@ text-less bytes end code next end′ s f h = omega (arith, s .later, s .within, 
 -- ---- decode
 
 module _ (bytes out : List ℕ) (at v : ℕ) (e : wellFormed bytes ≡ eqb v (length bytes)) where
-  pub decode-copied : (r : Put) (out₁ : List ℕ) → v ≡ length bytes → Wrote bytes out at r out₁ → Wrote (decodeText bytes) out at r out₁
+  pub decode-copied : (r : Put) (out₁ : List ℕ) → v ≡ length bytes → Wrote bytes out at r out₁ → Wrote (decode8Text bytes) out at r out₁
   decode-copied r out₁ h w = wrote-as (text-formed bytes (e ∙ eq-eqb v (length bytes) h)) w
 
 pub decode-room : (len room at : ℕ) (t : Bool) → at ≤ room → t ≡ leb len (room - at) → t ≡ true → at + len ≤ room
 decode-room len room at t h e q = omega (arith, leb-true len (room - at) (sym e ∙ q))
 
 module _ (bytes out : List ℕ) (at v : ℕ) (k : ValidTo bytes v) (n : v ≡ length bytes → ⊥) where
-  some : 0 < length (decodeText bytes)
+  some : 0 < length (decode8Text bytes)
   some = decode-some bytes (omega (arith, k .within, n))
 
-  pub decode-past : length out < at → Wrote (decodeText bytes) out at Full out
-  decode-past h = wrote-over (decodeText bytes) out at (omega arith) some
+  pub decode-past : length out < at → Wrote (decode8Text bytes) out at Full out
+  decode-past h = wrote-over (decode8Text bytes) out at (omega arith) some
 
-  module _ (t : Bool) (h : at ≤ length out) (e : t ≡ leb (length (decodeText bytes)) (length out - at)) where
-    pub decode-over : t ≡ false → Wrote (decodeText bytes) out at Full out
+  module _ (t : Bool) (h : at ≤ length out) (e : t ≡ leb (length (decode8Text bytes)) (length out - at)) where
+    pub decode-over : t ≡ false → Wrote (decode8Text bytes) out at Full out
     decode-over q =
-        let o = leb-false (length (decodeText bytes)) (length out - at) (sym e ∙ q) in
-        wrote-over (decodeText bytes) out at (omega arith) some
+        let o = leb-false (length (decode8Text bytes)) (length out - at) (sym e ∙ q) in
+        wrote-over (decode8Text bytes) out at (omega arith) some
 
-    pub decode-done : t ≡ true → (j : ℕ) (out₁ : List ℕ) → Laid (decodeText bytes) out at j out₁ → Wrote (decodeText bytes) out at (Next j) out₁
-    decode-done q j out₁ l = wrote-laid (decodeText bytes) out at (decode-room (length (decodeText bytes)) (length out) at t h e q) l
+    pub decode-done : t ≡ true → (j : ℕ) (out₁ : List ℕ) → Laid (decode8Text bytes) out at j out₁ → Wrote (decode8Text bytes) out at (Next j) out₁
+    decode-done q j out₁ l = wrote-laid (decode8Text bytes) out at (decode-room (length (decode8Text bytes)) (length out) at t h e q) l

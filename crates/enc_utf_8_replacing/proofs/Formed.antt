@@ -7,7 +7,7 @@ use native.Mathlib.Omega.{arith}
 use lib.ListN.{length}
 use lib.Dec.{leb, ltb, eqb, eqb·suc-zero}
 use borrow.Author.Tests.{leb-true, ltb-true, ltb-false, eqb-true, eqb-false}
-use Rattle.enc_utf_8.specs.Utf8.{Item, scalar, error, State, state, initial, Reply, give, continue, lowerOf, upperOf, leading, following, afterReply, decodeFrom, decode, noError, wellFormed, replaced, three, four, utf8Of}
+use Rattle.enc_utf_8.specs.Utf8.{Item, scalar, error, State, state, initial, DecoderReply, give, continue, lowerOf, upperOf, leading, following, afterReply, decodeFrom, decode, noError, wellFormed, replaced, three, four, utf8Of}
 use Rattle.enc_utf_8.proofs.Encodes.{utf8-one, utf8-two, utf8-three-low, utf8-three-high, utf8-four}
 
 never : {X : Type 0} → false ≡ true → X
@@ -24,7 +24,7 @@ join-if : (t : Bool) (is js ks ls tail : List Item) → (noError ks ≡ true →
 join-if true is js ks ls tail p q h = p h
 join-if false is js ks ls tail p q h = q h
 
-join-reply : (p : Reply) (xs ys : List ℕ) → ((s : State) → noError (decodeFrom s xs) ≡ true → decodeFrom s (xs ++ ys) ≡ decodeFrom s xs ++ decode ys)
+join-reply : (p : DecoderReply) (xs ys : List ℕ) → ((s : State) → noError (decodeFrom s xs) ≡ true → decodeFrom s (xs ++ ys) ≡ decodeFrom s xs ++ decode ys)
     → noError (afterReply p (λ s. decodeFrom s xs)) ≡ true → afterReply p (λ s. decodeFrom s (xs ++ ys)) ≡ afterReply p (λ s. decodeFrom s xs) ++ decode ys
 unfolding afterReply noError
 join-reply (give (scalar c)) xs ys k h = ap (λ (is : List Item). scalar c ∷ is) (k initial h)
@@ -280,10 +280,10 @@ module _ (n : ℕ) (ih : (cs : List ℕ) → length cs ≤ n → wellFormed cs �
       (ap (λ (r : List ℕ). x .byte ∷ r) (ap (λ (r : List ℕ). y .byte ∷ r) (sym (z .bytes)) ∙ sym (y .bytes)) ∙ sym (x .bytes))
 
   -- what a reply to the first byte leads to
-  abbrev Own : Reply → Type 0
+  abbrev Own : DecoderReply → Type 0
   Own p = noError (afterReply p (λ s. decodeFrom s bs)) ≡ true → textOf (afterReply p (λ s. decodeFrom s bs)) ≡ a ∷ bs
 
-  own-if : (k : ℕ) (p q : Reply) → (a < k → Own p) → (k ≤ a → Own q) → Own (cond (ltb a k) p q)
+  own-if : (k : ℕ) (p q : DecoderReply) → (a < k → Own p) → (k ≤ a → Own q) → Own (cond (ltb a k) p q)
   own-if k p q x y = by (ltb a k) refl
     where
       by : (t : Bool) → ltb a k ≡ t → Own (cond t p q)

@@ -1,4 +1,4 @@
--- Laws of the text of bytes: the only place that opens `decodeText`. Assumes nothing.
+-- Laws of the text of bytes: the only place that opens `decode8Text`. Assumes nothing.
 use mathlib.Core.Path.{_≡_, refl, sym, ap, _∙_}
 use mathlib.Core.Bool.{Bool, true, false, cond, _&&_}
 use mathlib.Core.List.{List, [], _∷_, _++_, append-assoc, flatMap, map}
@@ -10,11 +10,11 @@ use lib.Dec.{leb, ltb, eqb}
 use borrow.Author.Tests.{le-leb, ltb-true, ltb-false}
 use Rattle.enc_utf_8.specs.declared.Char.{Char}
 use Rattle.enc_utf_8.specs.declared.Char.the-variants.{Code, Error, End}
-use Rattle.enc_utf_8.specs.Utf8.{Item, scalar, error, State, state, initial, Reply, give, continue, lowerOf, upperOf, leading, following, afterReply, decodeFrom, decode, noError, wellFormed, replaced, scalars, utf8Of, nextAt, Stretch}
+use Rattle.enc_utf_8.specs.Utf8.{Item, scalar, error, State, state, initial, DecoderReply, give, continue, lowerOf, upperOf, leading, following, afterReply, decodeFrom, decode, noError, wellFormed, replaced, scalars, utf8Of, nextAt, Stretch}
 use Rattle.enc_utf_8.proofs.Encodes.{utf8-one, utf8-short, len-three}
 use Rattle.enc_utf_8.proofs.Items.{next-code, next-error, next-none, scalars-code, scalars-error}
 use Rattle.enc_utf_8.proofs.Trips.{formed-utf8}
-use Rattle.enc_utf_8_replacing.specs.Text.{decodeText}
+use Rattle.enc_utf_8_replacing.specs.Text.{decode8Text}
 use Rattle.enc_utf_8_replacing.specs.Step.{ScalarAt}
 use Rattle.enc_utf_8_replacing.proofs.Formed.{decode-join, formed-own}
 
@@ -26,31 +26,31 @@ items-append [] js = refl
 items-append (i ∷ is) js = rw (items-append is js, append-assoc)
 
 -- well-formed bytes are their own text
-pub text-formed : (bytes : List ℕ) → wellFormed bytes ≡ true → decodeText bytes ≡ bytes
-unfolding decodeText
+pub text-formed : (bytes : List ℕ) → wellFormed bytes ≡ true → decode8Text bytes ≡ bytes
+unfolding decode8Text
 text-formed bytes h = formed-own bytes h
 
 -- and what follows them is decoded as if it stood alone
-text-join : (xs ys : List ℕ) → wellFormed xs ≡ true → decodeText (xs ++ ys) ≡ xs ++ decodeText ys
-unfolding decodeText
+text-join : (xs ys : List ℕ) → wellFormed xs ≡ true → decode8Text (xs ++ ys) ≡ xs ++ decode8Text ys
+unfolding decode8Text
 text-join xs ys h =
     ap (λ (is : List Item). flatMap utf8Of (map replaced is)) (decode-join xs ys h)
     ∙ items-append (decode xs) (decode ys)
     ∙ rw (formed-own xs h)
 
-pub text-part : (bytes : List ℕ) (at e : ℕ) → Stretch bytes at e → decodeText (drop at bytes) ≡ take (e - at) (drop at bytes) ++ decodeText (drop e bytes)
+pub text-part : (bytes : List ℕ) (at e : ℕ) → Stretch bytes at e → decode8Text (drop at bytes) ≡ take (e - at) (drop at bytes) ++ decode8Text (drop e bytes)
 text-part bytes at e f =
     let k : at + (e - at) ≡ e = omega (arith, f .order) in
-    ap decodeText (sym (take-append-drop (e - at) (drop at bytes)))
+    ap decode8Text (sym (take-append-drop (e - at) (drop at bytes)))
     ∙ text-join (take (e - at) (drop at bytes)) (drop (e - at) (drop at bytes)) (f .formed)
-    ∙ ap (λ (l : List ℕ). take (e - at) (drop at bytes) ++ decodeText l) (drop-drop (e - at) at bytes ∙ ap (λ (n : ℕ). drop n bytes) k)
+    ∙ ap (λ (l : List ℕ). take (e - at) (drop at bytes) ++ decode8Text l) (drop-drop (e - at) at bytes ∙ ap (λ (n : ℕ). drop n bytes) k)
 
-pub text-scalar : (bytes : List ℕ) (at code next : ℕ) → ScalarAt bytes at code next → decodeText (drop at bytes) ≡ utf8Of code ++ decodeText (drop next bytes)
-unfolding decodeText flatMap
+pub text-scalar : (bytes : List ℕ) (at code next : ℕ) → ScalarAt bytes at code next → decode8Text (drop at bytes) ≡ utf8Of code ++ decode8Text (drop next bytes)
+unfolding decode8Text flatMap
 text-scalar bytes at code next s = ap (flatMap utf8Of) (s .is)
 
-pub text-end : (bytes : List ℕ) (at : ℕ) → length bytes ≤ at → decodeText (drop at bytes) ≡ []
-unfolding decodeText decodeFrom flatMap
+pub text-end : (bytes : List ℕ) (at : ℕ) → length bytes ≤ at → decode8Text (drop at bytes) ≡ []
+unfolding decode8Text decodeFrom flatMap
 text-end bytes at h = rw (drop-of-length-le bytes h)
 
 -- ---- the exits of `scalar_8`
@@ -108,7 +108,7 @@ module _ (bs : List ℕ) (ih : (s : State) → AtMost (room s bs) (decodeFrom s 
           (reply-if (ltb b 0xf0) _ _ (most-wider (omega arith) (ih (state (b % 16) 0 2 (lowerOf b) (upperOf b))))
           (reply-if (ltb b 0xf5) _ _ (most-wider (omega arith) (ih (state (b % 8) 0 3 (lowerOf b) (upperOf b)))) most-error)))
         where
-          reply-if : (t : Bool) (p q : Reply) → AtMost (3 + 3 * length bs) (afterReply p (λ s. decodeFrom s bs)) → AtMost (3 + 3 * length bs) (afterReply q (λ s. decodeFrom s bs))
+          reply-if : (t : Bool) (p q : DecoderReply) → AtMost (3 + 3 * length bs) (afterReply p (λ s. decodeFrom s bs)) → AtMost (3 + 3 * length bs) (afterReply q (λ s. decodeFrom s bs))
               → AtMost (3 + 3 * length bs) (afterReply (cond t p q) (λ s. decodeFrom s bs))
           reply-if true p q x y = x
           reply-if false p q x y = y
@@ -139,26 +139,26 @@ most (b ∷ bs) (state code seen needed lower upper) = by (λ s. most bs s) (eqb
         most-if (leb lower b && leb b upper) (most-wider (omega arith) (most-following bs ih code seen needed b e))
         (most-wider (omega arith) (most-cons 0xfffd (3 + 3 * length bs) 3 error _ refl replacement (most-leading bs ih b)))
 
-text-three : (bytes : List ℕ) → length (decodeText bytes) ≤ 3 * length bytes
-unfolding decodeText
+text-three : (bytes : List ℕ) → length (decode8Text bytes) ≤ 3 * length bytes
+unfolding decode8Text
 text-three bytes = omega (arith, most bytes initial .most)
 
-pub fits-short : (bytes : List ℕ) (room : ℕ) → length bytes ≤ room / 3 → true ≡ leb (length (decodeText bytes)) room
+pub fits-short : (bytes : List ℕ) (room : ℕ) → length bytes ≤ room / 3 → true ≡ leb (length (decode8Text bytes)) room
 fits-short bytes room h = sym (le-leb _ room (omega (arith, text-three bytes)))
 
 -- ---- the decoded text
 
-pub decode-long : (bytes : List ℕ) → length (decodeText bytes) ≤ 3 * length bytes
+pub decode-long : (bytes : List ℕ) → length (decode8Text bytes) ≤ 3 * length bytes
 decode-long bytes = text-three bytes
 
 -- some bytes give a text that is not empty
-pub decode-some : (bytes : List ℕ) → 0 < length bytes → 0 < length (decodeText bytes)
+pub decode-some : (bytes : List ℕ) → 0 < length bytes → 0 < length (decode8Text bytes)
 decode-some bytes h = by (nextAt bytes 0) refl
   where
-    some : (c e : ℕ) → ScalarAt bytes 0 c e → 0 < length (decodeText bytes)
+    some : (c e : ℕ) → ScalarAt bytes 0 c e → 0 < length (decode8Text bytes)
     some c e s = rw (text-scalar bytes 0 c e s, length-append) (omega (arith, utf8-short c .some))
 
-    by : (r : Char) → nextAt bytes 0 ≡ r → 0 < length (decodeText bytes)
+    by : (r : Char) → nextAt bytes 0 ≡ r → 0 < length (decode8Text bytes)
     by (Code c e) k = some c e (scalar-code bytes 0 (Code c e) (sym k) c e refl)
     by (Error e) k = some 0xfffd e (scalar-error bytes 0 (Error e) (sym k) e refl)
     by End k = absurd (omega (arith, next-none bytes 0 End (sym k) refl .past))
@@ -169,6 +169,6 @@ unfolding decodeFrom noError flatMap
 items-formed [] = refl
 items-formed (c ∷ cs) = formed-utf8 c (flatMap utf8Of cs) ∙ items-formed cs
 
-pub decode-formed : (bytes : List ℕ) → wellFormed (decodeText bytes) ≡ true
-unfolding decodeText
+pub decode-formed : (bytes : List ℕ) → wellFormed (decode8Text bytes) ≡ true
+unfolding decode8Text
 decode-formed bytes = items-formed (scalars bytes)

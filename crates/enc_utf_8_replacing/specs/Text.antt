@@ -4,5 +4,5 @@ use Prim.Native.Nat.{ℕ}
 use Rattle.enc_utf_8.specs.Utf8.{utf8Of, scalars}
 
 -- the text of some bytes: what the standard's decoder hands out, U+FFFD for each error, encoded in UTF-8; no byte order mark is looked for
-unfoldable pub decodeText : List ℕ → List ℕ
-decodeText bytes = flatMap utf8Of (scalars bytes)
+unfoldable pub decode8Text : List ℕ → List ℕ
+decode8Text bytes = flatMap utf8Of (scalars bytes)

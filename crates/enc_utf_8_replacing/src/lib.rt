@@ -5,7 +5,7 @@ ghost use lib.ListN.{length};
 ghost use lib.Dec.{leb};
 ghost use Rattle.enc_utf_8.specs.Buffer.{Wrote, Laid, roomFor};
 ghost use Rattle.enc_utf_8.specs.Utf8.{utf8Of, ValidTo, Stretch};
-ghost use Rattle.enc_utf_8_replacing.specs.Text.{decodeText};
+ghost use Rattle.enc_utf_8_replacing.specs.Text.{decode8Text};
 ghost use Rattle.enc_utf_8_replacing.specs.Step.{ScalarAt, TextAt};
 use enc_ascii::copy;
 use enc_utf_8::Char;
@@ -74,7 +74,7 @@ fn measure(bytes: &[u8], at: usize) -> Measured
 
 // The length of the text of some bytes, where it is at most the room.
 pub fn decoded_len(bytes: &[u8], room: usize) -> Room
-    ensures { λ r. ⌜ r ≡ roomFor (length (decodeText (now (bytes .entry)))) room ⌝ }
+    ensures { λ r. ⌜ r ≡ roomFor (length (decode8Text (now (bytes .entry)))) room ⌝ }
 {
     let mut used = 0;
     let mut at = 0;
@@ -91,7 +91,7 @@ pub fn decoded_len(bytes: &[u8], room: usize) -> Room
 
 // Whether the text of some bytes takes at most `room` bytes. No byte gives more than three, so a short text is not measured.
 fn fits_in(bytes: &[u8], room: usize) -> bool
-    ensures { λ r. ⌜ r ≡ leb (length (decodeText (now (bytes .entry)))) room ⌝ }
+    ensures { λ r. ⌜ r ≡ leb (length (decode8Text (now (bytes .entry)))) room ⌝ }
 {
     if bytes.len() <= room / 3 {
         return true;
@@ -129,8 +129,8 @@ fn put_scalar(code: u32, out: &mut [u8], at: usize) -> usize
 // Writes the text of some bytes, which fits. Their first `formed` bytes are known to be well-formed.
 fn put_text(bytes: &[u8], formed: usize, out: &mut [u8], at: usize) -> usize
     requires { ⌜ ValidTo (now bytes) formed ⌝ }
-    requires { ⌜ at + length (decodeText (now bytes)) ≤ length (now out) ⌝ }
-    ensures { λ r. ⌜ Laid (decodeText (now (bytes .entry))) (now (out .entry)) at r (now (out .exit)) ⌝ }
+    requires { ⌜ at + length (decode8Text (now bytes)) ≤ length (now out) ⌝ }
+    ensures { λ r. ⌜ Laid (decode8Text (now (bytes .entry))) (now (out .entry)) at r (now (out .exit)) ⌝ }
 {
     let mut from = 0;
     let mut end = formed;
@@ -147,7 +147,7 @@ fn put_text(bytes: &[u8], formed: usize, out: &mut [u8], at: usize) -> usize
 
 // Writes the text of some bytes from `at` on, all of it or nothing. An empty text fits anywhere; what is well-formed is its own text.
 pub fn decode(bytes: &[u8], out: &mut [u8], at: usize) -> Put
-    ensures { λ r. ⌜ Wrote (decodeText (now (bytes .entry))) (now (out .entry)) at r (now (out .exit)) ⌝ }
+    ensures { λ r. ⌜ Wrote (decode8Text (now (bytes .entry))) (now (out .entry)) at r (now (out .exit)) ⌝ }
 {
     let formed = valid_up_to(bytes);
     if formed == bytes.len() {

@@ -9,7 +9,7 @@ use lib.ListN.{length, getD, drop, drop-of-length-le}
 use lib.Seq.{drop-cons}
 use lib.Dec.{eqb, leb, ltb}
 use borrow.Author.Tests.{eq-eqb, ne-eqb, eqb-true, eqb-false, ltb-true, ltb-false, lt-ltb, le-ltb}
-use Rattle.enc_utf_8.specs.Utf8.{Item, scalar, error, State, state, initial, Reply, give, continue, lowerOf, upperOf, leading, following, afterReply, decodeFrom, decode, noError, wellFormed}
+use Rattle.enc_utf_8.specs.Utf8.{Item, scalar, error, State, state, initial, DecoderReply, give, continue, lowerOf, upperOf, leading, following, afterReply, decodeFrom, decode, noError, wellFormed}
 use Rattle.enc_utf_8_rows.specs.Rows.{afterLead, afterDue, rowOf, errors, RowFor, own, never}
 use Rattle.enc_utf_8_rows.proofs.Fields.{from-start, from-error, from-one, from-two, from-three, from-e0, from-ed, from-f0, from-f4}
 
@@ -32,10 +32,10 @@ data Along (whole : Bool) (s : ℕ) (rest : List ℕ) : Type 0 where
 -- ---- the first byte of a code point
 
 module _ (w : Bool) (b : ℕ) (bs : List ℕ) where
-  abbrev Then : Reply → Type 0
+  abbrev Then : DecoderReply → Type 0
   Then p = w ≡ noError (afterReply p (λ s. decodeFrom s bs))
 
-  along-if : (t : Bool) (p q : Reply) (x y : ℕ) → (t ≡ true → Then p → Along w x bs) → (t ≡ false → Then q → Along w y bs) → Then (cond t p q) → Along w (cond t x y) bs
+  along-if : (t : Bool) (p q : DecoderReply) (x y : ℕ) → (t ≡ true → Then p → Along w x bs) → (t ≡ false → Then q → Along w y bs) → Then (cond t p q) → Along w (cond t x y) bs
   along-if true p q x y f g h = f refl h
   along-if false p q x y f g h = g refl h
 

@@ -23,28 +23,28 @@ use Rattle.enc_windows_1252.specs.declared.Byte.{Byte}
 use Rattle.enc_windows_1252.specs.declared.Byte.the-variants.{Is, None}
 use Rattle.enc_windows_1252.specs.Index.{byteOf}
 use Rattle.enc_windows_1252.specs.Text.{decimal, reference, bytesBy, encodeCode, encodeText}
-use Rattle.enc_windows_1252_encoder.specs.Step.{Taken, AsciiTo}
+use Rattle.enc_windows_1252_encoder.specs.Step.{TakenFrom, AsciiTo}
 use Rattle.enc_windows_1252.proofs.Indexes.{byte-low}
 use Rattle.enc_windows_1252.proofs.Decimals.{decimal-digit, decimal-more}
 use Rattle.enc_utf_8.proofs.Lays.{laid-one, laid-two, laid-last, laid-long, laid-then, laid-as, last-room, Rest, rest-room, rest-next, rest-end, put-went, put-never, room-fits, room-over, count-part, count-over, count-fits, wrote-laid, wrote-over}
 
 -- ---- scalar_at
 
-taken-item : (i : Item) {text : List ℕ} {at e : ℕ} → Begins i text at e → Taken text at (replaced i) e
+taken-item : (i : Item) {text : List ℕ} {at e : ℕ} → Begins i text at e → TakenFrom text at (replaced i) e
 unfolding encodeText flatMap
 taken-item i b = record { later = b .past; within = b .within; is = rw (b .decodes) }
 
-pub taken-ascii : (text : List ℕ) (at : ℕ) → at < length text → getD text at 0 < 0x80 → Taken text at (getD text at 0) (at + 1)
+pub taken-ascii : (text : List ℕ) (at : ℕ) → at < length text → getD text at 0 < 0x80 → TakenFrom text at (getD text at 0) (at + 1)
 taken-ascii text at l a = taken-item (scalar (getD text at 0)) (next-code text at (Code (getD text at 0) (at + 1)) (next-one text at l a) (getD text at 0) (at + 1) refl)
 
 module _ (text : List ℕ) (at : ℕ) (r : Char) (h : r ≡ nextAt text at) where
-  pub taken-code : (c e : ℕ) → r ≡ Code c e → Taken text at c e
+  pub taken-code : (c e : ℕ) → r ≡ Code c e → TakenFrom text at c e
   taken-code c e q = taken-item (scalar c) (next-code text at r h c e q)
 
-  pub taken-error : (e : ℕ) → r ≡ Error e → Taken text at 0xfffd e
+  pub taken-error : (e : ℕ) → r ≡ Error e → TakenFrom text at 0xfffd e
   taken-error e q = taken-item error (next-error text at r h e q)
 
-  pub taken-never : (c e : ℕ) → at < length text → r ≡ End → Taken text at c e
+  pub taken-never : (c e : ℕ) → at < length text → r ≡ End → TakenFrom text at c e
   taken-never c e l q = absurd (omega (arith, next-none text at r h q .past))
 
 encode-end : (text : List ℕ) (at : ℕ) → length text ≤ at → encodeText (drop at text) ≡ []
@@ -136,7 +136,7 @@ module _ (text : List ℕ) (n : ℕ) (a : AsciiTo text n) where
 -- ---- encoded_len
 
 module _ (text : List ℕ) (i n all : ℕ) (inv : n + length (encodeText (drop i text)) ≡ all) where
-  module _ (c e k : ℕ) (t : Taken text i c e) (q : k ≡ length (encodeCode c)) where
+  module _ (c e k : ℕ) (t : TakenFrom text i c e) (q : k ≡ length (encodeCode c)) where
     pub encode-part : n + k + length (encodeText (drop e text)) ≡ all
     encode-part = count-part n all _ inv (encodeCode c) (encodeText (drop e text)) (t .is) k q
 
@@ -194,7 +194,7 @@ module _ (c at : ℕ) (out : List ℕ) (h : at + length (reference c) ≤ length
 -- ---- put_from
 
 module _ (xs out text out₁ : List ℕ) (at i n : ℕ) (q : Rest xs out at (encodeText (drop i text)) out₁ n) where
-  module _ (c e : ℕ) (t : Taken text i c e) where
+  module _ (c e : ℕ) (t : TakenFrom text i c e) where
     pub codes-room : n + length (encodeCode c) ≤ length out₁
     codes-room = rest-room (encodeCode c) (encodeText (drop e text)) q (t .is)
 

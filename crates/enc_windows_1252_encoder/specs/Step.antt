@@ -8,7 +8,7 @@ use Rattle.enc_ascii.specs.Ascii.{isAscii}
 use Rattle.enc_windows_1252.specs.Text.{encodeCode, encodeText}
 
 -- the scalar value c of a text at the place `at`, with the place e after it, as the encoder takes it
-pub record Taken (text : List ℕ) (at c e : ℕ) : Type 0 where
+pub record TakenFrom (text : List ℕ) (at c e : ℕ) : Type 0 where
   pub later : at < e
   pub within : e ≤ length text
   pub is : encodeText (drop at text) ≡ encodeCode c ++ encodeText (drop e text)

@@ -4,7 +4,7 @@ ghost use Prim.Native.Nat.{_+_, _<_, _≤_};
 ghost use lib.ListN.{length, drop};
 ghost use Rattle.enc_utf_8.specs.Buffer.{Wrote, Laid, roomFor};
 ghost use Rattle.enc_windows_1252.specs.Text.{decimal, reference, encodeCode, encodeText};
-ghost use Rattle.enc_windows_1252_encoder.specs.Step.{AsciiTo, Taken};
+ghost use Rattle.enc_windows_1252_encoder.specs.Step.{AsciiTo, TakenFrom};
 use enc_ascii::copy;
 use enc_ascii::is_ascii;
 use enc_utf_8::Char;
@@ -41,7 +41,7 @@ struct Scalar {
 // The code point at `at`, as the UTF-8 decoder reads it. An ill-formed part is U+FFFD.
 fn long_scalar_at(text: &[u8], at: usize) -> Scalar
     requires { ⌜ at < length (now text) ⌝ }
-    ensures { λ r. ⌜ Taken (now (text .entry)) at (r .code) (r .next) ⌝ }
+    ensures { λ r. ⌜ TakenFrom (now (text .entry)) at (r .code) (r .next) ⌝ }
 {
     match next(text, at) {
         Char::Code(code, end) => Scalar { code, next: end },
@@ -60,7 +60,7 @@ fn long_scalar_at(text: &[u8], at: usize) -> Scalar
 // The code point at `at`. ASCII is told first.
 fn scalar_at(text: &[u8], at: usize) -> Scalar
     requires { ⌜ at < length (now text) ⌝ }
-    ensures { λ r. ⌜ Taken (now (text .entry)) at (r .code) (r .next) ⌝ }
+    ensures { λ r. ⌜ TakenFrom (now (text .entry)) at (r .code) (r .next) ⌝ }
 {
     let first = text[at];
     if first < 0x80 {

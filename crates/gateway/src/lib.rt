@@ -41,21 +41,21 @@ pub extern "C" fn gateway_windows_1252_encode(text: &[u8], out: &mut [u8]) -> u6
 
 #[no_mangle]
 pub extern "C" fn gateway_utf_16_decode(bytes: &[u8], out: &mut [u8], at: usize) -> u64
-    ensures { λ r. ⌜ WroteAs (utf16Decode.decodeText (now (bytes .entry))) (now (out .entry)) at r (now (out .exit)) ⌝ }
+    ensures { λ r. ⌜ WroteAs (utf16Decode.decode16Text (now (bytes .entry))) (now (out .entry)) at r (now (out .exit)) ⌝ }
 {
     gateway_codes::place(enc_utf_16_decoder::decode(bytes, out, at))
 }
 
 #[no_mangle]
 pub extern "C" fn gateway_utf_16_encode(text: &[u8], out: &mut [u8]) -> u64
-    ensures { λ r. ⌜ WroteAs (utf16Encode.encodeText (now (text .entry))) (now (out .entry)) 0 r (now (out .exit)) ⌝ }
+    ensures { λ r. ⌜ WroteAs (utf16Encode.encode16Text (now (text .entry))) (now (out .entry)) 0 r (now (out .exit)) ⌝ }
 {
     gateway_codes::place(enc_utf_16_encoder::encode(text, out))
 }
 
 #[no_mangle]
 pub extern "C" fn gateway_utf_8_decode(bytes: &[u8], out: &mut [u8], at: usize) -> u64
-    ensures { λ r. ⌜ WroteAs (utf8.decodeText (now (bytes .entry))) (now (out .entry)) at r (now (out .exit)) ⌝ }
+    ensures { λ r. ⌜ WroteAs (utf8.decode8Text (now (bytes .entry))) (now (out .entry)) at r (now (out .exit)) ⌝ }
 {
     gateway_codes::place(enc_utf_8_replacing::decode(bytes, out, at))
 }

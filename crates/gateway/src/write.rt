@@ -4,7 +4,7 @@ ghost use mathlib.Core.Bool.{true};
 ghost use lib.ListN.{length};
 ghost use Rattle.type_book.specs.Book.{isType};
 ghost use Rattle.type_book_check.specs.Check.{ValidBook};
-ghost use Rattle.ser.specs.Write.{ctx};
+ghost use Rattle.ser.specs.Write.{writeCtx};
 ghost use Rattle.type_book_check.specs.Given.{name as byName};
 ghost use Rattle.ser.specs.Call.{bookWrite, writeCall, givenWrite};
 ghost use Rattle.gateway.specs.Calls.{WriteGiven};
@@ -65,7 +65,7 @@ pub extern "C" fn gateway_write_in<'a>(
     values: &mut [u64],
 ) -> u8
     requires { ⌜ ValidBook (now book) × (isType (now book) root ≡ true) ⌝ }
-    ensures { λ r. ⌜ WriteGiven (bookWrite (ctx (now (book .entry)) width (now (tape .entry)) (now (text .entry))) root (length (now (output .entry))) (now (image .entry))) (now (image .entry)) (now (output .entry)) (now (values .entry)) r (now (output .exit)) (now (values .exit)) ⌝ }
+    ensures { λ r. ⌜ WriteGiven (bookWrite (writeCtx (now (book .entry)) width (now (tape .entry)) (now (text .entry))) root (length (now (output .entry))) (now (image .entry))) (now (image .entry)) (now (output .entry)) (now (values .entry)) r (now (output .exit)) (now (values .exit)) ⌝ }
 {
     give_write(
         ser::serializer::write_in(book, index, width, root, image, tape, text, output),

@@ -23,7 +23,7 @@ use Rattle.type_cache.specs.Append.{additionRefusal, isKnown, hasRoom, appendRe
 use Rattle.type_cache.proofs.Appends.{refused-cut, refused-addition, refused-known, refused-none, refused-room, append-refused, append-done}
 use Rattle.type_cache.proofs.Adds.{Grown, grown}
 use Rattle.gateway_appending.specs.declared.Growth.the-variants.{Entered, Loose, Refused}
-use Rattle.gateway_appending.specs.Growth.{appendedOf, trustAfter, goesOn, GoesIs, IndexIs, AppendedBy}
+use Rattle.gateway_appending.specs.Growth.{appendedOf, trustAfter, staysTrusted, GoesIs, IndexIs, AppendedBy}
 
 -- ---- the refusal
 
@@ -49,14 +49,14 @@ module _ (buffer : List ℕ) (len : ℕ) (d : List ℕ) (b : checkBook buffer le
 -- ---- the call
 
 -- only an index that is known to lead to every type goes on, and it takes the new one
-on-held : (t : Trust) (longer index : List ℕ) (n : ℕ) → true ≡ goesOn t longer index n → t ≡ trust.Held
-unfolding goesOn
+on-held : (t : Trust) (longer index : List ℕ) (n : ℕ) → true ≡ staysTrusted t longer index n → t ≡ trust.Held
+unfolding staysTrusted
 on-held trust.Held longer index n e = refl
 on-held trust.Unknown longer index n e = absurd (let z : _≡_ {A = ℕ} 0 1 = cc in omega arith)
 on-held trust.Foreign longer index n e = absurd (let z : _≡_ {A = ℕ} 0 1 = cc in omega arith)
 
-on-takes : (t : Trust) (longer index : List ℕ) (n : ℕ) → true ≡ goesOn t longer index n → takes longer index n ≡ true
-unfolding goesOn
+on-takes : (t : Trust) (longer index : List ℕ) (n : ℕ) → true ≡ staysTrusted t longer index n → takes longer index n ≡ true
+unfolding staysTrusted
 on-takes trust.Held longer index n e = sym e
 on-takes trust.Unknown longer index n e = absurd (let z : _≡_ {A = ℕ} 0 1 = cc in omega arith)
 on-takes trust.Foreign longer index n e = absurd (let z : _≡_ {A = ℕ} 0 1 = cc in omega arith)
@@ -101,12 +101,12 @@ module _ (buffer : List ℕ) (len : ℕ) (d : List ℕ) (b : checkBook buffer le
 
       module _ (index : List ℕ) (t : Trust) (k : Trusted (take len buffer) index t) (index′ : List ℕ) where
         module _ (g : GoesIs t (take l after) index (len / 512) true index′) where
-          on : true ≡ goesOn t (book ++ d) index (blocks book)
+          on : true ≡ staysTrusted t (book ++ d) index (blocks book)
           on = rw (← once-book, ← once-block) (g .answer)
 
           is : index′ ≡ withLast (book ++ d) index (blocks book)
           is =
-              let q : index′ ≡ cond (goesOn t (book ++ d) index (blocks book)) (withLast (book ++ d) index (blocks book)) index =
+              let q : index′ ≡ cond (staysTrusted t (book ++ d) index (blocks book)) (withLast (book ++ d) index (blocks book)) index =
               rw (← once-book, ← once-block) (g .numbers) in
               q ∙ rw (← on)
 

@@ -19,7 +19,7 @@ use Rattle.type_index_grow.specs.Grow.{LastIs}
 use Rattle.type_cache.specs.Append.{isKnown}
 use Rattle.type_cache.proofs.Appends.{known-at, known-not}
 use Rattle.gateway_appending.specs.declared.Growth.{Growth}
-use Rattle.gateway_appending.specs.Growth.{trustOf, goesOn, GoesIs, AppendedBy}
+use Rattle.gateway_appending.specs.Growth.{trustOf, staysTrusted, GoesIs, AppendedBy}
 
 module _ (book name : List ℕ) (r : Found) (f : FoundBy book name r) where
   pub known-by : (n : ℕ) → r ≡ At n → true ≡ isKnown book name
@@ -52,15 +52,15 @@ module _ (held : ℕ) where
 -- ---- whether the index goes on
 module _ (t : Trust) (longer index : List ℕ) (n : ℕ) where
   pub goes-held : t ≡ trust.Held → (r : Bool) (index′ : List ℕ) → LastIs longer index n r index′ → GoesIs t longer index n r index′
-  unfolding goesOn
+  unfolding staysTrusted
   goes-held e r index′ l = record { answer = rw e (l .answer); numbers = rw e (l .numbers) }
 
   pub goes-unknown : t ≡ trust.Unknown → GoesIs t longer index n false index
-  unfolding goesOn
+  unfolding staysTrusted
   goes-unknown e = record { answer = sym (rw e); numbers = sym (rw e) }
 
   pub goes-foreign : t ≡ trust.Foreign → GoesIs t longer index n false index
-  unfolding goesOn
+  unfolding staysTrusted
   goes-foreign e = record { answer = sym (rw e); numbers = sym (rw e) }
 
 -- ---- what is so of the index by what the caller says is so by what is known of it, and the other way round

@@ -46,15 +46,15 @@ trustAfter t (Loose n) = trust.Foreign
 trustAfter t (Refused n) = t
 
 -- an index that leads to every type of the book goes on where it takes the new one, block n of the longer book
-unfoldable pub goesOn : Trust → List ℕ → List ℕ → ℕ → Bool
-goesOn trust.Held longer index n = takes longer index n
-goesOn trust.Unknown longer index n = false
-goesOn trust.Foreign longer index n = false
+unfoldable pub staysTrusted : Trust → List ℕ → List ℕ → ℕ → Bool
+staysTrusted trust.Held longer index n = takes longer index n
+staysTrusted trust.Unknown longer index n = false
+staysTrusted trust.Foreign longer index n = false
 
 -- whether it goes on, and every number of it then
 pub record GoesIs (t : Trust) (longer index : List ℕ) (n : ℕ) (r : Bool) (index′ : List ℕ) : Type 0 where
-  pub answer : r ≡ goesOn t longer index n
-  pub numbers : index′ ≡ cond (goesOn t longer index n) (withLast longer index n) index
+  pub answer : r ≡ staysTrusted t longer index n
+  pub numbers : index′ ≡ cond (staysTrusted t longer index n) (withLast longer index n) index
 
 -- the index goes on or is as before, as the answer says; a refusal leaves it as before
 unfoldable pub IndexIs : Trust → List ℕ → List ℕ → ℕ → Growth → List ℕ → Type 0

@@ -44,9 +44,9 @@ use Rattle.ser_leaf.specs.Leaf as leaf
 use Rattle.ser.specs.declared.array_writer.Entered.{Entered}
 use Rattle.ser.specs.declared.array_writer.Entered.the-variants as entered
 use Rattle.tape_array_elements.specs.Element.{Content, whole, further, shapeAt, elementItem, elementCheck}
-use Rattle.ser.specs.Write.{Ctx, ctx, Outcome, went, refused, _then_, Child, placed, takenBy, taken, endRecordBy, leafEnd, leafOf, checked, fieldValue, foundValue, keyBy, keyOf, keysFrom, mapBy, mapOf, elementsFrom, elementsBy, dimensionOf, elementType, enteredBy, enteredAt, arrayBy, arrayOf, valueBy, itemWalk, walk}
+use Rattle.ser.specs.Write.{WriteCtx, writeCtx, Outcome, went, refused, _thenWrites_, ChildWrite, placed, takenBy, taken, endRecordBy, leafEnd, leafWrite, checkedWrite, fieldWrite, foundValue, keyBy, keyOf, keysFrom, mapBy, mapWrite, elementsWrite, elementsBy, dimensionWrite, elementType, enteredBy, enteredAt, arrayWriteBy, arrayWrite, valueBy, itemWrite, writeWalk}
 use Rattle.tape_form.specs.Form.{formed}
-use Rattle.ser.specs.Call.{typeWrite, rootBy, rootWrite, bookWrite, writeCall, answerOf, writeNumbers}
+use Rattle.ser.specs.Call.{typeWrite, rootWriteBy, rootWrite, bookWrite, writeCall, writeAnswerOf, writeNumbers}
 use Rattle.ser.specs.declared.WriteAnswer.the-variants.{NotFound}
 use Rattle.ser.specs.declared.WriteAnswer.the-variants as writing
 use Rattle.gateway_write_answers.specs.Answers.{among, refusals, Numbered}
@@ -66,8 +66,8 @@ fine-went at bytes = record { is = refl }
 fine-refused : (n b : ℕ) (bytes : List ℕ) → among n refusals ≡ true → Fine (refused n b bytes)
 fine-refused n b bytes h = record { is = h }
 
-fine-then : (o : Outcome) (f : Cursor → List ℕ → Outcome) → Fine o → ((at : Cursor) (bytes : List ℕ) → Fine (f at bytes)) → Fine (o then f)
-unfolding _then_
+fine-then : (o : Outcome) (f : Cursor → List ℕ → Outcome) → Fine o → ((at : Cursor) (bytes : List ℕ) → Fine (f at bytes)) → Fine (o thenWrites f)
+unfolding _thenWrites_
 fine-then (went at bytes) f p q = q at bytes
 fine-then (refused n b bytes) f p q = fine-refused n b bytes (p .is)
 
@@ -165,21 +165,21 @@ mild-fine next bytes (leaf.refused n) p = fine-refused n 0 bytes (p .each n refl
 
 -- ---- the walk
 
-checked-fine : (f : FieldsCheck) (bytes : List ℕ) (o : Outcome) → Fine o → Fine (checked f bytes o)
-unfolding checked checkNumbers
+checked-fine : (f : FieldsCheck) (bytes : List ℕ) (o : Outcome) → Fine o → Fine (checkedWrite f bytes o)
+unfolding checkedWrite checkNumbers
 checked-fine check.Fine bytes o p = p
 checked-fine (check.NotFound b) bytes o p = fine-refused 7 b bytes is-7
 checked-fine check.TooLong bytes o p = fine-refused 8 0 bytes is-8
 
 module _ (book : List ℕ) (width : ℕ) (tape text : List ℕ) where
-  abbrev c : Ctx
-  c = ctx book width tape text
+  abbrev c : WriteCtx
+  c = writeCtx book width tape text
 
   -- ---- with what is written at one level less
 
-  module _ (child : Child) (ih : (i : Content ℕ) (at : Cursor) (bytes : List ℕ) → Fine (child i at bytes)) where
-    field-fine : (at : Cursor) (bytes : List ℕ) (f : FieldAnswer) → Fine (fieldValue child at bytes f)
-    unfolding fieldValue fieldNumbers
+  module _ (child : ChildWrite) (ih : (i : Content ℕ) (at : Cursor) (bytes : List ℕ) → Fine (child i at bytes)) where
+    field-fine : (at : Cursor) (bytes : List ℕ) (f : FieldAnswer) → Fine (fieldWrite child at bytes f)
+    unfolding fieldWrite fieldNumbers
     field-fine at bytes (answer.Field f) =
         fine-cond (leb (f .offset + f .size) (length bytes)) _ _ (fine-placed _ _ bytes _ (ih (whole (f .resolved)) at _)) (fine-refused 10 0 bytes is-10)
     field-fine at bytes (answer.NotFound b) = fine-refused 7 b bytes is-7
@@ -208,20 +208,20 @@ module _ (book : List ℕ) (width : ℕ) (tape text : List ℕ) where
     map-by t n at bytes shape.Array = fine-refused 17 0 bytes is-17
     map-by t n at bytes shape.Leaf = fine-refused 17 0 bytes is-17
 
-    map-fine : (t n : ℕ) (at : Cursor) (bytes : List ℕ) → Fine (mapOf child c t n at bytes)
-    unfolding mapOf
+    map-fine : (t n : ℕ) (at : Cursor) (bytes : List ℕ) → Fine (mapWrite child c t n at bytes)
+    unfolding mapWrite
     map-fine t n at bytes = map-by t n at bytes (shapeAt (c .book) (c .width) t)
 
-    elements-from : (i : Content ℕ) (stride n x from k : ℕ) (at : Cursor) (bytes : List ℕ) → Fine (elementsFrom child c i stride n x from k at bytes)
-    unfolding elementsFrom
+    elements-from : (i : Content ℕ) (stride n x from k : ℕ) (at : Cursor) (bytes : List ℕ) → Fine (elementsWrite child c i stride n x from k at bytes)
+    unfolding elementsWrite
     elements-from i stride n x from zero at bytes = fine-cond (ltb x n) _ _ (fine-refused 17 0 bytes is-17) (fine-end tape at 2 bytes)
     elements-from i stride n x from (suc k) at bytes =
         fine-cond (ltb x n) _ _
         (fine-then _ _ (fine-placed from stride bytes _ (ih i at _)) (elements-from i stride n (x + 1) (from + stride) k))
         (fine-refused 17 0 bytes is-17)
 
-    dimension-fine : (d t e : ℕ) (at : Cursor) (bytes : List ℕ) → Fine (dimensionOf child c d t e at bytes)
-    unfolding dimensionOf elementsBy
+    dimension-fine : (d t e : ℕ) (at : Cursor) (bytes : List ℕ) → Fine (dimensionWrite child c d t e at bytes)
+    unfolding dimensionWrite elementsBy
     dimension-fine d t e at bytes =
         checked-fine (elementCheck book width d t e) bytes _
         (fine-taken tape at bytes _ (λ r next.
@@ -230,47 +230,47 @@ module _ (book : List ℕ) (width : ℕ) (tape text : List ℕ) where
         (fine-refused 17 0 bytes is-17)))
 
     -- what an array comes to before its first dimension
-    entered-cond : (t : ℕ) (at : Cursor) (bytes : List ℕ) (b : Bool) (x : Entered) → Fine (arrayBy child c t at bytes x)
-        → Fine (arrayBy child c t at bytes (cond b x (entered.Stop 10 0)))
-    unfolding arrayBy
+    entered-cond : (t : ℕ) (at : Cursor) (bytes : List ℕ) (b : Bool) (x : Entered) → Fine (arrayWriteBy child c t at bytes x)
+        → Fine (arrayWriteBy child c t at bytes (cond b x (entered.Stop 10 0)))
+    unfolding arrayWriteBy
     entered-cond t at bytes true x p = p
     entered-cond t at bytes false x p = fine-refused 10 0 bytes is-10
 
-    element-fine : (t : ℕ) (at : Cursor) (bytes : List ℕ) (r : Resolved) → Fine (arrayBy child c t at bytes (elementType book t (length bytes) r))
-    unfolding elementType arrayBy resolvedNumbers
+    element-fine : (t : ℕ) (at : Cursor) (bytes : List ℕ) (r : Resolved) → Fine (arrayWriteBy child c t at bytes (elementType book t (length bytes) r))
+    unfolding elementType arrayWriteBy resolvedNumbers
     element-fine t at bytes (resolved.Base e) = entered-cond t at bytes (eqb (arrayBytes book t e) (length bytes)) _ (dimension-fine 0 t e at bytes)
     element-fine t at bytes (resolved.NotFound b) = fine-refused 7 b bytes is-7
     element-fine t at bytes resolved.TooLong = fine-refused 8 0 bytes is-8
 
-    array-by : (t : ℕ) (at : Cursor) (bytes : List ℕ) (s : Shape) → Fine (arrayBy child c t at bytes (enteredBy book width t (length bytes) s))
-    unfolding enteredBy arrayBy
+    array-by : (t : ℕ) (at : Cursor) (bytes : List ℕ) (s : Shape) → Fine (arrayWriteBy child c t at bytes (enteredBy book width t (length bytes) s))
+    unfolding enteredBy arrayWriteBy
     array-by t at bytes shape.Array = entered-cond t at bytes (eqb (length bytes) (sizeOf book t)) _ (element-fine t at bytes (lookUp book width t))
     array-by t at bytes shape.Map = fine-refused 17 0 bytes is-17
     array-by t at bytes shape.Leaf = fine-refused 17 0 bytes is-17
 
-    array-fine : (t : ℕ) (at : Cursor) (bytes : List ℕ) → Fine (arrayOf child c t at bytes)
-    unfolding arrayOf enteredAt
+    array-fine : (t : ℕ) (at : Cursor) (bytes : List ℕ) → Fine (arrayWrite child c t at bytes)
+    unfolding arrayWrite enteredAt
     array-fine t at bytes = array-by t at bytes (shapeOf (categoryOf book width t))
 
-    leaf-fine : (t : ℕ) (r : Record) (next : Cursor) (bytes : List ℕ) → Fine (leafOf book width text t r next bytes)
-    unfolding leafOf
+    leaf-fine : (t : ℕ) (r : Record) (next : Cursor) (bytes : List ℕ) → Fine (leafWrite book width text t r next bytes)
+    unfolding leafWrite
     leaf-fine t r next bytes = mild-fine next bytes _ (mild-leaf book width t bytes (categoryOf book width t) r text)
 
-    item-fine : (i : Content ℕ) (at : Cursor) (bytes : List ℕ) → Fine (itemWalk child c i at bytes)
-    unfolding itemWalk valueBy
+    item-fine : (i : Content ℕ) (at : Cursor) (bytes : List ℕ) → Fine (itemWrite child c i at bytes)
+    unfolding itemWrite valueBy
     item-fine (whole t) at bytes =
         fine-taken tape at bytes _ (λ r next.
         fine-cond (eqb (r .kind) 1) _ _ (array-fine t at bytes)
         (fine-cond (eqb (r .kind) 3) _ _ (map-fine t (r .a) next bytes) (leaf-fine t r next bytes)))
     item-fine (further d t e) at bytes = dimension-fine d t e at bytes
 
-  walk-fine : (left : ℕ) (i : Content ℕ) (at : Cursor) (bytes : List ℕ) → Fine (walk c left i at bytes)
-  unfolding walk
+  walk-fine : (left : ℕ) (i : Content ℕ) (at : Cursor) (bytes : List ℕ) → Fine (writeWalk c left i at bytes)
+  unfolding writeWalk
   walk-fine zero i at bytes = fine-refused 16 0 bytes is-16
-  walk-fine (suc left) i at bytes = item-fine (walk c left) (walk-fine left) i at bytes
+  walk-fine (suc left) i at bytes = item-fine (writeWalk c left) (walk-fine left) i at bytes
 
-  root-by : (image : List ℕ) (r : Resolved) → Fine (rootBy c image r)
-  unfolding rootBy typeWrite resolvedNumbers
+  root-by : (image : List ℕ) (r : Resolved) → Fine (rootWriteBy c image r)
+  unfolding rootWriteBy typeWrite resolvedNumbers
   root-by image (resolved.Base t) = walk-fine 64 (whole t) (record { at = 0 }) image
   root-by image (resolved.NotFound b) = fine-refused 7 b image is-7
   root-by image resolved.TooLong = fine-refused 8 0 image is-8
@@ -331,7 +331,7 @@ numbered : (o : Outcome) → Fine o → Numbered o
 unfolding writeNumbers
 numbered (went at bytes) p = record { nought = λ e. refl; told = λ e. false-true (sym e) }
 numbered (refused n b bytes) p =
-    let t : among (refusalOf (writeNumbers (answerOf (refused n b bytes)))) refusals ≡ true = refused-told n b (eqb n 7) (p .is) in
+    let t : among (refusalOf (writeNumbers (writeAnswerOf (refused n b bytes)))) refusals ≡ true = refused-told n b (eqb n 7) (p .is) in
     record { nought = λ e. absurd (none (rw e at t)); told = λ e. t }
 
 -- of any call
@@ -341,5 +341,5 @@ call-numbered buffer len width n image room tape text = numbered _ (call-fine bu
 
 -- of a call on a checked book
 pub book-numbered : (book : List ℕ) (width : ℕ) (tape text : List ℕ) (n room : ℕ) (image : List ℕ)
-    → Numbered (bookWrite (ctx book width tape text) n room image)
+    → Numbered (bookWrite (writeCtx book width tape text) n room image)
 book-numbered book width tape text n room image = numbered _ (book-fine book width tape text n room image)

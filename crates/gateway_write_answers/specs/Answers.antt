@@ -7,7 +7,7 @@ use lib.Dec.{eqb}
 use Rattle.ser.specs.Write.{Outcome, went, refused}
 use Rattle.enc_number.specs.Answer.{refusalOf}
 use Rattle.enc_number.specs.Refusals as refusal
-use Rattle.ser.specs.Call.{writeNumbers, answerOf}
+use Rattle.ser.specs.Call.{writeNumbers, writeAnswerOf}
 
 -- the numbers of a write's refusals
 abbrev pub refusals : List ℕ
@@ -27,5 +27,5 @@ isWritten (refused n b bytes) = false
 
 -- the number 0 says that something was written, and a refusal has one of the numbers
 pub record Numbered (o : Outcome) : Type 0 where
-  pub nought : refusalOf (writeNumbers (answerOf o)) ≡ 0 → isWritten o ≡ true
-  pub told : isWritten o ≡ false → among (refusalOf (writeNumbers (answerOf o))) refusals ≡ true
+  pub nought : refusalOf (writeNumbers (writeAnswerOf o)) ≡ 0 → isWritten o ≡ true
+  pub told : isWritten o ≡ false → among (refusalOf (writeNumbers (writeAnswerOf o))) refusals ≡ true

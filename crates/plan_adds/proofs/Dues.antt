@@ -9,8 +9,8 @@ use Rattle.type_book.specs.Book.{isType, fieldsOf}
 use Rattle.type_category.specs.declared.type_category.AdsTypeCategory.{AdsTypeCategory}
 use Rattle.type_category.specs.Category.{categoryOf}
 use Rattle.resolvers.specs.Resolve.{goesOn}
-use Rattle.resolve_walk_scratch.specs.declared.Parts.{Parts}
-use Rattle.resolve_walk_scratch.specs.declared.Parts.the-variants as parts
+use Rattle.resolve_walk_scratch.specs.declared.ScratchParts.{ScratchParts}
+use Rattle.resolve_walk_scratch.specs.declared.ScratchParts.the-variants as parts
 use Rattle.resolve_walk_scratch.specs.Parts.{partsKind}
 use Rattle.closure.specs.Calls.{Ours}
 use Rattle.plan_adds.specs.declared.Fetched.{Fetched}
@@ -27,7 +27,7 @@ module _ (book : List ℕ) (i : ℕ) (category : AdsTypeCategory) (t : Bool) (e 
   unfolding dueType
   due-alias h = rw (← e, h)
 
-  module _ (h : t ≡ false) (k : Parts) (ek : k ≡ partsKind category) where
+  module _ (h : t ≡ false) (k : ScratchParts) (ek : k ≡ partsKind category) where
     onward : dueType book i category ≡ dueParts book i k
     unfolding dueType
     onward = rw (← e, h, ← ek)

@@ -13,8 +13,8 @@ use Rattle.type_category.specs.Category.{categoryOf}
 use Rattle.type_cache.specs.Append.{appendRefusal}
 use Rattle.type_cache.specs.Same.{definitionOf}
 use Rattle.resolvers.specs.Resolve.{goesOn}
-use Rattle.resolve_walk_scratch.specs.declared.Parts.{Parts}
-use Rattle.resolve_walk_scratch.specs.declared.Parts.the-variants as parts
+use Rattle.resolve_walk_scratch.specs.declared.ScratchParts.{ScratchParts}
+use Rattle.resolve_walk_scratch.specs.declared.ScratchParts.the-variants as parts
 use Rattle.resolve_walk_scratch.specs.Parts.{partsKind}
 use Rattle.closure.specs.Calls.{Ours, bookOf, add, next}
 use Rattle.plan_adds.specs.declared.Due.{Due}
@@ -65,7 +65,7 @@ passing (lacks b s) = s
 passing (room s) = s
 
 -- a type block by the kind of its parts: an array's own block names its element type; the fields of a struct are due after it
-unfoldable pub dueParts : List ℕ → ℕ → Parts → Due
+unfoldable pub dueParts : List ℕ → ℕ → ScratchParts → Due
 dueParts book i parts.Element = Names 0
 dueParts book i parts.Fields = Rest (fieldsOf book i)
 dueParts book i parts.Nothing = Rest 0

@@ -10,7 +10,7 @@ ghost use Rattle.type_book_check.specs.Check.{ValidBook};
 ghost use Rattle.plan_adds.specs.Adds.{ours, addListed, dueType, dueOf, sweep as sweepOf, addAll};
 ghost use Rattle.plan_adds.specs.State.{Ready, FetchedIs, AddedIs, SweptIs, SweepIs};
 use plan_type_adds::append_in;
-use resolve_walk_scratch::Parts;
+use resolve_walk_scratch::ScratchParts;
 use resolve_walk_scratch::parts_of;
 use resolvers::goes_on;
 use type_book::block;
@@ -142,9 +142,9 @@ fn due_type(book: &[u8], i: u32, category: AdsTypeCategory) -> Due
     }
     let kind = parts_of(category);
     match kind {
-        Parts::Element => Due::Names(0),
-        Parts::Fields => Due::Rest(block::fields(book, i)),
-        Parts::Nothing => Due::Rest(0),
+        ScratchParts::Element => Due::Names(0),
+        ScratchParts::Fields => Due::Rest(block::fields(book, i)),
+        ScratchParts::Nothing => Due::Rest(0),
     }
 }
 

@@ -18,8 +18,8 @@ use Rattle.resolvers.specs.declared.Resolved.{Resolved}
 use Rattle.resolvers.specs.declared.Resolved.the-variants.{Base, NotFound, TooLong}
 use Rattle.resolvers.specs.Resolve.{isFollowed, chainOnward, resolveAlias}
 use Rattle.resolvers.proofs.Chains.{found-type, follow-ends, follow-breaks}
-use Rattle.resolve_walk_scratch.specs.declared.Parts.{Parts}
-use Rattle.resolve_walk_scratch.specs.declared.Parts.the-variants as parts
+use Rattle.resolve_walk_scratch.specs.declared.ScratchParts.{ScratchParts}
+use Rattle.resolve_walk_scratch.specs.declared.ScratchParts.the-variants as parts
 use Rattle.resolve_walk_scratch.specs.Parts.{partsKind, blocksAfter, partsIn, partsOf}
 use Rattle.resolve_walk.specs.Walk.{Walk, over, full, met, comesTo, push, meet, walk, walkOf}
 use Rattle.resolve_walk.specs.Reads.{listed}
@@ -61,7 +61,7 @@ module _ (book : List ℕ) (width : ℕ) (v : ValidBook book) where
   unfolding partsOf partsIn
   parts-below t y b m = by (partsKind (categoryOf book width t)) m
     where
-      by : (k : Parts) → List·Memᴰ b (partsIn book t k) → b < blocks book
+      by : (k : ScratchParts) → List·Memᴰ b (partsIn book t k) → b < blocks book
       by parts.Element m = let q : b ≡ t = List·Memᴰ·eq-of-singleton m in omega (arith, type-below t y)
       by parts.Fields m = omega (arith, in-after t (fieldsOf book t) b m, valid-type book v t y .room)
       by parts.Nothing m = absurd (List·Memᴰ·not-nil m)

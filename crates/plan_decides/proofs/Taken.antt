@@ -15,8 +15,8 @@ use Rattle.type_cache.proofs.Definitions.{SameType, same-sym, same-type}
 use Rattle.type_cache.proofs.Joins.{rest-other, join-old, join-kept}
 use Rattle.resolvers.specs.Resolve.{goesOn, isFollowed}
 use Rattle.resolvers.proofs.Chains.{followed-alias}
-use Rattle.resolve_walk_scratch.specs.declared.Parts.{Parts}
-use Rattle.resolve_walk_scratch.specs.declared.Parts.the-variants as parts
+use Rattle.resolve_walk_scratch.specs.declared.ScratchParts.{ScratchParts}
+use Rattle.resolve_walk_scratch.specs.declared.ScratchParts.the-variants as parts
 use Rattle.resolve_walk_scratch.specs.Parts.{partsKind, blocksAfter, partsIn, partsOf}
 use Rattle.plan_adds.specs.declared.Due.{Due}
 use Rattle.plan_adds.specs.declared.Due.the-variants.{Names, Rest}
@@ -43,7 +43,7 @@ true-apart e = let z : _≡_ {A = ℕ} 0 1 = cc in absurd (omega arith)
 kind-apart : {X : Type 0} → parts.Nothing ≡ parts.Fields → X
 kind-apart e = let z : _≡_ {A = ℕ} 0 1 = cc in absurd (omega arith)
 
-rest-parts : (book : List ℕ) (i : ℕ) (k : Parts) → restOf (dueParts book i k) ≤ fieldsOf book i
+rest-parts : (book : List ℕ) (i : ℕ) (k : ScratchParts) → restOf (dueParts book i k) ≤ fieldsOf book i
 unfolding dueParts
 rest-parts book i parts.Element = omega arith
 rest-parts book i parts.Fields = omega arith
@@ -185,12 +185,12 @@ module _ (book : List ℕ) (width : ℕ) (v : ValidBook book) where
     unfolding partsOf partsIn
     parts-taken b m = by (partsKind (categoryOf book width t)) refl m
       where
-        by : (k : Parts) → partsKind (categoryOf book width t) ≡ k → List·Memᴰ b (partsIn book t k) → Taken book width b
+        by : (k : ScratchParts) → partsKind (categoryOf book width t) ≡ k → List·Memᴰ b (partsIn book t k) → Taken book width b
         by parts.Element e m = let q : b ≡ t = List·Memᴰ·eq-of-singleton m in rw q (element-taken e)
         by parts.Fields e m = let r = in-after (fieldsOf book t) b m in field-taken e b (r .0) (r .1)
         by parts.Nothing e m = absurd (List·Memᴰ·not-nil m)
 
-parts-same : (a b : List ℕ) (i : ℕ) → fieldsOf a i ≡ fieldsOf b i → (k : Parts) → dueParts a i k ≡ dueParts b i k
+parts-same : (a b : List ℕ) (i : ℕ) → fieldsOf a i ≡ fieldsOf b i → (k : ScratchParts) → dueParts a i k ≡ dueParts b i k
 unfolding dueParts
 parts-same a b i e parts.Element = refl
 parts-same a b i e parts.Fields = ap Rest e

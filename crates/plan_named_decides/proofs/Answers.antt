@@ -29,7 +29,7 @@ use Rattle.resolve_missing_types.specs.Needs.{Defined}
 use Rattle.closure.specs.Calls.{Ours, bookOf, add, next}
 use Rattle.closure.proofs.Bases.{Base, base-add, add-none, add-longer, add-added}
 use Rattle.closure.proofs.Asks.{Theirs}
-use Rattle.closure_named.specs.Named.{Premises, NamedClosed}
+use Rattle.closure_named.specs.Named.{NamedPremises, NamedClosed}
 use Rattle.closure_named.proofs.Lacks.{given-found, given-lacks, sound-at}
 use Rattle.closure_named.proofs.Nothing.{name-formed}
 use Rattle.plan_adds.specs.Adds.{on, appendOf, fetchBy}
@@ -86,7 +86,7 @@ module _ (c : List ℕ) (width : ℕ) (name : List ℕ) (formed : isRootName nam
         closed = a .closed;
       }
 
-module _ (c : List ℕ) (width : ℕ) (name : List ℕ) (s : Ours) (sc : List ℕ) (p : Premises c width name s []) (h : scratchFits sc ≡ true) where
+module _ (c : List ℕ) (width : ℕ) (name : List ℕ) (s : Ours) (sc : List ℕ) (p : NamedPremises c width name s []) (h : scratchFits sc ≡ true) where
   w : Theirs c width name
   w = record { valid = p .theirs-valid; few = p .few; short = p .short }
 

@@ -12,7 +12,7 @@ use Rattle.type_book_check.specs.Check.{checkBook}
 use Rattle.resolve_walk.specs.Scratch.{scratchFits}
 use Rattle.closure.specs.Calls.{Ours}
 use Rattle.closure.specs.Demand.{BlockReached}
-use Rattle.closure_named.specs.Named.{Premises, NamedClosed}
+use Rattle.closure_named.specs.Named.{NamedPremises, NamedClosed}
 use Rattle.plan_save.specs.Rounds.{decided}
 use Rattle.plan_save.specs.Call.{outcomeOurs}
 use Rattle.plan_decides.specs.Made.{Extends}
@@ -29,7 +29,7 @@ pub record NamedDecides (c : List ℕ) (width : ℕ) (name : List ℕ) (s : Ours
 
 -- the claim: the premises are those of demand 3 from nothing
 unfoldable pub PlanNamedDecides : Type 0
-PlanNamedDecides = (c : List ℕ) (width : ℕ) (name : List ℕ) (s : Ours) (sc : List ℕ) → Premises c width name s [] → scratchFits sc ≡ true
+PlanNamedDecides = (c : List ℕ) (width : ℕ) (name : List ℕ) (s : Ours) (sc : List ℕ) → NamedPremises c width name s [] → scratchFits sc ≡ true
     → NamedDecides c width name s sc
 
 -- the claim: in every outcome, a refusal too, a valid book of ours stays one, and is the old one, or the old one with whole definitions after it;

@@ -13,7 +13,7 @@ use Rattle.enc_utf_8.specs.Buffer.{splice, fitsIn}
 use Rattle.enc_utf_8.specs.declared.Put.{Put}
 use Rattle.enc_utf_8.specs.declared.Put.the-variants.{Next, Full}
 use Rattle.enc_utf_8.proofs.Splices.{splice-none, splice-start, length-splice, splice-both, fitsIn-then, unfitsIn-then, next-full, went, stored-1}
-use Rattle.print_figures.specs.Puts.{placeAfter, over, Puts, ClearedEnd, Printed}
+use Rattle.print_figures.specs.Puts.{laidAfter, over, Puts, ClearedEnd, Printed}
 
 -- ---- as many as there is room for
 
@@ -39,8 +39,8 @@ unfits-more (x ∷ xs) ys at room f = take-append-le (room - at) (x ∷ xs) ys (
 
 -- ---- nothing, and one byte
 
-none-by : (p : Put) (room : ℕ) → p ≡ placeAfter p [] room
-unfolding placeAfter fitsIn
+none-by : (p : Put) (room : ℕ) → p ≡ laidAfter p [] room
+unfolding laidAfter fitsIn
 none-by (Next at) room = let e : at + 0 ≡ at = omega arith in rw e
 none-by Full room = refl
 
@@ -53,18 +53,18 @@ pub puts-none : {out : List ℕ} {p : Put} → Puts [] out p p out
 puts-none {out} {p} = record { answer = none-by p (length out); buffer = none-over p out }
 
 pub puts-full : {xs out : List ℕ} {p : Put} → p ≡ Full → Puts xs out p Full out
-unfolding placeAfter over
+unfolding laidAfter over
 puts-full {xs} {out} {p} e = record { answer = rw e; buffer = rw e }
 
 module _ (b : ℕ) (out : List ℕ) (p : Put) (at : ℕ) (e : p ≡ Next at) where
   pub byte-over : length out ≤ at → Puts (b ∷ []) out p Full out
-  unfolding placeAfter over fitsIn
+  unfolding laidAfter over fitsIn
   byte-over h =
       let z : length out - at ≡ 0 = omega arith in
       record { answer = rw (e, lt-leb (at + 1) (length out) (omega arith)); buffer = rw (e, z) (sym (splice-none out at)) }
 
   pub byte-put : at < length out → Puts (b ∷ []) out p (Next (at + 1)) (set out at b)
-  unfolding placeAfter over
+  unfolding laidAfter over
   byte-put h =
       let w = went (stored-1 out at b (omega arith)) refl in
       record { answer = rw (e, w .fits); buffer = rw (e, fits-all (b ∷ []) at (length out) (w .fits)) (w .buffer) }
@@ -74,7 +74,7 @@ module _ (b : ℕ) (out : List ℕ) (p : Put) (at : ℕ) (e : p ≡ Next at) whe
 module _ (xs ys out out₁ out₂ : List ℕ) (r : Put) where
   then-by : (at : ℕ) (q : Put) (f : Bool) → fitsIn xs at (length out) ≡ f → q ≡ cond f (Next (at + length xs)) Full → out₁ ≡ splice out at (take (length out - at) xs)
       → Puts ys out₁ q r out₂ → Puts (xs ++ ys) out (Next at) r out₂
-  unfolding placeAfter over
+  unfolding laidAfter over
   then-by at q true f e w b =
       let v : out₁ ≡ splice out at xs = w ∙ ap (splice out at) (fits-all xs at (length out) f) in
       let l : length out₁ ≡ length out = ap length v ∙ length-splice out xs at f in
@@ -97,7 +97,7 @@ module _ (xs ys out out₁ out₂ : List ℕ) (r : Put) where
       }
 
   chain-by : (p q : Put) → Puts xs out p q out₁ → Puts ys out₁ q r out₂ → Puts (xs ++ ys) out p r out₂
-  unfolding placeAfter over
+  unfolding laidAfter over
   chain-by (Next at) q a b = then-by at q (fitsIn xs at (length out)) refl (a .answer) (a .buffer) b
   chain-by Full q a b = record { answer = b .answer ∙ rw (a .answer); buffer = b .buffer ∙ ap (λ (p : Put). over p ys out₁) (a .answer) ∙ a .buffer }
 
@@ -162,5 +162,5 @@ module _ (xs out out₁ out₂ : List ℕ) (q r : Put) (b : ClearedEnd q out₁ 
 
 -- the whole, from the buffer's start on
 pub printed : (xs : List ℕ) {out out₁ out₂ : List ℕ} {q r : Put} → Puts xs out (Next 0) q out₁ → length out₁ ≡ length out → ClearedEnd q out₁ r out₂ → Printed xs out r out₂
-unfolding placeAfter over
+unfolding laidAfter over
 printed xs {out} {out₁} {out₂} {q} {r} a l b = whole-by xs out out₁ out₂ q r b (fitsIn xs 0 (length out)) refl (a .answer) (a .buffer) l

@@ -10,9 +10,9 @@ use Rattle.enc_utf_8.specs.declared.Put.{Put}
 use Rattle.enc_utf_8.specs.declared.Put.the-variants.{Next, Full}
 
 -- the place after `xs`, from a place on in a buffer of `room` bytes; or that they do not fit, now or before
-unfoldable pub placeAfter : Put → List ℕ → ℕ → Put
-placeAfter (Next at) xs room = cond (fitsIn xs at room) (Next (at + length xs)) Full
-placeAfter Full xs room = Full
+unfoldable pub laidAfter : Put → List ℕ → ℕ → Put
+laidAfter (Next at) xs room = cond (fitsIn xs at room) (Next (at + length xs)) Full
+laidAfter Full xs room = Full
 
 -- what the buffer holds then: `xs` laid over it, as many of them as there is room for; where an earlier byte did not fit, nothing more
 unfoldable pub over : Put → List ℕ → List ℕ → List ℕ
@@ -21,7 +21,7 @@ over Full xs out = out
 
 -- what a function that puts `xs` promises
 pub record Puts (xs out : List ℕ) (p r : Put) (out′ : List ℕ) : Type 0 where
-  pub answer : r ≡ placeAfter p xs (length out)
+  pub answer : r ≡ laidAfter p xs (length out)
   pub buffer : out′ ≡ over p xs out
 
 -- what is left to do after the last byte: where not all fit, the buffer becomes zeros

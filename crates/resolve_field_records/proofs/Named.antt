@@ -23,7 +23,7 @@ use Rattle.resolve_field_types.specs.Calls.{fieldsAnswer, givenFields}
 use Rattle.resolve_field_types.proofs.Numbers.{fields-says}
 use Rattle.resolve_field_types.proofs.Fields.{field-number}
 use Rattle.resolve_field_types.proofs.Records.{done-fit, fields-by-number}
-use Rattle.resolve_field_records.specs.declared.ResolvedField.{ResolvedField as Rec}
+use Rattle.resolve_field_records.specs.declared.FieldRecord.{FieldRecord as Rec}
 use Rattle.resolve_field_records.specs.Stored.{AllResolvable, storedCount, filledAt, storedAt, StoredIs}
 use Rattle.resolve_field_records.specs.Named.{rootBlock, Checked, checkedFields, GivenStoredIs}
 use Rattle.resolve_field_records.proofs.Stored.{filled-stored}

@@ -16,7 +16,7 @@ use Rattle.type_book_check.specs.Check.{bookNumbers, checkBook, rootOf, checkRo
 use Rattle.type_book_check.specs.Check.{atRoot}
 use Rattle.resolvers.proofs.Calls.{root-room, root-book, root-type}
 use Rattle.resolve_field_types.specs.declared.ResolvedField.{ResolvedField}
-use Rattle.resolve_field_records.specs.declared.ResolvedField.{ResolvedField as Rec}
+use Rattle.resolve_field_records.specs.declared.FieldRecord.{FieldRecord as Rec}
 use Rattle.resolve_field_types.specs.declared.FieldAnswer.{FieldAnswer}
 use Rattle.resolve_field_types.specs.declared.FieldAnswer.the-variants as answer
 use Rattle.resolve_field_types.specs.declared.FieldsAnswer.{FieldsAnswer}

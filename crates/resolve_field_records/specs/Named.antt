@@ -12,7 +12,7 @@ use Rattle.type_book_check.specs.declared.GivenRoot.the-variants.{Block, Lackin
 use Rattle.resolve_field_types.specs.declared.FieldsAnswer.{FieldsAnswer}
 use Rattle.resolve_field_types.specs.declared.FieldsAnswer.the-variants as fields
 use Rattle.resolve_field_types.specs.Calls.{fieldsNumbers, fieldsAnswer, givenFields}
-use Rattle.resolve_field_records.specs.declared.ResolvedField.{ResolvedField}
+use Rattle.resolve_field_records.specs.declared.FieldRecord.{FieldRecord}
 use Rattle.resolve_field_records.specs.Stored.{storedAt}
 
 -- the block that a root stands for, 0 where it stands for none: then no record is stored
@@ -32,6 +32,6 @@ unfoldable pub checkedFields : List ℕ → ℕ → ℕ → GivenRoot → ℕ �
 checkedFields buffer len width root room = atGiven fields.Refused (fields.NotFound lackingRoot) (λ t. fieldsAnswer (take len buffer) width t room) root
 
 -- what is answered, and what the lent slice of records holds then. `StoredIs` is its instance for a number
-pub record GivenStoredIs (buffer : List ℕ) (len width : ℕ) (root : Given) (before : List ResolvedField) (r : FieldsAnswer) (after : List ResolvedField) : Type 0 where
+pub record GivenStoredIs (buffer : List ℕ) (len width : ℕ) (root : Given) (before : List FieldRecord) (r : FieldsAnswer) (after : List FieldRecord) : Type 0 where
   pub is : fieldsNumbers r ≡ fieldsNumbers (givenFields buffer len width root (length before))
   pub records : after ≡ storedAt buffer len width (rootBlock (checkGiven buffer len root)) (givenFields buffer len width root (length before)) before

@@ -18,7 +18,7 @@ use type_book_check::check_root_named;
 
 // A field whose type is resolved: offset and size as its block says, the block of its type with its aliases resolved, and its own block.
 #[repr(C)]
-pub struct ResolvedField {
+pub struct FieldRecord {
     pub offset: u32,
     pub size: u32,
     pub type_block: u32,
@@ -45,23 +45,23 @@ fn index_of(buffer: &[u8], len: usize) -> [u32; 16384] {
     index
 }
 
-fn record_of(answer: FieldAnswer) -> ResolvedField
+fn record_of(answer: FieldAnswer) -> FieldRecord
     ensures { λ r. ⌜ r ≡ resolvedRecord answer ⌝ }
 {
     match answer {
-        FieldAnswer::Field(x) => ResolvedField {
+        FieldAnswer::Field(x) => FieldRecord {
             offset: x.offset,
             size: x.size,
             type_block: x.resolved,
             field_block: x.field,
         },
-        FieldAnswer::NotFound(_) => ResolvedField {
+        FieldAnswer::NotFound(_) => FieldRecord {
             offset: 0,
             size: 0,
             type_block: 0,
             field_block: 0,
         },
-        FieldAnswer::TooLong => ResolvedField {
+        FieldAnswer::TooLong => FieldRecord {
             offset: 0,
             size: 0,
             type_block: 0,
@@ -78,7 +78,7 @@ fn record_at(
     width: u8,
     root: u64,
     i: usize,
-) -> ResolvedField
+) -> FieldRecord
     requires { ⌜ Resolvable (now buffer) len width root i ⌝ }
     ensures { λ r. ⌜ r ≡ recordAt (now (buffer .entry)) len width root i ⌝ }
 {
@@ -95,7 +95,7 @@ fn fill_records(
     width: u8,
     root: u64,
     n: usize,
-    records: &mut [ResolvedField],
+    records: &mut [FieldRecord],
 )
     requires { ⌜ AllResolvable (now buffer) len width root n × (n ≤ length (now records)) ⌝ }
     ensures { λ _. ⌜ now (records .exit) ≡ filledAt (now (buffer .entry)) len width root n (now (records .entry)) ⌝ }
@@ -113,7 +113,7 @@ pub fn resolve_fields(
     len: usize,
     width: u8,
     root: u64,
-    records: &mut [ResolvedField],
+    records: &mut [FieldRecord],
 ) -> FieldsAnswer
     ensures { λ r. ⌜ StoredIs (now (buffer .entry)) len width root (now (records .entry)) r (now (records .exit)) ⌝ }
 {
@@ -163,7 +163,7 @@ pub fn resolve_fields_named(
     len: usize,
     width: u8,
     name: &[u8],
-    records: &mut [ResolvedField],
+    records: &mut [FieldRecord],
 ) -> FieldsAnswer
     ensures { λ r. ⌜ GivenStoredIs (now (buffer .entry)) len width (byName (now (name .entry))) (now (records .entry)) r (now (records .exit)) ⌝ }
 {

@@ -17,14 +17,14 @@ use Rattle.resolve_walk.specs.Scratch.{scratchFits, listFits}
 use Rattle.resolve_walk.proofs.Zeros.{zeros-again}
 use Rattle.resolve_missing_types.specs.declared.Missing.{Missing}
 use Rattle.resolve_missing_types.specs.declared.Missing.the-variants as missing
-use Rattle.resolve_missing_types.specs.Calls.{missingFits, missingAnswer, missingCall, missingList, Walked, MissingIn, MissingIs}
+use Rattle.resolve_missing_types.specs.Calls.{missingFits, missingAnswer, missingCall, missingList, WalkedTo, MissingIn, MissingIs}
 use Rattle.resolve_missing_types.specs.State.{Learned}
 use Rattle.resolve_missing_types.proofs.Numbers.{missing-says}
 
 -- ---- a book that was checked: the scratch is cleared before the walk and after it
 
 pub missing-done : (book : List ℕ) (width t : ℕ) (sc sc₁ : List ℕ) → sc₁ ≡ replicate (length sc) 0 → (sc₂ : List ℕ) → length sc₂ ≡ length sc₁ → {sc₃ : List ℕ} → sc₃ ≡ replicate (length sc₂) 0
-    → {list list′ : List ℕ} {r : Missing} → Walked book width t list r list′ → MissingIn true book width t sc list r sc₃ list′
+    → {list list′ : List ℕ} {r : Missing} → WalkedTo book width t list r list′ → MissingIn true book width t sc list r sc₃ list′
 missing-done book width t sc sc₁ z sc₂ e y w = record { answer = missing-says _ _ (w .answer); scratch = zeros-again sc sc₁ z sc₂ e y; blocks = w .blocks }
 
 -- ---- what is known of the index

@@ -17,7 +17,7 @@ use Rattle.resolve_missing_types.specs.declared.Missing.{Missing}
 use Rattle.resolve_missing_types.specs.declared.Missing.the-variants as missing
 use Rattle.resolve_missing_types.specs.Calls.{missingFits, missingAnswer, missingCall, missingList, MissingIn, MissingIs}
 use Rattle.resolve_missing_types.specs.State.{OneMore}
-use Rattle.resolve_missing_types.specs.Given.{lackingAnswer, lackingList, LackingIn, givenMissing, GivenMissingIs}
+use Rattle.resolve_missing_types.specs.Given.{lackingAnswer, lackingList, MissingLackingIn, givenMissing, GivenMissingIs}
 use Rattle.resolve_missing_types.proofs.Numbers.{missing-says}
 
 -- ---- a name that the book lacks
@@ -32,24 +32,24 @@ pub lacking-room : (g : Bool) → not g ≡ false → (list : List ℕ) → g �
 lacking-room g h list e = let p = leb-true 4096 (length list) (sym e ∙ not-false g h) in omega arith
 
 module _ (index sc list : List ℕ) where
-  short : missingFits index sc list ≡ false → LackingIn (missingFits index sc list) sc list (missing.Refused 6) sc list
+  short : missingFits index sc list ≡ false → MissingLackingIn (missingFits index sc list) sc list (missing.Refused 6) sc list
   unfolding lackingAnswer lackingList
   short h = record { answer = missing-says _ _ (rw h); scratch = rw h; blocks = rw h }
 
   module _ (i : Bool) (ei : i ≡ indexFits index) where
-    pub lacking-index : not i ≡ true → LackingIn (missingFits index sc list) sc list (missing.Refused 6) sc list
+    pub lacking-index : not i ≡ true → MissingLackingIn (missingFits index sc list) sc list (missing.Refused 6) sc list
     lacking-index h = short (rw (sym ei ∙ not-true i h))
 
     module _ (b : not i ≡ false) (g : Bool) (e : g ≡ scratchFits sc) where
-      pub lacking-scratch : not g ≡ true → LackingIn (missingFits index sc list) sc list (missing.Refused 6) sc list
+      pub lacking-scratch : not g ≡ true → MissingLackingIn (missingFits index sc list) sc list (missing.Refused 6) sc list
       lacking-scratch h = short (rw (sym ei ∙ not-false i b, sym e ∙ not-true g h))
 
       module _ (s : not g ≡ false) (k : Bool) (q : k ≡ listFits list) where
-        pub lacking-list : not k ≡ true → LackingIn (missingFits index sc list) sc list (missing.Refused 6) sc list
+        pub lacking-list : not k ≡ true → MissingLackingIn (missingFits index sc list) sc list (missing.Refused 6) sc list
         lacking-list h = short (rw (sym ei ∙ not-false i b, sym e ∙ not-false g s, sym q ∙ not-true k h))
 
         pub lacking-fits : not k ≡ false → {sc′ : List ℕ} → sc′ ≡ replicate (length sc) 0 → (n : ℕ) {list′ : List ℕ} → OneMore list 0 lackingRoot n list′
-            → LackingIn (missingFits index sc list) sc list (missing.Listed n true 1) sc′ list′
+            → MissingLackingIn (missingFits index sc list) sc list (missing.Listed n true 1) sc′ list′
         unfolding lackingAnswer lackingList
         lacking-fits h z n o =
             rw (sym ei ∙ not-false i b, sym e ∙ not-false g s, sym q ∙ not-false k h, o .count)
@@ -67,7 +67,7 @@ module _ (buffer : List ℕ) (len : ℕ) (root : Given) (k : GivenRoot) (e : k �
         blocks = given-at-refused (λ n. list) _ _ k e n h;
       }
 
-  pub given-missing-lacking : k ≡ given.Lacking → {sc′ list′ : List ℕ} {r : Missing} → LackingIn (missingFits index sc list) sc list r sc′ list′
+  pub given-missing-lacking : k ≡ given.Lacking → {sc′ list′ : List ℕ} {r : Missing} → MissingLackingIn (missingFits index sc list) sc list r sc′ list′
       → GivenMissingIs buffer len index width root sc list r sc′ list′
   unfolding givenMissing
   given-missing-lacking h q =

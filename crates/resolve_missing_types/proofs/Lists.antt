@@ -15,13 +15,13 @@ use Rattle.resolve_walk_events.specs.declared.Event.the-variants.{Old, New, Ful
 use Rattle.resolve_walk_events.specs.declared.Event.the-variants as event
 use Rattle.resolve_walk.specs.Walk.{Walk, met, walkOf}
 use Rattle.resolve_walk.specs.Reads.{names, count, listed, whole}
-use Rattle.resolve_walk.specs.State.{LeftToWalk, After, Falls, Due, IsDue, work, Stepped, Started}
+use Rattle.resolve_walk.specs.State.{LeftToWalk, After, Falls, DueAfter, IsDue, work, Stepped, Started}
 use Rattle.resolve_walk.proofs.States.{step-due, due-as, due-new, due-lacking, due-long, over-is}
 use Rattle.resolve_missing_types.specs.declared.Turn.{Turn}
 use Rattle.resolve_missing_types.specs.declared.Turn.the-variants as turn
 use Rattle.resolve_missing_types.specs.declared.Missing.the-variants as missing
-use Rattle.resolve_missing_types.specs.State.{OneMore, Reading, Pending, pend, Now, Stopped, Then, Less, Applied}
-use Rattle.resolve_missing_types.specs.Calls.{Walked, missingAnswer, missingList}
+use Rattle.resolve_missing_types.specs.State.{OneMore, ReadSoFar, Pending, pend, MissingNow, Stopped, MissingThen, LessWork, Applied}
+use Rattle.resolve_missing_types.specs.Calls.{WalkedTo, missingAnswer, missingList}
 
 -- ---- a walk's readings, event by event
 
@@ -171,7 +171,7 @@ module _ (book : List ℕ) (width root : ℕ) (list₀ list : List ℕ) (n : ℕ
   long-list : length (listed (walkOf book width root)) ≡ n
   long-list = ap length l ∙ length-take-le n list h
 
-  answers : (c : ℕ) (b : Bool) → count (walkOf book width root) ≡ c → whole (walkOf book width root) ≡ b → Walked book width root list₀ (missing.Listed n b c) list
+  answers : (c : ℕ) (b : Bool) → count (walkOf book width root) ≡ c → whole (walkOf book width root) ≡ b → WalkedTo book width root list₀ (missing.Listed n b c) list
   unfolding missingAnswer missingList
   answers c b ec eb =
       record {
@@ -180,7 +180,7 @@ module _ (book : List ℕ) (width root : ℕ) (list₀ list : List ℕ) (n : ℕ
       }
 
 module _ (book : List ℕ) (width root : ℕ) {list₀ list : List ℕ} {n : ℕ} where
-  pub walk-ends : {sc : List ℕ} {left depth : ℕ} {ok : Bool} → Now book width (walkOf book width root) list₀ sc list left depth n ok → depth ≤ 0 → 4096 ≤ length list₀ → Walked book width root list₀ (missing.Listed n ok (4096 - left)) list
+  pub walk-ends : {sc : List ℕ} {left depth : ℕ} {ok : Bool} → MissingNow book width (walkOf book width root) list₀ sc list left depth n ok → depth ≤ 0 → 4096 ≤ length list₀ → WalkedTo book width root list₀ (missing.Listed n ok (4096 - left)) list
   unfolding names listed whole
   walk-ends {sc} {left} {depth} {ok} a h z =
       let o = over-is book width (take n list) (a .left-over) h in
@@ -192,7 +192,7 @@ module _ (book : List ℕ) (width root : ℕ) {list₀ list : List ℕ} {n : ℕ
       let c : count (walkOf book width root) ≡ 4096 - left = omega (arith, q .counts, ap count o) in
       answers book width root list₀ list n l (q .kept) i (4096 - left) ok c (q .ends ∙ ap (λ (w : Walk). ok && whole w) o ∙ and-true ok)
 
-  walk-stops : Stopped (walkOf book width root) list₀ list n → 4096 ≤ length list₀ → Walked book width root list₀ (missing.Listed n false 4097) list
+  walk-stops : Stopped (walkOf book width root) list₀ list n → 4096 ≤ length list₀ → WalkedTo book width root list₀ (missing.Listed n false 4097) list
   walk-stops a z =
       let m = a .room in
       let g = a .long in
@@ -201,10 +201,10 @@ module _ (book : List ℕ) (width root : ℕ) {list₀ list : List ℕ} {n : ℕ
 
 -- ---- the first turn, and the others
 
-reading-all : (all : Walk) (list : List ℕ) → Reading all list list 4096 0 true all
+reading-all : (all : Walk) (list : List ℕ) → ReadSoFar all list list 4096 0 true all
 reading-all all list = record { counts = omega arith; lists = refl; ends = refl; kept = refl; long = refl; room = omega arith }
 
-pend-falls : (sc : List ℕ) (left : ℕ) (e : Event) → Due left e → Falls sc left (pend sc left e) e
+pend-falls : (sc : List ℕ) (left : ℕ) (e : Event) → DueAfter left e → Falls sc left (pend sc left e) e
 unfolding pend
 pend-falls sc left (Old d) p = omega arith
 pend-falls sc left (event.NotFound c d) p = (p, omega arith)
@@ -228,17 +228,17 @@ pending-due book width root q = q .due
 
 module _ (book : List ℕ) (width root : ℕ) {list₀ sc list list′ : List ℕ} {left n : ℕ} {ok : Bool} {e : Event} {r : Turn} (q : Pending book width (walkOf book width root) list₀ sc list left n ok e)
     (a : Applied e list left n ok r list′) where
-  then-as : (x : Turn) → r ≡ x → Then book width (walkOf book width root) list₀ sc list′ n x
-  then-as x h = subst (λ (y : Turn). Then book width (walkOf book width root) list₀ sc list′ n y) h (a .goes book width (walkOf book width root) list₀ sc (q .rest) (q .reading) (q .after))
+  then-as : (x : Turn) → r ≡ x → MissingThen book width (walkOf book width root) list₀ sc list′ n x
+  then-as x h = subst (λ (y : Turn). MissingThen book width (walkOf book width root) list₀ sc list′ n y) h (a .goes book width (walkOf book width root) list₀ sc (q .rest) (q .reading) (q .after))
 
-  pub pending-stop : r ≡ turn.Full → 4096 ≤ length list₀ → Walked book width root list₀ (missing.Listed n false 4097) list′
+  pub pending-stop : r ≡ turn.Full → 4096 ≤ length list₀ → WalkedTo book width root list₀ (missing.Listed n false 4097) list′
   pending-stop h z = walk-stops book width root (then-as turn.Full h) z
 
   module _ (l d k : ℕ) (o : Bool) (h : r ≡ turn.More l d k o) where
-    pub pending-now : Now book width (walkOf book width root) list₀ sc list′ l d k o
+    pub pending-now : MissingNow book width (walkOf book width root) list₀ sc list′ l d k o
     pending-now = then-as (turn.More l d k o) h
 
-    pub pending-end : d ≡ 0 → 4096 ≤ length list₀ → Walked book width root list₀ (missing.Listed k o (4096 - l)) list′
+    pub pending-end : d ≡ 0 → 4096 ≤ length list₀ → WalkedTo book width root list₀ (missing.Listed k o (4096 - l)) list′
     pending-end z w = walk-ends book width root pending-now (omega arith) w
 
     pub pending-room : d + l ≤ 4096
@@ -259,5 +259,5 @@ module _ (book : List ℕ) (width root : ℕ) {list₀ sc list list′ : List �
       pub pending-falls : pend sc′ l e′ < pend sc left e
       pending-falls =
           let f = falls-pend sc′ l (work sc l d) e′ (s .falls) in
-          let g : work sc l d < pend sc left e = subst (λ (y : Turn). Less sc (pend sc left e) y) h (a .falls sc (pend sc left e) (pend-falls sc left e (q .due .due))) in
+          let g : work sc l d < pend sc left e = subst (λ (y : Turn). LessWork sc (pend sc left e) y) h (a .falls sc (pend sc left e) (pend-falls sc left e (q .due .due))) in
           omega arith

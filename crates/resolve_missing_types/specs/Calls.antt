@@ -37,7 +37,7 @@ missingList true book width t list = listed (walkOf book width t) ++ drop (lengt
 missingList false book width t list = list
 
 -- what the walk of type block t answers, and what the list holds then
-pub record Walked (book : List ℕ) (width t : ℕ) (list : List ℕ) (r : Missing) (list′ : List ℕ) : Type 0 where
+pub record WalkedTo (book : List ℕ) (width t : ℕ) (list : List ℕ) (r : Missing) (list′ : List ℕ) : Type 0 where
   pub answer : r ≡ missingAnswer true book width t
   pub blocks : list′ ≡ missingList true book width t list
 

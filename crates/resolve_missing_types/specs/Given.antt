@@ -22,7 +22,7 @@ lackingList true list = lackingRoot ∷ drop 1 list
 lackingList false list = list
 
 -- what is answered for a name that a valid book lacks, and what scratch and list hold then
-pub record LackingIn (fits : Bool) (sc list : List ℕ) (r : Missing) (sc′ list′ : List ℕ) : Type 0 where
+pub record MissingLackingIn (fits : Bool) (sc list : List ℕ) (r : Missing) (sc′ list′ : List ℕ) : Type 0 where
   pub answer : missingNumbers r ≡ missingNumbers (lackingAnswer fits)
   pub scratch : sc′ ≡ cond fits (zeroed sc) sc
   pub blocks : list′ ≡ lackingList fits list

@@ -18,7 +18,7 @@ use Rattle.resolve_missing_types.specs.declared.Turn.{Turn}
 use Rattle.resolve_missing_types.specs.declared.Turn.the-variants as turn
 
 -- what was read of the walk stands in the count, the list and the mark; what is left to read is w
-pub record Reading (all : Walk) (list₀ list : List ℕ) (left n : ℕ) (ok : Bool) (w : Walk) : Type 0 where
+pub record ReadSoFar (all : Walk) (list₀ list : List ℕ) (left n : ℕ) (ok : Bool) (w : Walk) : Type 0 where
   pub counts : count all + left ≡ 4096 + count w
   pub lists : listed all ≡ take n list ++ listed w
   pub ends : whole all ≡ ok && whole w
@@ -27,10 +27,10 @@ pub record Reading (all : Walk) (list₀ list : List ℕ) (left n : ℕ) (ok : B
   pub room : n + left ≤ 4096
 
 -- the state between two turns
-pub record Now (book : List ℕ) (width : ℕ) (all : Walk) (list₀ sc list : List ℕ) (left depth n : ℕ) (ok : Bool) : Type 0 where
+pub record MissingNow (book : List ℕ) (width : ℕ) (all : Walk) (list₀ sc list : List ℕ) (left depth n : ℕ) (ok : Bool) : Type 0 where
   pub rest : Walk
   pub left-over : LeftToWalk book width sc (take n list) left depth rest
-  pub reading : Reading all list₀ list left n ok rest
+  pub reading : ReadSoFar all list₀ list left n ok rest
 
 -- the walk ended at a name too many
 pub record Stopped (all : Walk) (list₀ list : List ℕ) (n : ℕ) : Type 0 where
@@ -47,24 +47,24 @@ pub record OneMore (list : List ℕ) (n b r : ℕ) (list′ : List ℕ) : Type 0
   pub blocks : list′ ≡ set list n b
 
 -- what the state is after an event was applied
-abbrev pub Then : List ℕ → ℕ → Walk → List ℕ → List ℕ → List ℕ → ℕ → Turn → Type 0
-Then book width all list₀ sc list n (turn.More l d k o) = Now book width all list₀ sc list l d k o
-Then book width all list₀ sc list n turn.Full = Stopped all list₀ list n
+abbrev pub MissingThen : List ℕ → ℕ → Walk → List ℕ → List ℕ → List ℕ → ℕ → Turn → Type 0
+MissingThen book width all list₀ sc list n (turn.More l d k o) = MissingNow book width all list₀ sc list l d k o
+MissingThen book width all list₀ sc list n turn.Full = Stopped all list₀ list n
 
 -- less than m is left to do then
-abbrev pub Less : List ℕ → ℕ → Turn → Type 0
-Less sc m (turn.More l d k o) = work sc l d < m
-Less sc m turn.Full = Unit {0}
+abbrev pub LessWork : List ℕ → ℕ → Turn → Type 0
+LessWork sc m (turn.More l d k o) = work sc l d < m
+LessWork sc m turn.Full = Unit {0}
 
 -- an event is applied to list, mark and count
 pub record Applied (e : Event) (list : List ℕ) (left n : ℕ) (ok : Bool) (r : Turn) (list′ : List ℕ) : Type 0 where
-  pub goes : (book : List ℕ) (width : ℕ) (all : Walk) (list₀ sc : List ℕ) (w : Walk) → Reading all list₀ list left n ok w → After book width sc (take n list) left w e → Then book width all list₀ sc list′ n r
-  pub falls : (sc : List ℕ) (m : ℕ) → Falls sc left m e → Less sc m r
+  pub goes : (book : List ℕ) (width : ℕ) (all : Walk) (list₀ sc : List ℕ) (w : Walk) → ReadSoFar all list₀ list left n ok w → After book width sc (take n list) left w e → MissingThen book width all list₀ sc list′ n r
+  pub falls : (sc : List ℕ) (m : ℕ) → Falls sc left m e → LessWork sc m r
 
 -- an event that is still to be applied
 pub record Pending (book : List ℕ) (width : ℕ) (all : Walk) (list₀ sc list : List ℕ) (left n : ℕ) (ok : Bool) (e : Event) : Type 0 where
   pub rest : Walk
-  pub reading : Reading all list₀ list left n ok rest
+  pub reading : ReadSoFar all list₀ list left n ok rest
   pub after : After book width sc (take n list) left rest e
   pub due : IsDue left e
 

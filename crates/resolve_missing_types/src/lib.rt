@@ -8,9 +8,9 @@ ghost use Rattle.type_book.specs.Book.{isType};
 ghost use Rattle.type_book_check.specs.Check.{ValidBook};
 ghost use Rattle.type_index.specs.Trust.{Trusted};
 ghost use Rattle.resolve_walk.specs.State.{IsDue};
-ghost use Rattle.resolve_missing_types.specs.Calls.{missingFits, Walked, MissingIn, MissingIs};
+ghost use Rattle.resolve_missing_types.specs.Calls.{missingFits, WalkedTo, MissingIn, MissingIs};
 ghost use Rattle.type_book_check.specs.Given.{name as byName};
-ghost use Rattle.resolve_missing_types.specs.Given.{LackingIn, GivenMissingIs};
+ghost use Rattle.resolve_missing_types.specs.Given.{MissingLackingIn, GivenMissingIs};
 ghost use Rattle.resolve_missing_types.specs.State.{OneMore, Applied, Learned};
 use enc_zeros::clear_numbers;
 use resolve_walk::MAX_TYPES_VISITED;
@@ -96,7 +96,7 @@ fn missing_walk(
     list: &mut [u32],
 ) -> Missing
     requires { ⌜ ValidBook (now book) × (isType (now book) root ≡ true) × (8192 ≤ length (now scratch)) × (4096 ≤ length (now list)) × (now scratch ≡ replicate (length (now scratch)) 0) ⌝ }
-    ensures { λ r. ⌜ Walked (now (book .entry)) width root (now (list .entry)) r (now (list .exit)) ⌝ }
+    ensures { λ r. ⌜ WalkedTo (now (book .entry)) width root (now (list .entry)) r (now (list .exit)) ⌝ }
 {
     let mut e = start(book, index, width, root, scratch);
     let mut left = MAX_TYPES_VISITED;
@@ -186,7 +186,7 @@ pub fn missing_types(
 // `missing_types` for a name that a valid book lacks, of which nothing else is known: that name alone is missing. 6 where index, scratch or
 // list is too short.
 fn missing_lacking(index: &[u32], scratch: &mut [u32], list: &mut [u32]) -> Missing
-    ensures { λ r. ⌜ LackingIn (missingFits (now (index .entry)) (now (scratch .entry)) (now (list .entry))) (now (scratch .entry)) (now (list .entry)) r (now (scratch .exit)) (now (list .exit)) ⌝ }
+    ensures { λ r. ⌜ MissingLackingIn (missingFits (now (index .entry)) (now (scratch .entry)) (now (list .entry))) (now (scratch .entry)) (now (list .entry)) r (now (scratch .exit)) (now (list .exit)) ⌝ }
 {
     if !index_fits(index) {
         return Missing::Refused(6);

@@ -15,25 +15,25 @@ use Rattle.resolve_walk.specs.Scratch.{scratchFits}
 use Rattle.resolve_read_modify_write.specs.declared.Rmw.{Rmw}
 use Rattle.resolve_read_modify_write.specs.declared.Rmw.the-variants as rmw
 use Rattle.resolve_read_modify_write.specs.Calls.{rmwFits, rmwAnswer, rmwCall, RmwIn, RmwIs}
-use Rattle.resolve_read_modify_write.specs.Given.{lackingRmw, LackingIn, givenRmw, GivenRmwIs}
+use Rattle.resolve_read_modify_write.specs.Given.{lackingRmw, RmwLackingIn, givenRmw, GivenRmwIs}
 use Rattle.resolve_read_modify_write.proofs.Numbers.{rmw-says}
 
 -- ---- a name that the book lacks
 
 module _ (index sc : List ℕ) where
-  short : rmwFits index sc ≡ false → LackingIn (rmwFits index sc) sc (rmw.Refused 6) sc
+  short : rmwFits index sc ≡ false → RmwLackingIn (rmwFits index sc) sc (rmw.Refused 6) sc
   unfolding lackingRmw
   short h = record { answer = rmw-says _ _ (rw h); scratch = rw h }
 
   module _ (i : Bool) (ei : i ≡ indexFits index) where
-    pub lacking-index : not i ≡ true → LackingIn (rmwFits index sc) sc (rmw.Refused 6) sc
+    pub lacking-index : not i ≡ true → RmwLackingIn (rmwFits index sc) sc (rmw.Refused 6) sc
     lacking-index h = short (rw (sym ei ∙ not-true i h))
 
     module _ (b : not i ≡ false) (g : Bool) (e : g ≡ scratchFits sc) where
-      pub lacking-scratch : not g ≡ true → LackingIn (rmwFits index sc) sc (rmw.Refused 6) sc
+      pub lacking-scratch : not g ≡ true → RmwLackingIn (rmwFits index sc) sc (rmw.Refused 6) sc
       lacking-scratch h = short (rw (sym ei ∙ not-false i b, sym e ∙ not-true g h))
 
-      pub lacking-fits : not g ≡ false → {sc′ : List ℕ} → sc′ ≡ replicate (length sc) 0 → LackingIn (rmwFits index sc) sc (rmw.NotFound lackingRoot) sc′
+      pub lacking-fits : not g ≡ false → {sc′ : List ℕ} → sc′ ≡ replicate (length sc) 0 → RmwLackingIn (rmwFits index sc) sc (rmw.NotFound lackingRoot) sc′
       unfolding lackingRmw
       lacking-fits h z = rw (sym ei ∙ not-false i b, sym e ∙ not-false g h) (record { answer = refl; scratch = z })
 
@@ -45,7 +45,7 @@ module _ (buffer : List ℕ) (len : ℕ) (root : Given) (k : GivenRoot) (e : k �
   given-rmw-refused n h =
       record { answer = rmw-says _ _ (given-at-refused _ _ _ k e n h); scratch = given-at-refused (λ n. sc) _ _ k e n h }
 
-  pub given-rmw-lacking : k ≡ given.Lacking → {sc′ : List ℕ} {r : Rmw} → LackingIn (rmwFits index sc) sc r sc′ → GivenRmwIs buffer len index width root sc r sc′
+  pub given-rmw-lacking : k ≡ given.Lacking → {sc′ : List ℕ} {r : Rmw} → RmwLackingIn (rmwFits index sc) sc r sc′ → GivenRmwIs buffer len index width root sc r sc′
   unfolding givenRmw
   given-rmw-lacking h q =
       record { answer = q .answer ∙ rmw-says _ _ (given-at-lacking _ _ _ k e h); scratch = q .scratch ∙ given-at-lacking _ _ _ k e h }

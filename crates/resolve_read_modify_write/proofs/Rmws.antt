@@ -19,7 +19,7 @@ use Rattle.resolve_read_modify_write.specs.declared.Turn.the-variants as
 use Rattle.resolve_read_modify_write.specs.declared.Rmw.{Rmw}
 use Rattle.resolve_read_modify_write.specs.declared.Rmw.the-variants as rmw
 use Rattle.resolve_read_modify_write.specs.Reads.{keepsState, rmwOf}
-use Rattle.resolve_read_modify_write.specs.State.{loopWork, Then, Decided, Here}
+use Rattle.resolve_read_modify_write.specs.State.{loopWork, RmwThen, Decided, Here}
 use Rattle.resolve_read_modify_write.specs.Calls.{rmwAnswer}
 
 -- ---- the reading, event by event
@@ -113,8 +113,8 @@ pub here-start : (book : List ℕ) (width root : ℕ) {sc₀ sc : List ℕ} {e :
 here-start book width root {sc} s d = record { so = d .goes book width (walkOf book width root) sc (walkOf book width root) refl (s .goes) }
 
 module _ (book : List ℕ) (width root : ℕ) {sc : List ℕ} {here : Turn} (q : Here book width (walkOf book width root) sc here) where
-  here-as : (x : Turn) → here ≡ x → Then book width (walkOf book width root) sc x
-  here-as x h = subst (λ (y : Turn). Then book width (walkOf book width root) sc y) h (q .so)
+  here-as : (x : Turn) → here ≡ x → RmwThen book width (walkOf book width root) sc x
+  here-as x h = subst (λ (y : Turn). RmwThen book width (walkOf book width root) sc y) h (q .so)
 
   pub here-is : (x : Rmw) → here ≡ turn.Is x → x ≡ rmwAnswer true book width root
   unfolding rmwAnswer

@@ -17,7 +17,7 @@ lackingRmw true = rmw.NotFound lackingRoot
 lackingRmw false = rmw.Refused refusal.tooFewLent
 
 -- what is answered for a name that a valid book lacks, and what the scratch holds then
-pub record LackingIn (fits : Bool) (sc : List ℕ) (r : Rmw) (sc′ : List ℕ) : Type 0 where
+pub record RmwLackingIn (fits : Bool) (sc : List ℕ) (r : Rmw) (sc′ : List ℕ) : Type 0 where
   pub answer : rmwNumbers r ≡ rmwNumbers (lackingRmw fits)
   pub scratch : sc′ ≡ cond fits (zeroed sc) sc
 

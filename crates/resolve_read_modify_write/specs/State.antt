@@ -10,15 +10,15 @@ use Rattle.resolve_read_modify_write.specs.declared.Turn.the-variants as
 use Rattle.resolve_read_modify_write.specs.Reads.{rmwOf}
 
 -- the state between two turns: the rest of the walk has the answer of the whole
-pub record Now (book : List ℕ) (width : ℕ) (all : Walk) (sc : List ℕ) (left depth : ℕ) : Type 0 where
+pub record RmwNow (book : List ℕ) (width : ℕ) (all : Walk) (sc : List ℕ) (left depth : ℕ) : Type 0 where
   pub rest : Walk
   pub left-over : LeftToWalk book width sc [] left depth rest
   pub reads : rmwOf book width all ≡ rmwOf book width rest
 
 -- what the state is after an event was decided
-abbrev pub Then : List ℕ → ℕ → Walk → List ℕ → Turn → Type 0
-Then book width all sc (turn.More l d) = Now book width all sc l d
-Then book width all sc (turn.Is a) = a ≡ rmwOf book width all
+abbrev pub RmwThen : List ℕ → ℕ → Walk → List ℕ → Turn → Type 0
+RmwThen book width all sc (turn.More l d) = RmwNow book width all sc l d
+RmwThen book width all sc (turn.Is a) = a ≡ rmwOf book width all
 
 -- the measure of a state of the loop
 unfoldable pub loopWork : List ℕ → Turn → ℕ
@@ -27,9 +27,9 @@ loopWork sc (turn.Is a) = 0
 
 -- an event is decided
 pub record Decided (e : Event) (left : ℕ) (r : Turn) : Type 0 where
-  pub goes : (book : List ℕ) (width : ℕ) (all : Walk) (sc : List ℕ) (w : Walk) → rmwOf book width all ≡ rmwOf book width w → After book width sc [] left w e → Then book width all sc r
+  pub goes : (book : List ℕ) (width : ℕ) (all : Walk) (sc : List ℕ) (w : Walk) → rmwOf book width all ≡ rmwOf book width w → After book width sc [] left w e → RmwThen book width all sc r
   pub falls : (sc : List ℕ) (m : ℕ) → Falls sc left m e → loopWork sc r < 1 + m
 
 -- a record, so that `search` takes it as it stands
 pub record Here (book : List ℕ) (width : ℕ) (all : Walk) (sc : List ℕ) (r : Turn) : Type 0 where
-  pub so : Then book width all sc r
+  pub so : RmwThen book width all sc r

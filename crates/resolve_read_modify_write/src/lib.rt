@@ -11,7 +11,7 @@ ghost use Rattle.resolve_walk.specs.State.{IsDue};
 ghost use Rattle.resolve_read_modify_write.specs.Reads.{keepsState};
 ghost use Rattle.resolve_read_modify_write.specs.Calls.{rmwFits, rmwAnswer, RmwIn, RmwIs};
 ghost use Rattle.type_book_check.specs.Given.{name as byName};
-ghost use Rattle.resolve_read_modify_write.specs.Given.{LackingIn, GivenRmwIs};
+ghost use Rattle.resolve_read_modify_write.specs.Given.{RmwLackingIn, GivenRmwIs};
 ghost use Rattle.resolve_read_modify_write.specs.State.{Decided};
 use enc_zeros::clear_numbers;
 use resolve_walk::MAX_TYPES_VISITED;
@@ -166,7 +166,7 @@ pub fn requires_read_modify_write(
 
 // `requires_read_modify_write` for a name that a valid book lacks: 6 where index or scratch is too short, else 7.
 fn rmw_lacking(index: &[u32], scratch: &mut [u32]) -> Rmw
-    ensures { λ r. ⌜ LackingIn (rmwFits (now (index .entry)) (now (scratch .entry))) (now (scratch .entry)) r (now (scratch .exit)) ⌝ }
+    ensures { λ r. ⌜ RmwLackingIn (rmwFits (now (index .entry)) (now (scratch .entry))) (now (scratch .entry)) r (now (scratch .exit)) ⌝ }
 {
     if !index_fits(index) {
         return Rmw::Refused(6);

@@ -19,8 +19,8 @@ use Rattle.type_category.proofs.Categories.{array-type}
 use Rattle.type_book_check.specs.Check.{ValidBook}
 use Rattle.type_book_check.proofs.Valid.{valid-type}
 use Rattle.resolvers.proofs.Chains.{found-typed}
-use Rattle.resolve_walk_scratch.specs.declared.Parts.{Parts}
-use Rattle.resolve_walk_scratch.specs.declared.Parts.the-variants.{Element, Fields, Nothing}
+use Rattle.resolve_walk_scratch.specs.declared.ScratchParts.{ScratchParts}
+use Rattle.resolve_walk_scratch.specs.declared.ScratchParts.the-variants.{Element, Fields, Nothing}
 use Rattle.resolve_walk_scratch.specs.Parts.{partsKind, blocksAfter, partsIn, partsOf}
 use Rattle.resolve_walk_scratch.specs.Scratch.{isPart, lackingBit, BitIn}
 use Rattle.resolve_walk_scratch.proofs.Places.{type-below, part-field, part-dimensions}
@@ -56,7 +56,7 @@ pub part-is : (book : List ℕ) (width t : ℕ) → ValidBook book → isType bo
 unfolding partsOf partsIn
 part-is book width t v y b m = by (partsKind (categoryOf book width t)) refl m
   where
-    by : (k : Parts) → partsKind (categoryOf book width t) ≡ k → List·Memᴰ b (partsIn book t k) → isPart book b ≡ true
+    by : (k : ScratchParts) → partsKind (categoryOf book width t) ≡ k → List·Memᴰ b (partsIn book t k) → isPart book b ≡ true
     by Element e m =
         let q : b ≡ t = List·Memᴰ·eq-of-singleton m in
         let d : 0 < dimensionsOf book t = array-type book t width (element-array (categoryOf book width t) e) in

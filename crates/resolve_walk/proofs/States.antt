@@ -9,12 +9,12 @@ use Rattle.resolve_walk_events.specs.declared.Event.{Event}
 use Rattle.resolve_walk_events.specs.declared.Event.the-variants.{Old, New, Full}
 use Rattle.resolve_walk_events.specs.declared.Event.the-variants as event
 use Rattle.resolve_walk.specs.Walk.{Walk, over, walk}
-use Rattle.resolve_walk.specs.State.{LeftToWalk, Falls, Due, IsDue, work, Stepped, Started}
+use Rattle.resolve_walk.specs.State.{LeftToWalk, Falls, DueAfter, IsDue, work, Stepped, Started}
 use Rattle.resolve_walk.proofs.Goes.{walk-none}
 
 -- ---- what is due
 
-falls-due : (sc : List ℕ) (left m : ℕ) (e : Event) → Falls sc left m e → Due left e
+falls-due : (sc : List ℕ) (left m : ℕ) (e : Event) → Falls sc left m e → DueAfter left e
 falls-due sc left m (Old d) f = tt
 falls-due sc left m (event.NotFound c d) f = f .0
 falls-due sc left m (New t d c) f = f .0
@@ -28,8 +28,8 @@ pub start-due : (book : List ℕ) (width root : ℕ) {sc sc′ : List ℕ} {e : 
 start-due book width root s = record { due = s .due }
 
 module _ (left : ℕ) {e : Event} (p : IsDue left e) where
-  pub due-as : (x : Event) → e ≡ x → Due left x
-  due-as x h = subst (λ (y : Event). Due left y) h (p .due)
+  pub due-as : (x : Event) → e ≡ x → DueAfter left x
+  due-as x h = subst (λ (y : Event). DueAfter left y) h (p .due)
 
   pub due-new : (t d : ℕ) (c : AdsTypeCategory) → e ≡ New t d c → 0 < left
   due-new t d c h = due-as (New t d c) h

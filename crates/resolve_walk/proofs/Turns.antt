@@ -28,7 +28,7 @@ use Rattle.resolve_walk_events.specs.declared.Event.{Event}
 use Rattle.resolve_walk_events.specs.declared.Event.the-variants.{Old, New, Full}
 use Rattle.resolve_walk_events.specs.declared.Event.the-variants as event
 use Rattle.resolve_walk.specs.Walk.{Walk, met, comesTo, has, push, walk, meet, walkOf}
-use Rattle.resolve_walk.specs.State.{seenBy, turnEvent, newOn, turnOn, stepEvent, stepOn, LeftToWalk, After, work, Falls, Due, Stepped, Started}
+use Rattle.resolve_walk.specs.State.{seenBy, turnEvent, newOn, turnOn, stepEvent, stepOn, LeftToWalk, After, work, Falls, DueAfter, Stepped, Started}
 use Rattle.resolve_walk.proofs.Goes.{walk-old, walk-fresh, walk-stop}
 use Rattle.resolve_walk.proofs.Places.{find-name, find-below, part-is}
 
@@ -383,7 +383,7 @@ none-told : (book sc x : List ℕ) → hasRef book [] x ≡ true → markedIn sc
 unfolding hasRef
 none-told book sc x h = absurd (let z : _≡_ {A = ℕ} 0 1 = cc in omega arith)
 
-settled-due : (book : List ℕ) (width : ℕ) (sc : List ℕ) (d t left : ℕ) → 0 < left → (r : Event) (sc′ : List ℕ) → Settled book width sc d t r sc′ → Due left r
+settled-due : (book : List ℕ) (width : ℕ) (sc : List ℕ) (d t left : ℕ) → 0 < left → (r : Event) (sc′ : List ℕ) → Settled book width sc d t r sc′ → DueAfter left r
 settled-due book width sc d t left n (Old k) sc′ s = absurd s
 settled-due book width sc d t left n (event.NotFound c k) sc′ s = n
 settled-due book width sc d t left n (New u k c) sc′ x = n

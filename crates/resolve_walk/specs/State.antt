@@ -128,20 +128,20 @@ pub record Stepped (book : List ℕ) (width : ℕ) (sc ls : List ℕ) (left dept
   pub numbers : sc′ ≡ stepOn book width sc ls left depth
 
 -- an event after which `left - 1` names are left, and one after which none was
-abbrev pub Due : ℕ → Event → Type 0
-Due left (Old d) = Unit {0}
-Due left (event.NotFound c d) = 0 < left
-Due left (New t d c) = 0 < left
-Due left (event.TooLong d) = 0 < left
-Due left Full = left ≡ 0
+abbrev pub DueAfter : ℕ → Event → Type 0
+DueAfter left (Old d) = Unit {0}
+DueAfter left (event.NotFound c d) = 0 < left
+DueAfter left (New t d c) = 0 < left
+DueAfter left (event.TooLong d) = 0 < left
+DueAfter left Full = left ≡ 0
 
--- `Due` of an event, as a record, which `search` takes as it stands
+-- `DueAfter` of an event, as a record, which `search` takes as it stands
 pub record IsDue (left : ℕ) (e : Event) : Type 0 where
-  pub due : Due left e
+  pub due : DueAfter left e
 
 -- the root's own name is met, out of 4,096; its event and every number of the scratch are fixed
 pub record Started (book : List ℕ) (width root : ℕ) (sc : List ℕ) (r : Event) (sc′ : List ℕ) : Type 0 where
   pub goes : After book width sc′ [] 4096 (walkOf book width root) r
-  pub due : Due 4096 r
+  pub due : DueAfter 4096 r
   pub event : r ≡ settledEvent book width 0 (resolveAlias book width root)
   pub numbers : sc′ ≡ settledOn book width sc 0 root (resolveAlias book width root)

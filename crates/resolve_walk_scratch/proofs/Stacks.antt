@@ -12,8 +12,8 @@ use borrow.Author.Tests.{lt-ltb, le-ltb, eq-eqb, ne-eqb}
 use Rattle.type_book.specs.Book.{isType, fieldsOf}
 use Rattle.type_category.specs.declared.type_category.AdsTypeCategory.{AdsTypeCategory}
 use Rattle.type_book_check.specs.Check.{ValidBook}
-use Rattle.resolve_walk_scratch.specs.declared.Parts.{Parts}
-use Rattle.resolve_walk_scratch.specs.declared.Parts.the-variants.{Element, Fields, Nothing}
+use Rattle.resolve_walk_scratch.specs.declared.ScratchParts.{ScratchParts}
+use Rattle.resolve_walk_scratch.specs.declared.ScratchParts.the-variants.{Element, Fields, Nothing}
 use Rattle.resolve_walk_scratch.specs.Parts.{partsKind, blocksAfter, partsIn}
 use Rattle.resolve_walk_scratch.specs.Scratch.{stackEntry, stackOf, markedIn, isRun, takenAt, takenFrom, pushedTo, pushedOn, Took, Pushed, BlockMarked, MarkedAndPushed}
 use Rattle.resolve_walk_scratch.proofs.Places.{fields-below}
@@ -137,8 +137,8 @@ module _ (book : List ℕ) (sc : List ℕ) (depth t : ℕ) (l : depth < 4096) (z
   kept : [] ≡ parts → depth ≡ pushedTo book depth t (partsKind c) → sc ≡ pushedOn book sc depth t (partsKind c) → Pushed book c sc depth t depth sc
   kept e ep es = record { top = rw (← e); marks = λ u. refl; more = omega arith; few = omega arith; place = ep; numbers = es }
 
-  module _ (k : Parts) (ek : k ≡ partsKind c) where
-    kind-is : (x : Parts) → k ≡ x → partsKind c ≡ x
+  module _ (k : ScratchParts) (ek : k ≡ partsKind c) where
+    kind-is : (x : ScratchParts) → k ≡ x → partsKind c ≡ x
     kind-is x h = sym ek ∙ h
 
     pub push-element : k ≡ Element → Pushed book c sc depth t (depth + 1) (set sc depth (t * 65536))

@@ -5,11 +5,11 @@ use Rattle.type_book.specs.Book.{fieldsOf}
 use Rattle.type_category.specs.declared.type_category.AdsTypeCategory.{AdsTypeCategory}
 use Rattle.type_category.specs.declared.type_category.AdsTypeCategory.the-variants as category
 use Rattle.type_category.specs.Category.{categoryOf}
-use Rattle.resolve_walk_scratch.specs.declared.Parts.{Parts}
-use Rattle.resolve_walk_scratch.specs.declared.Parts.the-variants.{Element, Fields, Nothing}
+use Rattle.resolve_walk_scratch.specs.declared.ScratchParts.{ScratchParts}
+use Rattle.resolve_walk_scratch.specs.declared.ScratchParts.the-variants.{Element, Fields, Nothing}
 
 -- an array is made of its element type; a struct, a union or a function block of the types of its fields
-abbrev pub partsKind : AdsTypeCategory → Parts
+abbrev pub partsKind : AdsTypeCategory → ScratchParts
 partsKind category.Array = Element
 partsKind category.Struct = Fields
 partsKind category.Union = Fields
@@ -33,7 +33,7 @@ blocksAfter t zero = []
 blocksAfter t (suc k) = (t + suc k) ∷ blocksAfter t k
 
 -- the blocks that name what type block t is made of, by the kind of its parts
-unfoldable pub partsIn : List ℕ → ℕ → Parts → List ℕ
+unfoldable pub partsIn : List ℕ → ℕ → ScratchParts → List ℕ
 partsIn book t Element = t ∷ []
 partsIn book t Fields = blocksAfter t (fieldsOf book t)
 partsIn book t Nothing = []

@@ -10,8 +10,8 @@ use lib.Dec.{eqb, ltb}
 use Rattle.type_book.specs.Book.{isType, dimensionsOf, fieldsOf, typeNameOf, sameName}
 use Rattle.type_marks.specs.Marks.{hashOf}
 use Rattle.type_category.specs.declared.type_category.AdsTypeCategory.{AdsTypeCategory}
-use Rattle.resolve_walk_scratch.specs.declared.Parts.{Parts}
-use Rattle.resolve_walk_scratch.specs.declared.Parts.the-variants.{Element, Fields, Nothing}
+use Rattle.resolve_walk_scratch.specs.declared.ScratchParts.{ScratchParts}
+use Rattle.resolve_walk_scratch.specs.declared.ScratchParts.the-variants.{Element, Fields, Nothing}
 use Rattle.resolve_walk_scratch.specs.declared.Taken.{Taken}
 use Rattle.resolve_walk_scratch.specs.Parts.{blocksAfter, partsKind, partsIn}
 
@@ -84,13 +84,13 @@ unfoldable pub takenFrom : List ℕ → ℕ → List ℕ
 takenFrom sc depth = cond (isRun (topEntry sc depth)) (set sc (depth - 1) (topEntry sc depth - 1)) sc
 
 -- the entries on the stack once the parts of type block t are laid on, by their kind: one more, where it has parts
-unfoldable pub pushedTo : List ℕ → ℕ → ℕ → Parts → ℕ
+unfoldable pub pushedTo : List ℕ → ℕ → ℕ → ScratchParts → ℕ
 pushedTo book depth t Element = depth + 1
 pushedTo book depth t Fields = cond (eqb (fieldsOf book t) 0) depth (depth + 1)
 pushedTo book depth t Nothing = depth
 
 -- the scratch then: the new entry stands for block t itself, or for the blocks of its fields
-unfoldable pub pushedOn : List ℕ → List ℕ → ℕ → ℕ → Parts → List ℕ
+unfoldable pub pushedOn : List ℕ → List ℕ → ℕ → ℕ → ScratchParts → List ℕ
 pushedOn book sc depth t Element = set sc depth (t * 65536)
 pushedOn book sc depth t Fields = cond (eqb (fieldsOf book t) 0) sc (set sc depth (t * 65536 + fieldsOf book t))
 pushedOn book sc depth t Nothing = sc

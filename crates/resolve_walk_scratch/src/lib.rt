@@ -21,7 +21,7 @@ const MARKS: usize = 4096;
 const LACKING: u32 = 65536;
 
 // What a type is made of: the type that an array names, the types of fields, or nothing that is walked.
-pub enum Parts {
+pub enum ScratchParts {
     Element,
     Fields,
     Nothing,
@@ -79,26 +79,26 @@ pub fn take(scratch: &mut [u32], depth: usize) -> Taken
 
 // ---- what is laid on the stack
 
-pub fn parts_of(category: AdsTypeCategory) -> Parts
+pub fn parts_of(category: AdsTypeCategory) -> ScratchParts
     ensures { λ r. ⌜ r ≡ partsKind category ⌝ }
 {
     match category {
-        AdsTypeCategory::Array => Parts::Element,
-        AdsTypeCategory::Struct => Parts::Fields,
-        AdsTypeCategory::Union => Parts::Fields,
-        AdsTypeCategory::FunctionBlock => Parts::Fields,
-        AdsTypeCategory::None => Parts::Nothing,
-        AdsTypeCategory::Primitive => Parts::Nothing,
-        AdsTypeCategory::Alias => Parts::Nothing,
-        AdsTypeCategory::Enum => Parts::Nothing,
-        AdsTypeCategory::Program => Parts::Nothing,
-        AdsTypeCategory::Function => Parts::Nothing,
-        AdsTypeCategory::SubRange => Parts::Nothing,
-        AdsTypeCategory::String => Parts::Nothing,
-        AdsTypeCategory::Bitset => Parts::Nothing,
-        AdsTypeCategory::Pointer => Parts::Nothing,
-        AdsTypeCategory::Reference => Parts::Nothing,
-        AdsTypeCategory::Interface => Parts::Nothing,
+        AdsTypeCategory::Array => ScratchParts::Element,
+        AdsTypeCategory::Struct => ScratchParts::Fields,
+        AdsTypeCategory::Union => ScratchParts::Fields,
+        AdsTypeCategory::FunctionBlock => ScratchParts::Fields,
+        AdsTypeCategory::None => ScratchParts::Nothing,
+        AdsTypeCategory::Primitive => ScratchParts::Nothing,
+        AdsTypeCategory::Alias => ScratchParts::Nothing,
+        AdsTypeCategory::Enum => ScratchParts::Nothing,
+        AdsTypeCategory::Program => ScratchParts::Nothing,
+        AdsTypeCategory::Function => ScratchParts::Nothing,
+        AdsTypeCategory::SubRange => ScratchParts::Nothing,
+        AdsTypeCategory::String => ScratchParts::Nothing,
+        AdsTypeCategory::Bitset => ScratchParts::Nothing,
+        AdsTypeCategory::Pointer => ScratchParts::Nothing,
+        AdsTypeCategory::Reference => ScratchParts::Nothing,
+        AdsTypeCategory::Interface => ScratchParts::Nothing,
     }
 }
 
@@ -115,11 +115,11 @@ pub fn push(
 {
     let kind = parts_of(category);
     match kind {
-        Parts::Element => {
+        ScratchParts::Element => {
             scratch[depth] = t * 65536;
             depth + 1
         }
-        Parts::Fields => {
+        ScratchParts::Fields => {
             let n = block::fields(book, t);
             if n == 0 {
                 return depth;
@@ -127,7 +127,7 @@ pub fn push(
             scratch[depth] = t * 65536 + n;
             depth + 1
         }
-        Parts::Nothing => depth,
+        ScratchParts::Nothing => depth,
     }
 }
 

@@ -22,7 +22,7 @@ pub struct Mapping {
 }
 
 // Dimension d of array t, whose elements are of resolved type e, with the cursor at its record; the category is that of e.
-pub struct Place {
+pub struct WritePlace {
     pub d: u8,
     pub t: u32,
     pub e: u32,
@@ -34,7 +34,7 @@ pub struct Place {
 
 // The k elements that the tape has for such a dimension, with the cursor at the next of them: n is the dimension's count in the type, and
 // it is known whether it is the last one.
-pub struct Row {
+pub struct WriteRow {
     pub d: u8,
     pub t: u32,
     pub e: u32,

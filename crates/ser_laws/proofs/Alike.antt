@@ -11,8 +11,8 @@ use Rattle.type_book_check.specs.declared.RootCheck.the-variants as root
 use Rattle.tape.specs.declared.record.Record.{Record}
 use Rattle.tape_form.specs.Form.{formed}
 use Rattle.ser.specs.declared.WriteAnswer.the-variants.{Done}
-use Rattle.ser.specs.Write.{ctx, Outcome, refused}
-use Rattle.ser.specs.Call.{rootWrite, bookWrite, writeCall, answerOf, outputAfter}
+use Rattle.ser.specs.Write.{writeCtx, Outcome, refused}
+use Rattle.ser.specs.Call.{rootWrite, bookWrite, writeCall, writeAnswerOf, outputAfter}
 use Rattle.ser.proofs.Numbers.{write-is}
 use Rattle.ser_laws.specs.Alike.{Records, SameButEnd, SameButDeclared}
 use Rattle.ser_laws.specs.Laws.{EndsIgnored, DeclaredIgnored, DeclaredAlike}
@@ -35,7 +35,7 @@ module _ (tape tape′ : List ℕ) (h : Records SameButEnd tape tape′) where
   ended-written : Records WrittenAlike tape tape′
   ended-written = record { same-length = h .same-length; each = λ at a l. ended-alike _ _ (h .each at a l) }
 
-  ended-same : (book : List ℕ) (width n room : ℕ) (image text : List ℕ) → bookWrite (ctx book width tape text) n room image ≡ bookWrite (ctx book width tape′ text) n room image
+  ended-same : (book : List ℕ) (width n room : ℕ) (image text : List ℕ) → bookWrite (writeCtx book width tape text) n room image ≡ bookWrite (writeCtx book width tape′ text) n room image
   unfolding bookWrite
   ended-same book width n room image text = rw (formed-same book text tape tape′ h, root-same book width text tape tape′ ended-written n image)
 
@@ -53,26 +53,26 @@ module _ (tape tape′ : List ℕ) (h : Records SameButDeclared tape tape′) (b
   declared-written : Records WrittenAlike tape tape′
   declared-written = record { same-length = h .same-length; each = λ at a l. declared-alike _ _ (h .each at a l) }
 
-  formed-both : formed book tape text ≡ true → formed book tape′ text ≡ true → (n : ℕ) → bookWrite (ctx book width tape text) n room image ≡ bookWrite (ctx book width tape′ text) n room image
+  formed-both : formed book tape text ≡ true → formed book tape′ text ≡ true → (n : ℕ) → bookWrite (writeCtx book width tape text) n room image ≡ bookWrite (writeCtx book width tape′ text) n room image
   unfolding bookWrite
   formed-both a b n = rw (a, b, root-same book width text tape tape′ declared-written n image)
 
   -- what is accepted has its form
   accepted-by : (n : ℕ) (x y z : Bool)
-      → answerOf (cond x (cond y (rootWrite (ctx book width tape text) n image) (refused 16 0 image)) (refused 10 0 image)) ≡ Done
-      → answerOf (cond x (cond z (rootWrite (ctx book width tape′ text) n image) (refused 16 0 image)) (refused 10 0 image)) ≡ Done
-      → cond x (cond y (rootWrite (ctx book width tape text) n image) (refused 16 0 image)) (refused 10 0 image)
-      ≡ cond x (cond z (rootWrite (ctx book width tape′ text) n image) (refused 16 0 image)) (refused 10 0 image)
+      → writeAnswerOf (cond x (cond y (rootWrite (writeCtx book width tape text) n image) (refused 16 0 image)) (refused 10 0 image)) ≡ Done
+      → writeAnswerOf (cond x (cond z (rootWrite (writeCtx book width tape′ text) n image) (refused 16 0 image)) (refused 10 0 image)) ≡ Done
+      → cond x (cond y (rootWrite (writeCtx book width tape text) n image) (refused 16 0 image)) (refused 10 0 image)
+      ≡ cond x (cond z (rootWrite (writeCtx book width tape′ text) n image) (refused 16 0 image)) (refused 10 0 image)
   accepted-by n true true true a b = root-same book width text tape tape′ declared-written n image
   accepted-by n true true false a b = different cc
   accepted-by n true false z a b = different cc
   accepted-by n false y z a b = different cc
 
   accepted-same : (x : RootCheck)
-      → answerOf (atRoot (λ k. refused k 0 image) (λ t. bookWrite (ctx book width tape text) t room image) x) ≡ Done
-      → answerOf (atRoot (λ k. refused k 0 image) (λ t. bookWrite (ctx book width tape′ text) t room image) x) ≡ Done
-      → atRoot (λ k. refused k 0 image) (λ t. bookWrite (ctx book width tape text) t room image) x
-      ≡ atRoot (λ k. refused k 0 image) (λ t. bookWrite (ctx book width tape′ text) t room image) x
+      → writeAnswerOf (atRoot (λ k. refused k 0 image) (λ t. bookWrite (writeCtx book width tape text) t room image) x) ≡ Done
+      → writeAnswerOf (atRoot (λ k. refused k 0 image) (λ t. bookWrite (writeCtx book width tape′ text) t room image) x) ≡ Done
+      → atRoot (λ k. refused k 0 image) (λ t. bookWrite (writeCtx book width tape text) t room image) x
+      ≡ atRoot (λ k. refused k 0 image) (λ t. bookWrite (writeCtx book width tape′ text) t room image) x
   unfolding atRoot bookWrite
   accepted-same (root.Root n) a b = accepted-by n (eqb room (length image)) (formed book tape text) (formed book tape′ text) a b
   accepted-same (root.Refused k) a b = refl

@@ -30,8 +30,8 @@ use Rattle.tape.specs.declared.record.Record.{Record}
 use Rattle.tape.specs.declared.cursor.Cursor.{Cursor}
 use Rattle.tape.specs.declared.cursor.NextRecord.{NextRecord}
 use Rattle.tape.specs.declared.cursor.NextRecord.the-variants as step
-use Rattle.tape_form.specs.declared.form.Place.{Place}
-use Rattle.tape_form.specs.declared.form.Place.the-variants.{At, Broken}
+use Rattle.tape_form.specs.declared.form.FormPlace.{FormPlace}
+use Rattle.tape_form.specs.declared.form.FormPlace.the-variants.{At, Broken}
 use Rattle.tape_form.specs.Ranges.{declares, onlyA, empty, namesBlock, opens, closes, isKey, leafFine}
 use Rattle.tape_form.specs.Ranges as ranges
 use Rattle.tape_form.specs.Form.{formed, withRecord, formOnward, closingRecord, several, memberAt, valueAt, atTapeEnd}
@@ -42,8 +42,8 @@ use Rattle.ser.specs.declared.array_writer.Entered.{Entered}
 use Rattle.ser.specs.declared.array_writer.Entered.the-variants as entered
 use Rattle.ser.specs.declared.WriteAnswer.the-variants.{NotFound, Refused}
 use Rattle.tape_array_elements.specs.Element.{Content, whole, further, shapeAt, elementItem, elementCheck}
-use Rattle.ser.specs.Write.{Ctx, Outcome, went, refused, _then_, Child, placed, takenBy, taken, endRecordBy, leafEnd, leafOf, checked, fieldValue, foundValue, keyBy, keyOf, keysFrom, mapBy, mapOf, elementsFrom, elementsBy, dimensionOf, elementType, enteredBy, enteredAt, arrayBy, arrayOf, valueBy, itemWalk, walk}
-use Rattle.ser.specs.Call.{typeWrite, rootBy, rootWrite, bookWrite, answerOf}
+use Rattle.ser.specs.Write.{WriteCtx, Outcome, went, refused, _thenWrites_, ChildWrite, placed, takenBy, taken, endRecordBy, leafEnd, leafWrite, checkedWrite, fieldWrite, foundValue, keyBy, keyOf, keysFrom, mapBy, mapWrite, elementsWrite, elementsBy, dimensionWrite, elementType, enteredBy, enteredAt, arrayWriteBy, arrayWrite, valueBy, itemWrite, writeWalk}
+use Rattle.ser.specs.Call.{typeWrite, rootWriteBy, rootWrite, bookWrite, writeAnswerOf}
 use Rattle.ser_laws.specs.Laws.{EndsAt, FormedEnds, SixteenIsForm}
 use Rattle.ser_laws.proofs.LeafForm.{Mild, mild-leaf}
 use Rattle.ser_laws.proofs.Plain.{different, and-left}
@@ -64,8 +64,8 @@ ends-cond n false o u p q = q
 ends-if : (n : ℕ) (b : Bool) (o : Outcome) (k m : ℕ) (bytes : List ℕ) → (k ≡ 16 → ⊥) → EndsAt n o → EndsAt n (cond b o (refused k m bytes))
 ends-if n b o k m bytes h p = ends-cond n b o (refused k m bytes) p (ends-refused n k m bytes h)
 
-ends-then : (n : ℕ) (mid : Cursor) (o : Outcome) (f : Cursor → List ℕ → Outcome) → EndsAt (mid .at) o → ((bytes : List ℕ) → EndsAt n (f mid bytes)) → EndsAt n (o then f)
-unfolding _then_
+ends-then : (n : ℕ) (mid : Cursor) (o : Outcome) (f : Cursor → List ℕ → Outcome) → EndsAt (mid .at) o → ((bytes : List ℕ) → EndsAt n (f mid bytes)) → EndsAt n (o thenWrites f)
+unfolding _thenWrites_
 ends-then n mid (went at bytes) f p q =
     let e : at ≡ mid = ap (λ (i : ℕ). record { at = i }) (p .ends) in
     rw e (q bytes)
@@ -81,32 +81,32 @@ ends-placed n from size bytes (refused k b part) p = ends-refused n k b _ (p .en
 broken-at : {X : Type 0} {next : Cursor} → Broken ≡ At next → X
 broken-at h = different cc
 
-record Took (s : NextRecord) (f : Record → Cursor → Place) (next : Cursor) : Type 0 where
+record Took (s : NextRecord) (f : Record → Cursor → FormPlace) (next : Cursor) : Type 0 where
   r : Record
   mid : Cursor
   is : s ≡ step.Record r mid
   goes : f r mid ≡ At next
 
-took : (s : NextRecord) (f : Record → Cursor → Place) (next : Cursor) → withRecord s f ≡ At next → Took s f next
+took : (s : NextRecord) (f : Record → Cursor → FormPlace) (next : Cursor) → withRecord s f ≡ At next → Took s f next
 unfolding withRecord
 took (step.Record r mid) f next h = record { r = r; mid = mid; is = refl; goes = h }
 took step.End f next h = broken-at h
 
-record Went (p : Place) (f : form.Child) (next : Cursor) : Type 0 where
+record Went (p : FormPlace) (f : form.ChildForm) (next : Cursor) : Type 0 where
   mid : Cursor
   is : p ≡ At mid
   goes : f mid ≡ At next
 
-went-on : (p : Place) (f : form.Child) (next : Cursor) → formOnward p f ≡ At next → Went p f next
+went-on : (p : FormPlace) (f : form.ChildForm) (next : Cursor) → formOnward p f ≡ At next → Went p f next
 unfolding formOnward
 went-on (At mid) f next h = record { mid = mid; is = refl; goes = h }
 went-on Broken f next h = broken-at h
 
-record Passed (b : Bool) (p : Place) (next : Cursor) : Type 0 where
+record Passed (b : Bool) (p : FormPlace) (next : Cursor) : Type 0 where
   test : b ≡ true
   goes : p ≡ At next
 
-passed : (b : Bool) (p : Place) (next : Cursor) → cond b p Broken ≡ At next → Passed b p next
+passed : (b : Bool) (p : FormPlace) (next : Cursor) → cond b p Broken ≡ At next → Passed b p next
 passed true p next h = record { test = refl; goes = h }
 passed false p next h = broken-at h
 
@@ -140,22 +140,22 @@ and-never : (b : Bool) → (b && false) ≡ false
 and-never true = refl
 and-never false = refl
 
-no-leaf : (book text : List ℕ) (r : Record) (k : ℕ) → r .kind ≡ k → ranges.leafBy book text r k ≡ false → leafFine book text r ≡ false
+no-leaf : (book text : List ℕ) (r : Record) (k : ℕ) → r .kind ≡ k → ranges.leafRanges book text r k ≡ false → leafFine book text r ≡ false
 unfolding leafFine
 no-leaf book text r k e h =
-    let z : ranges.leafBy book text r (r .kind) ≡ false = ap (ranges.leafBy book text r) e ∙ h in
+    let z : ranges.leafRanges book text r (r .kind) ≡ false = ap (ranges.leafRanges book text r) e ∙ h in
     rw z (and-never (declares book r))
 
-one-no-leaf : (book text : List ℕ) (r : Record) → ranges.leafBy book text r 1 ≡ false
-unfolding ranges.leafBy
+one-no-leaf : (book text : List ℕ) (r : Record) → ranges.leafRanges book text r 1 ≡ false
+unfolding ranges.leafRanges
 one-no-leaf book text r = refl
 
-three-no-leaf : (book text : List ℕ) (r : Record) → ranges.leafBy book text r 3 ≡ false
-unfolding ranges.leafBy
+three-no-leaf : (book text : List ℕ) (r : Record) → ranges.leafRanges book text r 3 ≡ false
+unfolding ranges.leafRanges
 three-no-leaf book text r = refl
 
 -- what follows a value's record in the form, by its kind
-module _ (c : form.Ctx) (child : form.Child) (r : Record) (mid next : Cursor) (h : form.bodyBy c child (form.recordShape c r) mid ≡ At next) where
+module _ (c : form.FormCtx) (child : form.ChildForm) (r : Record) (mid next : Cursor) (h : form.bodyBy c child (form.recordShape c r) mid ≡ At next) where
   array-form : r .kind ≡ 1 → several c child 2 (r .a) mid ≡ At next
   unfolding form.recordShape form.bodyBy
   array-form e = by (opens (c .book) 1 r) refl
@@ -233,11 +233,11 @@ entered-mild book width t len shape.Leaf = record { never = λ e. omega arith }
 -- ---- the walk
 
 -- the three lists that the form is about
-abbrev formCtx : Ctx → form.Ctx
-formCtx c = form.ctx (c .book) (c .tape) (c .text)
+abbrev formCtx : WriteCtx → form.FormCtx
+formCtx c = form.formCtx (c .book) (c .tape) (c .text)
 
 -- where the form's walk of a value ends, a child ends
-abbrev Follows : Ctx → ℕ → Child → Type 0
+abbrev Follows : WriteCtx → ℕ → ChildWrite → Type 0
 Follows c left child =
     (i : Content ℕ) (at next : Cursor) (bytes : List ℕ) → valueAt (formCtx c) left at ≡ At next → EndsAt (next .at) (child i at bytes)
 
@@ -246,7 +246,7 @@ ends-taken : (tape : List ℕ) (n : ℕ) (at : Cursor) (bytes : List ℕ) (f : R
 unfolding taken takenBy
 ends-taken tape n at bytes f r mid e p = rw e p
 
-ends-closing : (c : Ctx) (k : ℕ) (at next : Cursor) (bytes : List ℕ) → closingRecord (formCtx c) k at ≡ At next → EndsAt (next .at) (taken (c .tape) at bytes (endRecordBy k bytes))
+ends-closing : (c : WriteCtx) (k : ℕ) (at next : Cursor) (bytes : List ℕ) → closingRecord (formCtx c) k at ≡ At next → EndsAt (next .at) (taken (c .tape) at bytes (endRecordBy k bytes))
 unfolding closingRecord endRecordBy
 ends-closing c k at next bytes h =
     let t = took (stepAt (c .tape) (at .at)) _ next h in
@@ -256,17 +256,17 @@ ends-closing c k at next bytes h =
     let m : t .mid ≡ next = cc in
     ends-taken (c .tape) (next .at) at bytes _ (t .r) (t .mid) (t .is) (rw (eq-eqb (t .r .kind) k q) (ends-went (next .at) (t .mid) bytes (ap (λ (i : Cursor). i .at) m)))
 
-ends-checked : (n : ℕ) (bytes : List ℕ) (f : FieldsCheck) (o : Outcome) → EndsAt n o → EndsAt n (checked f bytes o)
-unfolding checked checkNumbers
+ends-checked : (n : ℕ) (bytes : List ℕ) (f : FieldsCheck) (o : Outcome) → EndsAt n o → EndsAt n (checkedWrite f bytes o)
+unfolding checkedWrite checkNumbers
 ends-checked n bytes check.Fine o p = p
 ends-checked n bytes (check.NotFound b) o p = ends-refused n 7 b bytes (λ e. omega arith)
 ends-checked n bytes check.TooLong o p = ends-refused n 8 0 bytes (λ e. omega arith)
 
-module _ (c : Ctx) (left : ℕ) (child : Child) (ih : Follows c left child) where
+module _ (c : WriteCtx) (left : ℕ) (child : ChildWrite) (ih : Follows c left child) where
   -- ---- a map
 
-  field-ends : (at next : Cursor) (bytes : List ℕ) → valueAt (formCtx c) left at ≡ At next → (a : FieldAnswer) → EndsAt (next .at) (fieldValue child at bytes a)
-  unfolding fieldValue fieldNumbers
+  field-ends : (at next : Cursor) (bytes : List ℕ) → valueAt (formCtx c) left at ≡ At next → (a : FieldAnswer) → EndsAt (next .at) (fieldWrite child at bytes a)
+  unfolding fieldWrite fieldNumbers
   field-ends at next bytes h (answer.Field f) =
       ends-if (next .at) (leb (f .offset + f .size) (length bytes)) _ 10 0 bytes (λ e. omega arith)
       (ends-placed (next .at) _ _ bytes _ (ih (whole (f .resolved)) at next _ h))
@@ -307,8 +307,8 @@ module _ (c : Ctx) (left : ℕ) (child : Child) (ih : Follows c left child) wher
   -- ---- an array
 
   elements-end : (item : Content ℕ) (stride n i from k : ℕ) (at next : Cursor) (bytes : List ℕ) → several (formCtx c) (valueAt (formCtx c) left) 2 k at ≡ At next
-      → EndsAt (next .at) (elementsFrom child c item stride n i from k at bytes)
-  unfolding several elementsFrom
+      → EndsAt (next .at) (elementsWrite child c item stride n i from k at bytes)
+  unfolding several elementsWrite
   elements-end item stride n i from zero at next bytes h =
       ends-cond (next .at) (ltb i n) _ _ (ends-refused (next .at) 17 0 bytes (λ e. omega arith)) (ends-closing c 2 at next bytes h)
   elements-end item stride n i from (suc k) at next bytes h =
@@ -320,30 +320,30 @@ module _ (c : Ctx) (left : ℕ) (child : Child) (ih : Follows c left child) wher
   -- a value's record, where the form has one
   module _ (at next : Cursor) (r : Record) (mid : Cursor) (s : stepAt (c .tape) (at .at) ≡ step.Record r mid)
       (h : form.bodyBy (formCtx c) (valueAt (formCtx c) left) (form.recordShape (formCtx c) r) mid ≡ At next) where
-    dimension-ends : (d t e : ℕ) (bytes : List ℕ) → EndsAt (next .at) (dimensionOf child c d t e at bytes)
-    unfolding dimensionOf elementsBy
+    dimension-ends : (d t e : ℕ) (bytes : List ℕ) → EndsAt (next .at) (dimensionWrite child c d t e at bytes)
+    unfolding dimensionWrite elementsBy
     dimension-ends d t e bytes =
         ends-checked (next .at) bytes (elementCheck (c .book) (c .width) d t e) _
         (ends-taken (c .tape) (next .at) at bytes _ r mid s (by (eqb (r .kind) 1) refl))
       where
         by : (b : Bool) → eqb (r .kind) 1 ≡ b
-            → EndsAt (next .at) (cond b (elementsFrom child c (elementItem (c .book) d t e) (strideOf (c .book) d t e) (countOf (c .book) t d) 0 0 (r .a) mid bytes) (refused 17 0 bytes))
+            → EndsAt (next .at) (cond b (elementsWrite child c (elementItem (c .book) d t e) (strideOf (c .book) d t e) (countOf (c .book) t d) 0 0 (r .a) mid bytes) (refused 17 0 bytes))
         by true q =
             elements-end (elementItem (c .book) d t e) (strideOf (c .book) d t e) (countOf (c .book) t d) 0 0 (r .a) mid next bytes
             (array-form (formCtx c) (valueAt (formCtx c) left) r mid next h (eqb-true (r .kind) 1 q))
         by false q = ends-refused (next .at) 17 0 bytes (λ e. omega arith)
 
-    entered-ends : (t : ℕ) (bytes : List ℕ) (x : Entered) → EnteredMild x → EndsAt (next .at) (arrayBy child c t at bytes x)
-    unfolding arrayBy
+    entered-ends : (t : ℕ) (bytes : List ℕ) (x : Entered) → EnteredMild x → EndsAt (next .at) (arrayWriteBy child c t at bytes x)
+    unfolding arrayWriteBy
     entered-ends t bytes (entered.Element e) m = dimension-ends 0 t e bytes
     entered-ends t bytes (entered.Stop n b) m = ends-refused (next .at) n b bytes (m .never)
 
-    array-ends : (t : ℕ) (bytes : List ℕ) → EndsAt (next .at) (arrayOf child c t at bytes)
-    unfolding arrayOf enteredAt
+    array-ends : (t : ℕ) (bytes : List ℕ) → EndsAt (next .at) (arrayWrite child c t at bytes)
+    unfolding arrayWrite enteredAt
     array-ends t bytes = entered-ends t bytes _ (entered-mild (c .book) (c .width) t (length bytes) (shapeOf (categoryOf (c .book) (c .width) t)))
 
     value-ends : (t : ℕ) (bytes : List ℕ) → EndsAt (next .at) (valueBy child c t at bytes r mid)
-    unfolding valueBy mapOf leafOf
+    unfolding valueBy mapWrite leafWrite
     value-ends t bytes = one (eqb (r .kind) 1) refl
       where
         leaf-ends : (r .kind ≡ 1 → ⊥) → (r .kind ≡ 3 → ⊥)
@@ -358,12 +358,12 @@ module _ (c : Ctx) (left : ℕ) (child : Child) (ih : Follows c left child) wher
         three false q n = leaf-ends n (eqb-false (r .kind) 3 q)
 
         one : (b : Bool) → eqb (r .kind) 1 ≡ b
-            → EndsAt (next .at) (cond b (arrayOf child c t at bytes) (cond (eqb (r .kind) 3) (mapBy child c t (r .a) mid bytes (shapeAt (c .book) (c .width) t)) (leafEnd mid bytes (leafFor (c .book) (c .width) t (categoryOf (c .book) (c .width) t) r (c .text) bytes))))
+            → EndsAt (next .at) (cond b (arrayWrite child c t at bytes) (cond (eqb (r .kind) 3) (mapBy child c t (r .a) mid bytes (shapeAt (c .book) (c .width) t)) (leafEnd mid bytes (leafFor (c .book) (c .width) t (categoryOf (c .book) (c .width) t) r (c .text) bytes))))
         one true q = array-ends t bytes
         one false q = three (eqb (r .kind) 3) refl (eqb-false (r .kind) 1 q)
 
-  item-ends : Follows c (suc left) (itemWalk child c)
-  unfolding valueAt itemWalk
+  item-ends : Follows c (suc left) (itemWrite child c)
+  unfolding valueAt itemWrite
   item-ends (whole t) at next bytes h =
       let k = took (stepAt (c .tape) (at .at)) _ next h in
       ends-taken (c .tape) (next .at) at bytes _ (k .r) (k .mid) (k .is) (value-ends at next (k .r) (k .mid) (k .is) (k .goes) t bytes)
@@ -371,14 +371,14 @@ module _ (c : Ctx) (left : ℕ) (child : Child) (ih : Follows c left child) wher
       let k = took (stepAt (c .tape) (at .at)) _ next h in
       dimension-ends at next (k .r) (k .mid) (k .is) (k .goes) d t e bytes
 
-pub walk-follows : (c : Ctx) (left : ℕ) → Follows c left (walk c left)
-unfolding walk valueAt
+pub walk-follows : (c : WriteCtx) (left : ℕ) → Follows c left (writeWalk c left)
+unfolding writeWalk valueAt
 walk-follows c zero i at next bytes h = broken-at h
-walk-follows c (suc left) i at next bytes h = item-ends c left (walk c left) (walk-follows c left) i at next bytes h
+walk-follows c (suc left) i at next bytes h = item-ends c left (writeWalk c left) (walk-follows c left) i at next bytes h
 
 -- ---- the laws
 
-ends-formed : (c : Ctx) (t : ℕ) (image : List ℕ) (p : Place) → valueAt (formCtx c) 64 (record { at = 0 }) ≡ p → atTapeEnd (length (c .tape)) p ≡ true
+ends-formed : (c : WriteCtx) (t : ℕ) (image : List ℕ) (p : FormPlace) → valueAt (formCtx c) 64 (record { at = 0 }) ≡ p → atTapeEnd (length (c .tape)) p ≡ true
     → EndsAt (length (c .tape)) (typeWrite c t image)
 unfolding atTapeEnd typeWrite
 ends-formed c t image (At next) e h =
@@ -391,7 +391,7 @@ unfolding formed
 formed-ends c t image h = ends-formed c t image (valueAt (formCtx c) 64 (record { at = 0 })) refl h
 
 -- the answer of a walk that is not refused with 16
-not-sixteen : (n : ℕ) (o : Outcome) → EndsAt n o → answerOf o ≡ Refused 16 → ⊥
+not-sixteen : (n : ℕ) (o : Outcome) → EndsAt n o → writeAnswerOf o ≡ Refused 16 → ⊥
 not-sixteen n (went at bytes) p e = different cc
 not-sixteen n (refused k b bytes) p e = by (eqb k 7) e
   where
@@ -399,8 +399,8 @@ not-sixteen n (refused k b bytes) p e = by (eqb k 7) e
     by true q = different cc
     by false q = p .ends (let z : k ≡ 16 = cc in z)
 
-root-sixteen : (c : Ctx) (image : List ℕ) (r : Resolved) → formed (c .book) (c .tape) (c .text) ≡ true → answerOf (rootBy c image r) ≡ Refused 16 → ⊥
-unfolding rootBy resolvedNumbers
+root-sixteen : (c : WriteCtx) (image : List ℕ) (r : Resolved) → formed (c .book) (c .tape) (c .text) ≡ true → writeAnswerOf (rootWriteBy c image r) ≡ Refused 16 → ⊥
+unfolding rootWriteBy resolvedNumbers
 root-sixteen c image (resolved.Base t) f e = not-sixteen (length (c .tape)) (typeWrite c t image) (formed-ends c t image f) e
 root-sixteen c image (resolved.NotFound b) f e = different cc
 root-sixteen c image resolved.TooLong f e = different cc
@@ -412,6 +412,6 @@ sixteen-is-form c n image = (λ e. by (formed (c .book) (c .tape) (c .text)) ref
     same : eqb (length image) (length image) ≡ true
     same = eq-eqb (length image) (length image) refl
 
-    by : (t : Bool) → formed (c .book) (c .tape) (c .text) ≡ t → answerOf (bookWrite c n (length image) image) ≡ Refused 16 → formed (c .book) (c .tape) (c .text) ≡ false
+    by : (t : Bool) → formed (c .book) (c .tape) (c .text) ≡ t → writeAnswerOf (bookWrite c n (length image) image) ≡ Refused 16 → formed (c .book) (c .tape) (c .text) ≡ false
     by true q e = absurd (root-sixteen c image (resolveAlias (c .book) (c .width) n) q (rw (same, q) at e))
     by false q e = q

@@ -11,10 +11,10 @@ use Rattle.tape.specs.Record.{recordOf, stepAt}
 use Rattle.tape.specs.declared.record.Record.{Record}
 use Rattle.tape.specs.declared.cursor.Cursor.{Cursor}
 use Rattle.tape.specs.declared.cursor.NextRecord.the-variants as step
-use Rattle.tape_form.specs.declared.form.Place.{Place}
-use Rattle.tape_form.specs.declared.form.Place.the-variants.{At, Broken}
-use Rattle.tape_form.specs.Ranges.{unused, undeclared, declares, blockIs, textIn, onlyA, empty, namesBlock, opens, closes, isKey, textual, leafBy, leafFine}
-use Rattle.tape_form.specs.Form.{Ctx, ctx, Child, withRecord, formOnward, closingRecord, several, memberAt, Shape, elements, members, alone, wrong, recordShape, bodyBy, valueAt, atTapeEnd, formed}
+use Rattle.tape_form.specs.declared.form.FormPlace.{FormPlace}
+use Rattle.tape_form.specs.declared.form.FormPlace.the-variants.{At, Broken}
+use Rattle.tape_form.specs.Ranges.{unused, undeclared, declares, blockIs, textIn, onlyA, empty, namesBlock, opens, closes, isKey, textual, leafRanges, leafFine}
+use Rattle.tape_form.specs.Form.{FormCtx, formCtx, ChildForm, withRecord, formOnward, closingRecord, several, memberAt, FormShape, elements, members, alone, wrong, recordShape, bodyBy, valueAt, atTapeEnd, formed}
 use Rattle.ser_laws.specs.Alike.{Records, SameButEnd}
 
 -- ---- a record
@@ -50,16 +50,16 @@ module _ (r s : Record) (w : SameButEnd r s) where
   unfolding declares
   declares-same book = ap (blockIs book 1) (w .declared)
 
-  ranged-same : (book text : List ℕ) → leafBy book text r (r .kind) ≡ leafBy book text s (s .kind)
-  unfolding leafBy
+  ranged-same : (book text : List ℕ) → leafRanges book text r (r .kind) ≡ leafRanges book text s (s .kind)
+  unfolding leafRanges
   ranged-same book text = by (eqb (r .kind) 11) refl
     where
-      by : (t : Bool) → eqb (r .kind) 11 ≡ t → leafBy book text r (r .kind) ≡ leafBy book text s (s .kind)
+      by : (t : Bool) → eqb (r .kind) 11 ≡ t → leafRanges book text r (r .kind) ≡ leafRanges book text s (s .kind)
       by true q =
           let e : r .kind ≡ 11 = eqb-true (r .kind) 11 q in
           let f : s .kind ≡ 11 = sym (w .kind) ∙ e in
-          ap (leafBy book text r) e ∙ textual-same text e ∙ sym (ap (leafBy book text s) f)
-      by false q = ap (λ (x : Record). leafBy book text x (x .kind)) (equal (eqb-false (r .kind) 11 q))
+          ap (leafRanges book text r) e ∙ textual-same text e ∙ sym (ap (leafRanges book text s) f)
+      by false q = ap (λ (x : Record). leafRanges book text x (x .kind)) (equal (eqb-false (r .kind) 11 q))
 
   leaf-same : (book text : List ℕ) → leafFine book text r ≡ leafFine book text s
   unfolding leafFine
@@ -88,17 +88,17 @@ module _ (r s : Record) (w : SameButEnd r s) where
   unfolding isKey undeclared
   key-same book = rw (names-same book 4 2 (λ e. omega arith), w .declared)
 
-  shape-same : (c : Ctx) → recordShape c r ≡ recordShape c s
+  shape-same : (c : FormCtx) → recordShape c r ≡ recordShape c s
   unfolding recordShape
   shape-same c = rw (opens-same (c .book) 1 (λ e. omega arith), opens-same (c .book) 3 (λ e. omega arith), leaf-same (c .book) (c .text), w .a)
 
 -- ---- two walks over the form that come to the same place, the end of a record
 
-abbrev WholePlace : Place → Type 0
+abbrev WholePlace : FormPlace → Type 0
 WholePlace (At next) = next .at % 24 ≡ 0
 WholePlace Broken = Unit {0}
 
-record SamePlace (p q : Place) : Type 0 where
+record SamePlace (p q : FormPlace) : Type 0 where
   is : p ≡ q
   whole-end : WholePlace p
 
@@ -108,23 +108,23 @@ same-broken = record { is = refl; whole-end = tt }
 same-at : (next : Cursor) → next .at % 24 ≡ 0 → SamePlace (At next) (At next)
 same-at next h = record { is = refl; whole-end = h }
 
-same-cond : (t : Bool) {p q : Place} → SamePlace p q → SamePlace (cond t p Broken) (cond t q Broken)
+same-cond : (t : Bool) {p q : FormPlace} → SamePlace p q → SamePlace (cond t p Broken) (cond t q Broken)
 same-cond true h = h
 same-cond false h = same-broken
 
-same-onward : (p q : Place) (f g : Child) → SamePlace p q → ((next : Cursor) → next .at % 24 ≡ 0 → SamePlace (f next) (g next)) → SamePlace (formOnward p f) (formOnward q g)
+same-onward : (p q : FormPlace) (f g : ChildForm) → SamePlace p q → ((next : Cursor) → next .at % 24 ≡ 0 → SamePlace (f next) (g next)) → SamePlace (formOnward p f) (formOnward q g)
 unfolding formOnward
 same-onward (At next) q f g h k = rw (← h .is) (k next (h .whole-end))
 same-onward Broken q f g h k = rw (← h .is) same-broken
 
 module _ (book text tape tape′ : List ℕ) (alike : Records SameButEnd tape tape′) where
-  abbrev c : Ctx
-  c = ctx book tape text
+  abbrev c : FormCtx
+  c = formCtx book tape text
 
-  abbrev c′ : Ctx
-  c′ = ctx book tape′ text
+  abbrev c′ : FormCtx
+  c′ = formCtx book tape′ text
 
-  same-taken : (here : Cursor) (f f′ : Record → Cursor → Place) → here .at % 24 ≡ 0
+  same-taken : (here : Cursor) (f f′ : Record → Cursor → FormPlace) → here .at % 24 ≡ 0
       → ((r s : Record) (next : Cursor) → SameButEnd r s → next .at % 24 ≡ 0 → SamePlace (f r next) (f′ s next))
       → SamePlace (withRecord (stepAt tape (here .at)) f) (withRecord (stepAt tape′ (here .at)) f′)
   unfolding withRecord stepAt
@@ -140,7 +140,7 @@ module _ (book text tape tape′ : List ℕ) (alike : Records SameButEnd tape ta
   unfolding closingRecord
   closing-same k x here h = same-taken here _ _ h (λ r s next w n. rw (← closes-same r s w k x) (same-cond (closes k r) (same-at next n)))
 
-  module _ (item item′ : Child) (ih : (here : Cursor) → here .at % 24 ≡ 0 → SamePlace (item here) (item′ here)) where
+  module _ (item item′ : ChildForm) (ih : (here : Cursor) → here .at % 24 ≡ 0 → SamePlace (item here) (item′ here)) where
     several-same : (k : ℕ) → (k ≡ 11 → ⊥) → (n : ℕ) (here : Cursor) → here .at % 24 ≡ 0 → SamePlace (several c item k n here) (several c′ item′ k n here)
     unfolding several
     several-same k x zero here h = closing-same k x here h
@@ -150,7 +150,7 @@ module _ (book text tape tape′ : List ℕ) (alike : Records SameButEnd tape ta
     unfolding memberAt
     member-same here h = same-taken here _ _ h (λ r s next w n. rw (← key-same r s w book) (same-cond (isKey book r) (ih next n)))
 
-  body-same : (item item′ : Child) → ((here : Cursor) → here .at % 24 ≡ 0 → SamePlace (item here) (item′ here)) → (x : Shape) (next : Cursor) → next .at % 24 ≡ 0
+  body-same : (item item′ : ChildForm) → ((here : Cursor) → here .at % 24 ≡ 0 → SamePlace (item here) (item′ here)) → (x : FormShape) (next : Cursor) → next .at % 24 ≡ 0
       → SamePlace (bodyBy c item x next) (bodyBy c′ item′ x next)
   unfolding bodyBy
   body-same item item′ ih (elements n) next h = several-same item item′ ih 2 (λ e. omega arith) n next h

@@ -18,7 +18,7 @@ pub record Mild (l : Leaf) : Type 0 where
   pub never : l ≡ leaf.refused 16 → ⊥
 
 pub mild-leaf : (book : List ℕ) (width t : ℕ) (old : List ℕ) (k : AdsTypeCategory) (r : Record) (text : List ℕ) → leafFine book text r ≡ true → Mild (leafFor book width t k r text old)
-unfolding leafFine ranges.leafBy
+unfolding leafFine ranges.leafRanges
 mild-leaf book width t old k r text h =
     let x = leaf-for-tells (λ (n : ℕ). n ≡ 16 → ⊥) (λ e. omega arith) (λ e. omega arith) (λ e. omega arith) (λ e. omega arith) (λ e. omega arith) book width t old k r text
     (λ n6 n7 n8 n9 n10 n11 n12 n13 e.

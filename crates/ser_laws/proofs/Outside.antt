@@ -35,7 +35,7 @@ use Rattle.ser_leaf.specs.Leaf.{Leaf, holds}
 use Rattle.ser_leaf.specs.Leaf as leaf
 use Rattle.ser.specs.declared.array_writer.Entered.the-variants as entered
 use Rattle.tape_array_elements.specs.Element.{Content, whole, further, cut, shapeAt, elementItem, elementCheck}
-use Rattle.ser.specs.Write.{Ctx, Outcome, went, refused, _then_, Child, placed, takenBy, taken, endRecordBy, leafEnd, leafOf, checked, fieldValue, foundValue, keyBy, keyOf, keysFrom, mapBy, mapOf, elementsFrom, elementsBy, dimensionOf, elementType, enteredBy, enteredAt, arrayBy, arrayOf, valueBy, itemWalk, walk}
+use Rattle.ser.specs.Write.{WriteCtx, Outcome, went, refused, _thenWrites_, ChildWrite, placed, takenBy, taken, endRecordBy, leafEnd, leafWrite, checkedWrite, fieldWrite, foundValue, keyBy, keyOf, keysFrom, mapBy, mapWrite, elementsWrite, elementsBy, dimensionWrite, elementType, enteredBy, enteredAt, arrayWriteBy, arrayWrite, valueBy, itemWrite, writeWalk}
 use Rattle.ser_laws.specs.Touched.{Range, Touched, upto, nowhere, rangesThen, _and_, recordBy, endAt, fieldTouched, foundTouched, keyTouched, keysTouched, elementsTouched, dimensionTouched, arrayTouched, valueTouched, itemTouched, walkTouched}
 use Rattle.ser_laws.specs.Touched as touched
 use Rattle.ser_laws.proofs.Sizes.{Sized, sized-for}
@@ -88,8 +88,8 @@ module _ (from : ℕ) (old : List ℕ) where
   agrees-next at mid rs k (refused n b new) t a = agrees-refused from old n b new (rangesThen rs t)
 
   pub agrees-then : (o : Outcome) (t : Touched) (f : Cursor → List ℕ → Outcome) (g : Cursor → Touched) → Agrees from old o t
-      → ((at : Cursor) (mid : List ℕ) → length mid ≡ length old → Agrees from mid (f at mid) (g at)) → Agrees from old (o then f) (t and g)
-  unfolding _then_ _and_
+      → ((at : Cursor) (mid : List ℕ) → length mid ≡ length old → Agrees from mid (f at mid) (g at)) → Agrees from old (o thenWrites f) (t and g)
+  unfolding _thenWrites_ _and_
   agrees-then (went at mid) t f g a h =
       let x = a .agrees in
       let z : (t and g) ≡ rangesThen (x .ranges) (g at) = rw (x .is) in
@@ -113,7 +113,7 @@ unfolding takenBy recordBy
 agrees-by from bytes f g h (step.Record r next) = h r next
 agrees-by from bytes f g h step.End = agrees-refused from bytes 16 0 bytes nowhere
 
-module _ (c : Ctx) (from : ℕ) (bytes : List ℕ) where
+module _ (c : WriteCtx) (from : ℕ) (bytes : List ℕ) where
   agrees-taken : (at : Cursor) (f : Record → Cursor → Outcome) (g : Record → Cursor → Touched)
       → ((r : Record) (next : Cursor) → Agrees from bytes (f r next) (g r next)) → Agrees from bytes (taken (c .tape) at bytes f) (recordBy g (stepAt (c .tape) (at .at)))
   unfolding taken
@@ -137,19 +137,19 @@ agrees-leaf-end from size bytes next e (leaf.refused n) s = agrees-refused from 
 -- ---- the walk
 
 -- a further dimension fills its bytes
-abbrev pub Good : Ctx → Content ℕ → ℕ → Type 0
+abbrev pub Good : WriteCtx → Content ℕ → ℕ → Type 0
 Good c (whole t) size = Unit {0}
 Good c (further d t e) size = Fills (c .book) d t e size
 
-abbrev Children : Ctx → Child → touched.Child → Type 0
+abbrev Children : WriteCtx → ChildWrite → touched.ChildTouched → Type 0
 Children c child marks =
     (i : Content ℕ) (at : Cursor) (from size : ℕ) (bytes : List ℕ) → size ≡ length bytes → Good c i size → Agrees from bytes (child i at bytes) (marks i at from size)
 
-module _ (c : Ctx) (child : Child) (marks : touched.Child) (ih : Children c child marks) where
+module _ (c : WriteCtx) (child : ChildWrite) (marks : touched.ChildTouched) (ih : Children c child marks) where
   -- ---- a map
 
-  field-agrees : (at : Cursor) (from : ℕ) (bytes : List ℕ) (a : FieldAnswer) → Agrees from bytes (fieldValue child at bytes a) (fieldTouched marks at from a)
-  unfolding fieldValue fieldTouched fieldNumbers
+  field-agrees : (at : Cursor) (from : ℕ) (bytes : List ℕ) (a : FieldAnswer) → Agrees from bytes (fieldWrite child at bytes a) (fieldTouched marks at from a)
+  unfolding fieldWrite fieldTouched fieldNumbers
   field-agrees at from bytes (answer.Field f) =
       agrees-if from bytes (leb (f .offset + f .size) (length bytes)) _ 10 0 bytes _ (λ h.
       let l = leb-true (f .offset + f .size) (length bytes) h in
@@ -175,8 +175,8 @@ module _ (c : Ctx) (child : Child) (marks : touched.Child) (ih : Children c chil
   keys-agree t (suc k) at from bytes =
       agrees-then from bytes _ _ _ _ (key-agrees t at from bytes) (λ next mid l. keys-agree t k next from mid)
 
-  checked-agrees : (from : ℕ) (bytes : List ℕ) (f : FieldsCheck) (o : Outcome) (t : Touched) → Agrees from bytes o t → Agrees from bytes (checked f bytes o) t
-  unfolding checked checkNumbers
+  checked-agrees : (from : ℕ) (bytes : List ℕ) (f : FieldsCheck) (o : Outcome) (t : Touched) → Agrees from bytes o t → Agrees from bytes (checkedWrite f bytes o) t
+  unfolding checkedWrite checkNumbers
   checked-agrees from bytes check.Fine o t a = a
   checked-agrees from bytes (check.NotFound b) o t a = agrees-refused from bytes 7 b bytes t
   checked-agrees from bytes check.TooLong o t a = agrees-refused from bytes 8 0 bytes t
@@ -202,8 +202,8 @@ module _ (c : Ctx) (child : Child) (marks : touched.Child) (ih : Children c chil
   -- the elements from index i of n on, at byte `at` of the array's bytes
   module _ (d t e n stride : ℕ) (q : stride ≡ strideOf (c .book) d t e) (item : Content ℕ) (good : Good c item stride) where
     elements-agree : (k i at : ℕ) (cur : Cursor) (from place : ℕ) → place ≡ from + at → (bytes : List ℕ) → Along (c .book) d t e n stride at i (length bytes)
-        → Agrees from bytes (elementsFrom child c item stride n i at k cur bytes) (elementsTouched marks c item stride k cur place)
-    unfolding elementsFrom elementsTouched
+        → Agrees from bytes (elementsWrite child c item stride n i at k cur bytes) (elementsTouched marks c item stride k cur place)
+    unfolding elementsWrite elementsTouched
     elements-agree zero i at cur from place p bytes a = agrees-unless from bytes (ltb i n) _ 17 0 bytes _ (agrees-end c from bytes cur 2)
     elements-agree (suc k) i at cur from place p bytes a =
         agrees-if from bytes (ltb i n) _ 17 0 bytes _ (λ h.
@@ -216,8 +216,8 @@ module _ (c : Ctx) (child : Child) (marks : touched.Child) (ih : Children c chil
         (rw s (along-again {book = c .book} {d = d} {t = t} {e = e} {n = n} {stride = stride} {from = at} {i = i} l a))))
 
   dimension-agrees : (d t e : ℕ) (at : Cursor) (from : ℕ) (bytes : List ℕ) → Fills (c .book) d t e (length bytes)
-      → Agrees from bytes (dimensionOf child c d t e at bytes) (dimensionTouched marks c d t e at from)
-  unfolding dimensionOf dimensionTouched elementsBy
+      → Agrees from bytes (dimensionWrite child c d t e at bytes) (dimensionTouched marks c d t e at from)
+  unfolding dimensionWrite dimensionTouched elementsBy
   dimension-agrees d t e at from bytes f =
       checked-agrees from bytes (elementCheck (c .book) (c .width) d t e) _ _
       (agrees-taken c from bytes at _ _ (λ r next.
@@ -229,28 +229,28 @@ module _ (c : Ctx) (child : Child) (marks : touched.Child) (ih : Children c chil
       start = let z : countOf (c .book) t d - 0 ≡ countOf (c .book) t d = omega arith in rw z (omega (arith, f .fills))
 
   sized-agrees : (t e : ℕ) (at : Cursor) (from : ℕ) (bytes : List ℕ) (b : Bool) → b ≡ eqb (arrayBytes (c .book) t e) (length bytes)
-      → Agrees from bytes (arrayBy child c t at bytes (cond b (entered.Element e) (entered.Stop 10 0))) (dimensionTouched marks c 0 t e at from)
-  unfolding arrayBy
+      → Agrees from bytes (arrayWriteBy child c t at bytes (cond b (entered.Element e) (entered.Stop 10 0))) (dimensionTouched marks c 0 t e at from)
+  unfolding arrayWriteBy
   sized-agrees t e at from bytes true q = dimension-agrees 0 t e at from bytes (fills-first (c .book) t e (length bytes) true q refl)
   sized-agrees t e at from bytes false q = agrees-refused from bytes 10 0 bytes _
 
   element-agrees : (t : ℕ) (at : Cursor) (from : ℕ) (bytes : List ℕ) (r : Resolved)
-      → Agrees from bytes (arrayBy child c t at bytes (elementType (c .book) t (length bytes) r)) (arrayTouched marks c t at from r)
-  unfolding arrayBy elementType arrayTouched resolvedNumbers
+      → Agrees from bytes (arrayWriteBy child c t at bytes (elementType (c .book) t (length bytes) r)) (arrayTouched marks c t at from r)
+  unfolding arrayWriteBy elementType arrayTouched resolvedNumbers
   element-agrees t at from bytes (resolved.Base e) = sized-agrees t e at from bytes (eqb (arrayBytes (c .book) t e) (length bytes)) refl
   element-agrees t at from bytes (resolved.NotFound b) = agrees-refused from bytes 7 b bytes nowhere
   element-agrees t at from bytes resolved.TooLong = agrees-refused from bytes 8 0 bytes nowhere
 
   entered-agrees : (t : ℕ) (at : Cursor) (from : ℕ) (bytes : List ℕ) (b : Bool)
-      → Agrees from bytes (arrayBy child c t at bytes (cond b (elementType (c .book) t (length bytes) (lookUp (c .book) (c .width) t)) (entered.Stop 10 0)))
+      → Agrees from bytes (arrayWriteBy child c t at bytes (cond b (elementType (c .book) t (length bytes) (lookUp (c .book) (c .width) t)) (entered.Stop 10 0)))
       (arrayTouched marks c t at from (lookUp (c .book) (c .width) t))
-  unfolding arrayBy
+  unfolding arrayWriteBy
   entered-agrees t at from bytes true = element-agrees t at from bytes (lookUp (c .book) (c .width) t)
   entered-agrees t at from bytes false = agrees-refused from bytes 10 0 bytes _
 
   array-agrees : (t : ℕ) (at : Cursor) (from : ℕ) (bytes : List ℕ) (s : Shape)
-      → Agrees from bytes (arrayBy child c t at bytes (enteredBy (c .book) (c .width) t (length bytes) s)) (arrayTouched marks c t at from (lookUp (c .book) (c .width) t))
-  unfolding arrayBy enteredBy
+      → Agrees from bytes (arrayWriteBy child c t at bytes (enteredBy (c .book) (c .width) t (length bytes) s)) (arrayTouched marks c t at from (lookUp (c .book) (c .width) t))
+  unfolding arrayWriteBy enteredBy
   array-agrees t at from bytes shape.Array = entered-agrees t at from bytes (eqb (length bytes) (sizeOf (c .book) t))
   array-agrees t at from bytes shape.Map = agrees-refused from bytes 17 0 bytes _
   array-agrees t at from bytes shape.Leaf = agrees-refused from bytes 17 0 bytes _
@@ -259,18 +259,18 @@ module _ (c : Ctx) (child : Child) (marks : touched.Child) (ih : Children c chil
 
   value-agrees : (t : ℕ) (at : Cursor) (from size : ℕ) (bytes : List ℕ) → size ≡ length bytes → (r : Record) (next : Cursor)
       → Agrees from bytes (valueBy child c t at bytes r next) (valueTouched marks c t at from size r next)
-  unfolding valueBy valueTouched arrayOf enteredAt mapOf leafOf
+  unfolding valueBy valueTouched arrayWrite enteredAt mapWrite leafWrite
   value-agrees t at from size bytes e r next =
       agrees-cond from bytes (eqb (r .kind) 1) _ _ _ _ (array-agrees t at from bytes (shapeOf (categoryOf (c .book) (c .width) t)))
       (agrees-cond from bytes (eqb (r .kind) 3) _ _ _ _ (map-agrees t (r .a) next from bytes (shapeAt (c .book) (c .width) t))
       (agrees-leaf-end from size bytes next e _ (sized-for bytes (c .book) (c .width) t (categoryOf (c .book) (c .width) t) r (c .text))))
 
-  item-agrees : Children c (itemWalk child c) (itemTouched marks c)
-  unfolding itemWalk itemTouched
+  item-agrees : Children c (itemWrite child c) (itemTouched marks c)
+  unfolding itemWrite itemTouched
   item-agrees (whole t) at from size bytes e g = agrees-taken c from bytes at _ _ (value-agrees t at from size bytes e)
   item-agrees (further d t e′) at from size bytes e g = dimension-agrees d t e′ at from bytes (rw e at g)
 
-pub walk-agrees : (c : Ctx) (left : ℕ) → Children c (walk c left) (walkTouched c left)
-unfolding walk walkTouched
+pub walk-agrees : (c : WriteCtx) (left : ℕ) → Children c (writeWalk c left) (walkTouched c left)
+unfolding writeWalk walkTouched
 walk-agrees c zero i at from size bytes e g = agrees-refused from bytes 16 0 bytes nowhere
-walk-agrees c (suc left) i at from size bytes e g = item-agrees c (walk c left) (walkTouched c left) (walk-agrees c left) i at from size bytes e g
+walk-agrees c (suc left) i at from size bytes e g = item-agrees c (writeWalk c left) (walkTouched c left) (walk-agrees c left) i at from size bytes e g

@@ -28,8 +28,8 @@ use Rattle.tape_form.proofs.Laws.{complete}
 use Rattle.de_output.specs.declared.Step.the-variants.{Stop}
 use Rattle.de_output.specs.declared.ReadAnswer.{ReadAnswer}
 use Rattle.de_output.specs.declared.ReadAnswer.the-variants as reading
-use Rattle.de_output.specs.Trace.{Event, Trace, done, stop, textBytes, tapeBytes, eventsOf, endOf, fits, stepOf, refuse}
-use Rattle.de_output.specs.Answer.{answerOf, bufferAfter, ReadIs}
+use Rattle.de_output.specs.Trace.{TapeEvent, Trace, done, stop, textBytes, tapeBytes, eventsOf, endOf, fits, stepOf, refuse}
+use Rattle.de_output.specs.Answer.{readAnswerOf, bufferAfter, ReadIs}
 use Rattle.de_output.proofs.Numbers.{read-is}
 use Rattle.tape_array_elements.specs.Element.{whole}
 use Rattle.de.specs.Walk.{ctx, typedOf}
@@ -73,7 +73,7 @@ bytes-length (r ∷ rs) = length-append (recordBytes r) (trees.recordsBytes rs) 
 
 -- what an accepted answer tells of a trace
 record Told (t : Trace) (tape txt tape′ txt′ : List ℕ) (k m : ℕ) : Type 0 where
-  events : List Event
+  events : List TapeEvent
   is : t ≡ done events
   count : k ≡ length (tapeBytes 0 events) / 24
   size : m ≡ length (textBytes events)
@@ -86,12 +86,12 @@ unfolding fitsIn
 fits-size [] room h = omega arith
 fits-size (x ∷ xs) room h = let l = leb-true (0 + length (x ∷ xs)) room h in omega (arith, l)
 
-fits-text : (es : List Event) (tapeRoom textRoom : ℕ) → fits es 0 0 tapeRoom textRoom ≡ true → length (textBytes es) ≤ textRoom
+fits-text : (es : List TapeEvent) (tapeRoom textRoom : ℕ) → fits es 0 0 tapeRoom textRoom ≡ true → length (textBytes es) ≤ textRoom
 unfolding fits
 fits-text es tapeRoom textRoom h = fits-size (textBytes es) textRoom (and-right (fitsIn (tapeBytes 0 es) 0 tapeRoom) _ h)
 
 -- whole records
-module _ (book buffer : List ℕ) (es : List Event) (v : Value book buffer 64 0 es) where
+module _ (book buffer : List ℕ) (es : List TapeEvent) (v : Value book buffer 64 0 es) where
   whole-records : 24 * (length (tapeBytes 0 es) / 24) ≡ length (tapeBytes 0 es)
   whole-records = let b = ap length (v .bytes) in let e = bytes-length (records (v .tree)) in omega (arith, b, e)
 
@@ -115,7 +115,7 @@ module _ (xs txt : List ℕ) (room : ℕ) (l : length xs ≤ room) where
       omega (arith, part-length, y, f, h)
 
 module _ (tape txt tape′ txt′ : List ℕ) (k m : ℕ) where
-  told-by : (t : Trace) (b : Bool) → fits (eventsOf t) 0 0 (length tape) (length txt) ≡ b → reading.Done k m ≡ answerOf (cond b (endOf t 0 0) (Stop 15 0))
+  told-by : (t : Trace) (b : Bool) → fits (eventsOf t) 0 0 (length tape) (length txt) ≡ b → reading.Done k m ≡ readAnswerOf (cond b (endOf t 0 0) (Stop 15 0))
       → tape′ ≡ bufferAfter (cond b (endOf t 0 0) (Stop 15 0)) (tapeBytes 0 (eventsOf t)) tape
       → txt′ ≡ bufferAfter (cond b (endOf t 0 0) (Stop 15 0)) (textBytes (eventsOf t)) txt → Told t tape txt tape′ txt′ k m
   unfolding endOf eventsOf
@@ -142,7 +142,7 @@ module _ (tape txt tape′ txt′ : List ℕ) (k m : ℕ) where
 
   -- the events of an accepted read, as they stand in the two buffers
   pub record Standing (t : Trace) (room : ℕ) : Type 0 where
-    pub events : List Event
+    pub events : List TapeEvent
     pub is : t ≡ done events
     pub records : take (24 * k) tape′ ≡ tapeBytes 0 events
     pub texts : Stands (take room txt′) 0 (textBytes events)

@@ -38,12 +38,12 @@ use Rattle.de_leaves.specs.Leaf.{leafAt}
 use Rattle.de_leaf_output.specs.Leaves.{endsAt, endByte, traceOf}
 use Rattle.de_leaf_output.proofs.Ended.{end-small}
 use Rattle.enc_text_decoder.specs.Text.{decodedBy}
-use Rattle.de_output.specs.Trace.{Event, rec, text, Trace, done, stop, textBytes, tapeBytes, one, refuse, _then_}
+use Rattle.de_output.specs.Trace.{TapeEvent, rec, text, Trace, done, stop, textBytes, tapeBytes, one, refuse, _then_}
 use Rattle.de_output.proofs.Runs.{text-then, tape-then}
 use Rattle.tape_array_elements.specs.Element.{Content, whole, further, shapeAt, elementItem, elementCheck}
 use Rattle.de_leaf_output.specs.declared.Typed.{Typed}
-use Rattle.de.specs.Walk.{Ctx, ctx, typedOf, Child, leafOf, checked, fieldValue, memberOf, membersFrom, membersOf, mapOf, elementsFrom, elementsOf, dimensionOf, elementBy, arrayBy, arrayOf, shapeWalk, itemWalk, walk}
-use Rattle.tape_form.specs.Tree.{Tree, leaf, array, map, Elements, none, element, Members, no-keys, member, elementCount, keys, with-type, with-A, records, elementRecords, memberRecords, depth, elementsDepth, membersDepth, LeafForm, FineType, FineLeaf, FineKey, Fine, FineElements, FineMembers}
+use Rattle.de.specs.Walk.{Ctx, ctx, typedOf, Child, leafOf, checked, fieldValue, memberOf, membersFrom, membersOf, mapOf, elementsFrom, elementsOf, dimensionOf, elementBy, arrayBy, arrayOf, shapeWalk, itemWalk, readWalk}
+use Rattle.tape_form.specs.Tree.{Tree, leaf, array, map, Elements, none, element, Members, no-keys, member, elementCount, keys, with-type, with-A, records, elementRecords, memberRecords, depth, elementsDepth, membersDepth, LeafRanges, FineType, FineLeaf, FineKey, Fine, FineElements, FineMembers}
 use Rattle.tape_form.specs.Tree as trees
 use Rattle.ser_laws.proofs.ReadLeaf.{FineValue, leaf-fine, bits-small, decoded-formed}
 
@@ -137,56 +137,56 @@ bytes-append (r ∷ xs) ys = rw (bytes-append xs ys) (sym (append-assoc (recordB
 
 module _ (book buffer : List ℕ) where
   -- the records of a value, of elements and of members with their end, of one member
-  pub record Value (left from : ℕ) (es : List Event) : Type 0 where
+  pub record Value (left from : ℕ) (es : List TapeEvent) : Type 0 where
     pub tree : Tree
     pub levels : depth tree ≤ left
     pub fine : Fine book buffer tree
     pub bytes : tapeBytes from es ≡ trees.recordsBytes (records tree)
 
-  record Several (left n from : ℕ) (es : List Event) : Type 0 where
+  record Several (left n from : ℕ) (es : List TapeEvent) : Type 0 where
     all : Elements
     many : elementCount all ≡ n
     levels : elementsDepth all ≤ left
     fine : FineElements book buffer all
     bytes : tapeBytes from es ≡ trees.recordsBytes (elementRecords all)
 
-  record Keyed (left n from : ℕ) (es : List Event) : Type 0 where
+  record Keyed (left n from : ℕ) (es : List TapeEvent) : Type 0 where
     all : Members
     many : keys all ≡ n
     levels : membersDepth all ≤ left
     fine : FineMembers book buffer all
     bytes : tapeBytes from es ≡ trees.recordsBytes (memberRecords all)
 
-  record OneKey (left f from : ℕ) (es : List Event) : Type 0 where
+  record OneKey (left f from : ℕ) (es : List TapeEvent) : Type 0 where
     tree : Tree
     levels : depth tree ≤ left
     fine : Fine book buffer tree
     bytes : tapeBytes from es ≡ recordBytes (with-A 4 f) ++ trees.recordsBytes (records tree)
 
   -- a trace that is not refused emits events that are so, where their texts stand
-  abbrev EmitsBy : (ℕ → List Event → Type 0) → Trace → Type 0
+  abbrev EmitsBy : (ℕ → List TapeEvent → Type 0) → Trace → Type 0
   EmitsBy P (done es) = (from : ℕ) → Stands buffer from (textBytes es) → P from es
   EmitsBy P (stop es n b) = Unit {0}
 
-  pub record Emits (P : ℕ → List Event → Type 0) (t : Trace) : Type 0 where
+  pub record Emits (P : ℕ → List TapeEvent → Type 0) (t : Trace) : Type 0 where
     pub emits : EmitsBy P t
 
-  pub emits-refused : (P : ℕ → List Event → Type 0) (n b : ℕ) → Emits P (refuse n b)
+  pub emits-refused : (P : ℕ → List TapeEvent → Type 0) (n b : ℕ) → Emits P (refuse n b)
   emits-refused P n b = record { emits = tt }
 
-  emits-if : (P : ℕ → List Event → Type 0) (x : Bool) (t : Trace) (n b : ℕ) → Emits P t → Emits P (cond x t (refuse n b))
+  emits-if : (P : ℕ → List TapeEvent → Type 0) (x : Bool) (t : Trace) (n b : ℕ) → Emits P t → Emits P (cond x t (refuse n b))
   emits-if P true t n b p = p
   emits-if P false t n b p = emits-refused P n b
 
-  emits-checked : (P : ℕ → List Event → Type 0) (f : FieldsCheck) (t : Trace) → Emits P t → Emits P (checked f t)
+  emits-checked : (P : ℕ → List TapeEvent → Type 0) (f : FieldsCheck) (t : Trace) → Emits P t → Emits P (checked f t)
   unfolding checked checkNumbers
   emits-checked P check.Fine t p = p
   emits-checked P (check.NotFound b) t p = emits-refused P 7 b
   emits-checked P check.TooLong t p = emits-refused P 8 0
 
   -- one trace after another
-  pub emits-then : (P Q R : ℕ → List Event → Type 0) (t u : Trace) → Emits P t → Emits Q u
-      → ((from : ℕ) (es fs : List Event) → P from es → Q (from + length (textBytes es)) fs → R from (es ++ fs)) → Emits R (t then u)
+  pub emits-then : (P Q R : ℕ → List TapeEvent → Type 0) (t u : Trace) → Emits P t → Emits Q u
+      → ((from : ℕ) (es fs : List TapeEvent) → P from es → Q (from + length (textBytes es)) fs → R from (es ++ fs)) → Emits R (t then u)
   unfolding _then_
   emits-then P Q R (done xs) (done ys) p q f =
       record {
@@ -199,8 +199,8 @@ module _ (book buffer : List ℕ) where
   emits-then P Q R (stop xs n b) u p q f = record { emits = tt }
 
   -- one record before a trace
-  pub emits-after : (Q R : ℕ → List Event → Type 0) (r : Record) (u : Trace) → Emits Q u
-      → ((from : ℕ) (fs : List Event) → Q from fs → R from (rec r ∷ fs)) → Emits R (one (rec r) then u)
+  pub emits-after : (Q R : ℕ → List TapeEvent → Type 0) (r : Record) (u : Trace) → Emits Q u
+      → ((from : ℕ) (fs : List TapeEvent) → Q from fs → R from (rec r ∷ fs)) → Emits R (one (rec r) then u)
   unfolding textBytes
   emits-after Q R r u q f =
       emits-then (λ from es. es ≡ rec r ∷ []) Q R (one (rec r)) u (record { emits = λ from s. refl }) q
@@ -224,7 +224,7 @@ module _ (book buffer : List ℕ) where
         }
 
     fine-record : (m : ℕ) → FineType book m → (k w a b : ℕ) → k < 256 → w < 256 → a < 2 ^ 64 → b < 2 ^ 64
-        → LeafForm book buffer (record { kind = k; width = w; spare = 0; declared = m; a = a; b = b })
+        → LeafRanges book buffer (record { kind = k; width = w; spare = 0; declared = m; a = a; b = b })
         → FineLeaf book buffer (record { kind = k; width = w; spare = 0; declared = m; a = a; b = b })
     fine-record m d k w a b hk hw ha hb l =
         record {
@@ -456,7 +456,7 @@ module _ (book buffer : List ℕ) where
         item-emits (whole x) mem g b = shape-emits x g mem b (shapeAt book width (x .resolved))
         item-emits (further d t e) mem g b = dimension-emits t d t e (g .1) (g .0) (g .1) mem b
 
-      pub walk-emits : (left : ℕ) → Children left (walk c left)
-      unfolding walk
+      pub walk-emits : (left : ℕ) → Children left (readWalk c left)
+      unfolding readWalk
       walk-emits zero i mem g b = emits-refused (Value zero) 14 0
-      walk-emits (suc left) i mem g b = item-emits left (walk c left) (walk-emits left) i mem g b
+      walk-emits (suc left) i mem g b = item-emits left (readWalk c left) (walk-emits left) i mem g b

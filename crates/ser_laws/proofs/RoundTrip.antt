@@ -15,7 +15,7 @@ use Rattle.resolvers.specs.declared.Resolved.{Resolved}
 use Rattle.resolvers.specs.declared.Resolved.the-variants as resolved
 use Rattle.tape.specs.declared.cursor.Cursor.{Cursor}
 use Rattle.tape_form.specs.Form.{formed}
-use Rattle.de_output.specs.Trace.{Event, done, refuse, textBytes, tapeBytes}
+use Rattle.de_output.specs.Trace.{TapeEvent, done, refuse, textBytes, tapeBytes}
 use Rattle.tape_array_elements.specs.Element.{whole}
 use Rattle.de.specs.Walk as de
 use Rattle.de.specs.Read as reading
@@ -23,7 +23,7 @@ use Rattle.ser.specs.declared.WriteAnswer.{WriteAnswer}
 use Rattle.ser.proofs.Numbers.{write-is}
 use Rattle.ser.specs.Write as ser
 use Rattle.ser.specs.Write.{Outcome, went}
-use Rattle.ser.specs.Call.{typeWrite, rootBy, rootWrite, bookWrite, writeCall, WriteIs}
+use Rattle.ser.specs.Call.{typeWrite, rootWriteBy, rootWrite, bookWrite, writeCall, WriteIs}
 use Rattle.ser_laws.specs.Trip as trip
 use Rattle.ser_laws.specs.Laws.{GivenBack, RoundTrip}
 use Rattle.ser_laws.proofs.Plain.{different}
@@ -36,31 +36,31 @@ record Same (o : Outcome) (mem : List ℕ) : Type 0 where
   at : Cursor
   is : o ≡ went at mem
 
-module _ (book buffer tape : List ℕ) (small : length buffer < 2 ^ 64) (width : ℕ) (mem : List ℕ) (b : Bytes mem) (es : List Event)
+module _ (book buffer tape : List ℕ) (small : length buffer < 2 ^ 64) (width : ℕ) (mem : List ℕ) (b : Bytes mem) (es : List TapeEvent)
     (records : tape ≡ tapeBytes 0 es) (texts : Stands buffer 0 (textBytes es)) where
   by-type : ValidBook book → Bytes book → (n t : ℕ) → isType book n ≡ true → isType book t ≡ true → trip.walkKept (de.ctx book width) 64 (whole t) mem ≡ true
-      → de.walk (de.ctx book width) 64 (whole (de.typedOf (de.ctx book width) n t)) mem ≡ done es → Same (typeWrite (ser.ctx book width tape buffer) t mem) mem
+      → de.readWalk (de.ctx book width) 64 (whole (de.typedOf (de.ctx book width) n t)) mem ≡ done es → Same (typeWrite (ser.writeCtx book width tape buffer) t mem) mem
   unfolding typeWrite
   by-type v p n t x y h e =
-      let g : Emits book buffer (Back book buffer tape (ser.walk (ser.ctx book width tape buffer) 64 (whole t)) mem) (done es) =
+      let g : Emits book buffer (Back book buffer tape (ser.writeWalk (ser.writeCtx book width tape buffer) 64 (whole t)) mem) (done es) =
       rw e at (walk-back book buffer tape small v p width 64 (whole (de.typedOf (de.ctx book width) n t)) mem (record { resolved = y; named = x }) b h) in
       record { at = _; is = g .emits 0 texts .back 0 [] (records ∙ sym (append-nil (tapeBytes 0 es))) }
 
   by-root : ValidBook book → Bytes book → (n : ℕ) → isType book n ≡ true → (r : Resolved) → ((u : ℕ) → r ≡ resolved.Base u → isType book u ≡ true) → trip.rootKept (de.ctx book width) mem r ≡ true
-      → reading.rootBy (de.ctx book width) n mem r ≡ done es → Same (rootBy (ser.ctx book width tape buffer) mem r) mem
-  unfolding reading.rootBy rootBy trip.rootKept resolvedNumbers
+      → reading.rootBy (de.ctx book width) n mem r ≡ done es → Same (rootWriteBy (ser.writeCtx book width tape buffer) mem r) mem
+  unfolding reading.rootBy rootWriteBy trip.rootKept resolvedNumbers
   by-root v p n x (resolved.Base t) y h e = by-type v p n t x (y t refl) h e
   by-root v p n x (resolved.NotFound k) y h e = different cc
   by-root v p n x resolved.TooLong y h e = different cc
 
   book-same : ValidBook book → Bytes book → (n : ℕ) → isType book n ≡ true → trip.isKept (de.ctx book width) n mem ≡ true → reading.rootTrace (de.ctx book width) n mem ≡ done es
-      → formed book tape buffer ≡ true → Same (bookWrite (ser.ctx book width tape buffer) n (length mem) mem) mem
+      → formed book tape buffer ≡ true → Same (bookWrite (ser.writeCtx book width tape buffer) n (length mem) mem) mem
   unfolding bookWrite rootWrite reading.rootTrace trip.isKept
   book-same v p n y h e f =
       let s = by-root v p n y (resolveAlias book width n) (base-typed book width n y) h e in
       record { at = s .at; is = rw (eq-eqb (length mem) (length mem) refl, f) (s .is) }
 
-call-same : (buffer : List ℕ) (len width n : ℕ) (mem tape text : List ℕ) → Bytes buffer → Bytes mem → length text < 2 ^ 64 → (es : List Event) → tape ≡ tapeBytes 0 es → Stands text 0 (textBytes es)
+call-same : (buffer : List ℕ) (len width n : ℕ) (mem tape text : List ℕ) → Bytes buffer → Bytes mem → length text < 2 ^ 64 → (es : List TapeEvent) → tape ≡ tapeBytes 0 es → Stands text 0 (textBytes es)
     → trip.isKept (de.ctx (take len buffer) width) n mem ≡ true → formed (take len buffer) tape text ≡ true
     → reading.readTrace buffer len width n mem ≡ done es → Same (writeCall buffer len width n mem (length mem) tape text) mem
 unfolding writeCall reading.readTrace

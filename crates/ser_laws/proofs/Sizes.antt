@@ -24,7 +24,7 @@ use Rattle.time_types.specs.Counts.{countWidth}
 use Rattle.tape.specs.declared.record.Record.{Record}
 use Rattle.ser_leaf.specs.declared.Target.{Target}
 use Rattle.ser_leaf.specs.declared.Target.the-variants as target
-use Rattle.ser_leaf.specs.Leaf.{Leaf, holds, refused, exactly, boolLeaf, realId, realLeaf, integerEnd, integerBy, pointerLeaf, integerLeaf, entryBy, entryLeaf, enumLeaf, padded, textBy, textLeaf, leafBy, targetOf, countLeaf, leafFor}
+use Rattle.ser_leaf.specs.Leaf.{Leaf, holds, refused, exactly, boolWrite, realId, realWrite, integerEnd, integerBy, pointerWrite, integerWrite, entryBy, entryLeaf, enumWrite, padded, textBy, textWrite, leafWriteBy, targetOf, countLeaf, leafFor}
 
 abbrev SizedBy : List ℕ → Leaf → Type 0
 SizedBy old (holds bs) = length bs ≡ length old
@@ -64,8 +64,8 @@ module _ (old : List ℕ) where
       integer-end (eqb (idWidth id) 0) (fitsId id (integerValue v)) (eqb (length old) (idWidth id)) _
       (λ h. length-leBytes (idWidth id) _ ∙ sym (eqb-true (length old) (idWidth id) h))
 
-  sized-pointer : (width : ℕ) (v : Integer) → Sized old (pointerLeaf width v old)
-  unfolding pointerLeaf
+  sized-pointer : (width : ℕ) (v : Integer) → Sized old (pointerWrite width v old)
+  unfolding pointerWrite
   sized-pointer width v =
       sized-cond old (eqb width 2) _ _ (sized-integer UInt16 v)
       (sized-cond old (eqb width 4) _ _ (sized-integer UInt32 v)
@@ -84,16 +84,16 @@ module _ (old : List ℕ) where
       sized-cond old (eqb id 30) _ _ (sized-padded _ 1) (sized-cond old (eqb id 31) _ _ (sized-padded _ 2) (sized-refused old 17))
 
   module _ (book : List ℕ) (width t : ℕ) where
-    sized-bool : (b : ℕ) → Sized old (boolLeaf book t b old)
-    unfolding boolLeaf
+    sized-bool : (b : ℕ) → Sized old (boolWrite book t b old)
+    unfolding boolWrite
     sized-bool b = sized-cond old (eqb (typeIdOf book t) 33) _ _ (sized-exactly _) (sized-refused old 17)
 
-    sized-real : (is-double : Bool) (b : ℕ) → Sized old (realLeaf book t is-double b old)
-    unfolding realLeaf
+    sized-real : (is-double : Bool) (b : ℕ) → Sized old (realWrite book t is-double b old)
+    unfolding realWrite
     sized-real is-double b = sized-cond old (eqb (typeIdOf book t) (realId is-double)) _ _ (sized-exactly _) (sized-refused old 17)
 
-    sized-number : (v : Integer) (k : Target) → Sized old (integerLeaf book width t v old k)
-    unfolding integerLeaf
+    sized-number : (v : Integer) (k : Target) → Sized old (integerWrite book width t v old k)
+    unfolding integerWrite
     sized-number v target.Pointer = sized-pointer width v
     sized-number v target.Enum = sized-integer _ v
     sized-number v target.Other = sized-integer _ v
@@ -107,20 +107,20 @@ module _ (old : List ℕ) where
     unfolding entryLeaf
     sized-entry name = sized-cond old (eqb (length old) (sizeOf book t)) _ _ (sized-found (entryNamed book t name)) (sized-refused old 10)
 
-    sized-enum : (name : List ℕ) (k : Target) → Sized old (enumLeaf book t name old k)
-    unfolding enumLeaf
+    sized-enum : (name : List ℕ) (k : Target) → Sized old (enumWrite book t name old k)
+    unfolding enumWrite
     sized-enum name target.Enum = sized-entry name
     sized-enum name target.Pointer = sized-refused old 17
     sized-enum name target.Other = sized-refused old 17
 
-    sized-text : (text : List ℕ) (k : Target) → Sized old (textLeaf book t text old k)
-    unfolding textLeaf
+    sized-text : (text : List ℕ) (k : Target) → Sized old (textWrite book t text old k)
+    unfolding textWrite
     sized-text text target.Enum = sized-entry text
     sized-text text target.Pointer = sized-text-by _ _ text
     sized-text text target.Other = sized-text-by _ _ text
 
-    sized-leaf : (k : Target) (r : Record) (text : List ℕ) → Sized old (leafBy book width t k r text old)
-    unfolding leafBy
+    sized-leaf : (k : Target) (r : Record) (text : List ℕ) → Sized old (leafWriteBy book width t k r text old)
+    unfolding leafWriteBy
     sized-leaf k r text =
         sized-cond old (eqb (r .kind) 6) _ _ (sized-bool (r .b))
         (sized-cond old (eqb (r .kind) 7) _ _ (sized-number _ k)

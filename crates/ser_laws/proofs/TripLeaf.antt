@@ -54,10 +54,10 @@ use Rattle.enc_text_decoder.specs.Text.{endBy, decodedBy}
 use Rattle.enc_utf_8.specs.Utf8.{wellFormed}
 use Rattle.enc_utf_8_replacing.proofs.Texts.{text-formed}
 use Rattle.enc_text_decoder.specs.declared.Decoder.the-variants as decoder
-use Rattle.de_output.specs.Trace.{Event, rec, text, textBytes, tapeBytes, one}
+use Rattle.de_output.specs.Trace.{TapeEvent, rec, text, textBytes, tapeBytes, one}
 use Rattle.ser_leaf.specs.declared.Target.{Target}
 use Rattle.ser_leaf.specs.declared.Target.the-variants as target
-use Rattle.ser_leaf.specs.Leaf.{Leaf, holds, exactly, boolLeaf, realId, realBytes, realLeaf, integerBy, pointerLeaf, targetOf, integerLeaf, entryBy, entryLeaf, enumLeaf, padded, stringBytes, textBy, textLeaf, leafBy, countLeaf, leafFor}
+use Rattle.ser_leaf.specs.Leaf.{Leaf, holds, exactly, boolWrite, realId, realBytes, realWrite, integerBy, pointerWrite, targetOf, integerWrite, entryBy, entryLeaf, enumWrite, padded, stringBytes, textBy, textWrite, leafWriteBy, countLeaf, leafFor}
 use Rattle.ser_laws.specs.Trip.{zerosAfter, isWhole, textKept, entryKept, leafKept}
 use Rattle.ser_laws.proofs.Plain.{different, and-left, and-right}
 use Rattle.ser_laws.proofs.ReadLeaf.{FineValue, read-fine, enum-fine, bits-small}
@@ -101,7 +101,7 @@ five-real = refl
 
 -- the record of a leaf, which written over its bytes, as `over` has it, gives them back
 module _ (book buffer : List ℕ) (decl : ℕ) (below : decl < 2 ^ 32) (mem : List ℕ) (b : Bytes mem) (over : Record → Leaf) where
-  pub record LeafBack (from : ℕ) (es : List Event) : Type 0 where
+  pub record LeafBack (from : ℕ) (es : List TapeEvent) : Type 0 where
     pub r : Record
     pub held : Held r
     pub bytes : tapeBytes from es ≡ recordBytes r
@@ -145,8 +145,8 @@ module _ (book buffer : List ℕ) (decl : ℕ) (below : decl < 2 ^ 32) (mem : Li
         by read.Unsupported e f = record { emits = tt }
 
 module _ (book buffer : List ℕ) (decl : ℕ) (below : decl < 2 ^ 32) (width t : ℕ) (mem : List ℕ) (b : Bytes mem) (k : Target) where
-  abbrev BackBy : ℕ → List Event → Type 0
-  BackBy = LeafBack book buffer decl below mem b (λ r. leafBy book width t k r buffer mem)
+  abbrev BackBy : ℕ → List TapeEvent → Type 0
+  BackBy = LeafBack book buffer decl below mem b (λ r. leafWriteBy book width t k r buffer mem)
 
   pub record Goes (v : LeafValue) : Type 0 where
     pub goes : leafKept book t mem v ≡ true → Emits book buffer BackBy (traceOf decl v mem)
@@ -159,30 +159,30 @@ module _ (book buffer : List ℕ) (decl : ℕ) (below : decl < 2 ^ 32) (width t 
   goes-cond false v w p q = q refl
 
   -- one record
-  goes-one : (kind w a n : ℕ) → Held (rec-of decl kind w a n) → (kind ≡ 1 → ⊥) → (kind ≡ 3 → ⊥) → leafBy book width t k (rec-of decl kind w a n) buffer mem ≡ holds mem
+  goes-one : (kind w a n : ℕ) → Held (rec-of decl kind w a n) → (kind ≡ 1 → ⊥) → (kind ≡ 3 → ⊥) → leafWriteBy book width t k (rec-of decl kind w a n) buffer mem ≡ holds mem
       → Emits book buffer BackBy (one (rec (rec-of decl kind w a n)))
-  goes-one = one-back book buffer decl below mem b (λ r. leafBy book width t k r buffer mem)
+  goes-one = one-back book buffer decl below mem b (λ r. leafWriteBy book width t k r buffer mem)
 
   -- ---- integers
 
-  module _ (id : AdsTypeId) (same : (v : Integer) → integerLeaf book width t v mem k ≡ integerBy id v mem) where
+  module _ (id : AdsTypeId) (same : (v : Integer) → integerWrite book width t v mem k ≡ integerBy id v mem) where
     goes-integer : Goes (leaves.integerLeaf (readInteger id mem))
-    unfolding leafBy
+    unfolding leafWriteBy
     goes-integer = record {
-      goes = λ h. integer-goes book buffer decl below mem b (λ r. leafBy book width t k r buffer mem) id (λ w n. same (integer.Signed w n)) (λ w n. same (integer.Unsigned w n));
+      goes = λ h. integer-goes book buffer decl below mem b (λ r. leafWriteBy book width t k r buffer mem) id (λ w n. same (integer.Signed w n)) (λ w n. same (integer.Unsigned w n));
     }
 
   -- ---- reals
 
-  real-writes : (d : Bool) (n : ℕ) → typeIdOf book t ≡ realId d → n ≡ leValue mem → length mem ≡ realBytes d → realLeaf book t d n mem ≡ holds mem
-  unfolding realLeaf
+  real-writes : (d : Bool) (n : ℕ) → typeIdOf book t ≡ realId d → n ≡ leValue mem → length mem ≡ realBytes d → realWrite book t d n mem ≡ holds mem
+  unfolding realWrite
   real-writes d n e q l =
       let z : leBytes (realBytes d) n ≡ mem = rw (← l, q) (leBytes-leValue mem b) in
       rw (eq-eqb (typeIdOf book t) (realId d) e) (exactly-back (leBytes (realBytes d) n) mem z)
 
   module _ (d : typeIdOf book t ≡ 4) (l : length mem ≡ 4) where
     single-goes : (n : ℕ) → n ≡ leValue mem → n < 2 ^ 32 → Emits book buffer BackBy (one (rec (rec-of decl 9 0 0 n)))
-    unfolding leafBy
+    unfolding leafWriteBy
     single-goes n q s = goes-one 9 0 0 n (held-of decl 9 0 0 n below (omega arith) (omega arith) (omega arith) (omega arith)) (λ z. omega arith) (λ z. omega arith) (real-writes false n d q l)
 
     goes-single : Goes (leaves.realLeaf (realOf false (leValue mem)))
@@ -202,7 +202,7 @@ module _ (book buffer : List ℕ) (decl : ℕ) (below : decl < 2 ^ 32) (width t 
 
   module _ (d : typeIdOf book t ≡ 5) (l : length mem ≡ 8) where
     double-goes : (n : ℕ) → n ≡ leValue mem → n < 2 ^ 64 → Emits book buffer BackBy (one (rec (rec-of decl 10 0 0 n)))
-    unfolding leafBy
+    unfolding leafWriteBy
     double-goes n q s = goes-one 10 0 0 n (held-of decl 10 0 0 n below (omega arith) (omega arith) (omega arith) (omega arith)) (λ z. omega arith) (λ z. omega arith) (real-writes true n d q l)
 
     goes-double : Goes (leaves.realLeaf (realOf true (leValue mem)))
@@ -254,7 +254,7 @@ module _ (book buffer : List ℕ) (decl : ℕ) (below : decl < 2 ^ 32) (width t 
   bool-held false = held-of decl 6 0 0 0 below (omega arith) (omega arith) (omega arith) (omega arith)
 
   goes-bool : typeIdOf book t ≡ 33 → Goes (leaves.boolLeaf mem)
-  unfolding leaves.boolLeaf leafKept leafBy boolLeaf
+  unfolding leaves.boolLeaf leafKept leafWriteBy boolWrite
   goes-bool d =
       goes-cond (eqb (length mem) 1) _ _ (λ l. record {
         goes = λ h.
@@ -282,7 +282,7 @@ module _ (book buffer : List ℕ) (decl : ℕ) (below : decl < 2 ^ 32) (width t 
         rw (le-leb (from + length xs) (length buffer) (s .inside)) (ap (take (length xs)) (s .is) ∙ take-append-seam xs (s .rest))
 
     goes-one-text : (w : ℕ) (xs : List ℕ) → w ≤ 1 → textBy (typeIdOf book t) (flagOf book t 5) xs mem ≡ holds mem → Emits book buffer BackBy (one (text w decl xs))
-    unfolding tapeBytes textBytes leafBy textLeaf
+    unfolding tapeBytes textBytes leafWriteBy textWrite
     goes-one-text w xs o e =
         record {
           emits = λ from s.
@@ -362,7 +362,7 @@ module _ (book buffer : List ℕ) (decl : ℕ) (below : decl < 2 ^ 32) (width t 
     name-text n i = rw (lt-ltb n 65536 (omega (arith, i, few)))
 
     goes-entry : (n : ℕ) → n < blocks book → Goes (value.Entry n)
-    unfolding leafKept leafBy enumLeaf entryLeaf
+    unfolding leafKept leafWriteBy enumWrite entryLeaf
     goes-entry n i =
         record {
           goes = λ h.
@@ -395,13 +395,13 @@ module _ (book buffer : List ℕ) (decl : ℕ) (below : decl < 2 ^ 32) (width t 
   -- ---- numbers and pointers
 
   goes-number : k ≡ target.Other → Goes (leaves.numberLeaf book t mem)
-  unfolding leaves.numberLeaf integerLeaf
+  unfolding leaves.numberLeaf integerWrite
   goes-number e =
       goes-cond (eqb (typeIdOf book t) 33) _ _ (λ d. goes-bool (eqb-true (typeIdOf book t) 33 d))
       (λ d. goes-real _ (goes-integer (idOf (typeIdOf book t)) (λ v. rw e)))
 
   goes-pointer : k ≡ target.Pointer → Goes (leaves.pointerLeaf width mem)
-  unfolding leaves.pointerLeaf integerLeaf pointerLeaf
+  unfolding leaves.pointerLeaf integerWrite pointerWrite
   goes-pointer e =
       goes-cond (eqb width 2) _ _ (λ p. goes-integer UInt16 (λ v. rw (e, p)))
       (λ p. goes-cond (eqb width 4) _ _ (λ q. goes-integer UInt32 (λ v. rw (e, p, q)))
@@ -445,7 +445,7 @@ module _ (book buffer : List ℕ) (small : length buffer < 2 ^ 64) (valid : Vali
   count-cond n false v w p q = q refl
 
   count-goes : (n : ℕ) → Emits book buffer (LeafBack book buffer decl below mem b (λ r. countLeaf n r mem)) (traceOf decl (leaves.pointerLeaf n mem) mem)
-  unfolding leaves.pointerLeaf pointerLeaf countLeaf
+  unfolding leaves.pointerLeaf pointerWrite countLeaf
   count-goes n =
       count-cond n (eqb n 2) _ _ (λ p. integer-goes book buffer decl below mem b (λ r. countLeaf n r mem) UInt16 (λ w m. rw p) (λ w m. rw p))
       (λ p. count-cond n (eqb n 4) _ _ (λ q. integer-goes book buffer decl below mem b (λ r. countLeaf n r mem) UInt32 (λ w m. rw (p, q)) (λ w m. rw (p, q)))
@@ -453,7 +453,7 @@ module _ (book buffer : List ℕ) (small : length buffer < 2 ^ 64) (valid : Vali
 
   by-count : (c : AdsTypeCategory) → GoesAs c → (n : ℕ) (x : Bool)
       → leafKept book t mem (cond x (leaves.kindLeaf book width t mem (kindOfLeaf c)) (leaves.pointerLeaf n mem)) ≡ true
-      → Emits book buffer (LeafBack book buffer decl below mem b (λ r. cond x (leafBy book width t (targetOf c) r buffer mem) (countLeaf n r mem)))
+      → Emits book buffer (LeafBack book buffer decl below mem b (λ r. cond x (leafWriteBy book width t (targetOf c) r buffer mem) (countLeaf n r mem)))
       (traceOf decl (cond x (leaves.kindLeaf book width t mem (kindOfLeaf c)) (leaves.pointerLeaf n mem)) mem)
   by-count c g n true h = g .goes h
   by-count c g n false h = count-goes n

@@ -38,7 +38,7 @@ use Rattle.tape.specs.Record.{recordBytes, stepAt, Held}
 use Rattle.tape.specs.Text.{nameIn, recordText}
 use Rattle.tape.proofs.Records.{record-back, length-record}
 use Rattle.de_leaves.specs.Leaf.{leafAt}
-use Rattle.de_output.specs.Trace.{Event, rec, Trace, done, stop, textBytes, tapeBytes, one, refuse}
+use Rattle.de_output.specs.Trace.{TapeEvent, rec, Trace, done, stop, textBytes, tapeBytes, one, refuse}
 use Rattle.de_output.proofs.Runs.{tape-then}
 use Rattle.tape_array_elements.specs.Element.{Content, whole, further, cut, shapeAt, elementItem, elementCheck}
 use Rattle.de_leaf_output.specs.declared.Typed.{Typed}
@@ -78,12 +78,12 @@ module _ (book buffer tape : List ℕ) where
   after-part at xs ys h = sym (drop-drop (length xs) at tape) ∙ ap (drop (length xs)) h ∙ drop-append-seam xs ys
 
   -- where the records of some events stand, a write over some bytes takes them all and leaves the bytes as they are
-  pub record Back (o : Cursor → List ℕ → Outcome) (mem : List ℕ) (from : ℕ) (es : List Event) : Type 0 where
+  pub record Back (o : Cursor → List ℕ → Outcome) (mem : List ℕ) (from : ℕ) (es : List TapeEvent) : Type 0 where
     pub back : (at : ℕ) (rest : List ℕ) → drop at tape ≡ tapeBytes from es ++ rest → o (place at) mem ≡ went (place (at + length (tapeBytes from es))) mem
 
-  back-then : (o p : Cursor → List ℕ → Outcome) (mem : List ℕ) (from : ℕ) (es fs : List Event) → Back o mem from es → Back p mem (from + length (textBytes es)) fs
-      → Back (λ at bytes. ser._then_ (o at bytes) p) mem from (es ++ fs)
-  unfolding ser._then_
+  back-then : (o p : Cursor → List ℕ → Outcome) (mem : List ℕ) (from : ℕ) (es fs : List TapeEvent) → Back o mem from es → Back p mem (from + length (textBytes es)) fs
+      → Back (λ at bytes. ser._thenWrites_ (o at bytes) p) mem from (es ++ fs)
+  unfolding ser._thenWrites_
   back-then o p mem from es fs a b =
       let xs : List ℕ = tapeBytes from es in
       let ys : List ℕ = tapeBytes (from + length (textBytes es)) fs in
@@ -97,7 +97,7 @@ module _ (book buffer tape : List ℕ) where
 
   -- a record before
   back-record : (r : Record) → Held r → (o p : Cursor → List ℕ → Outcome) (mem : List ℕ) → ((at : ℕ) → stepAt tape at ≡ step.Record r (place (at + 24)) → o (place at) mem ≡ p (place (at + 24)) mem)
-      → (from : ℕ) (es fs : List Event) → tapeBytes from es ≡ recordBytes r ++ tapeBytes from fs → Back p mem from fs → Back o mem from es
+      → (from : ℕ) (es fs : List TapeEvent) → tapeBytes from es ≡ recordBytes r ++ tapeBytes from fs → Back p mem from fs → Back o mem from es
   back-record r g o p mem f from es fs e b =
       record {
         back = λ at rest h.
@@ -111,7 +111,7 @@ module _ (book buffer tape : List ℕ) where
 
   -- the last record
   back-last : (r : Record) → Held r → (o : Cursor → List ℕ → Outcome) (mem : List ℕ) → ((at : ℕ) → stepAt tape at ≡ step.Record r (place (at + 24)) → o (place at) mem ≡ went (place (at + 24)) mem)
-      → (from : ℕ) (es : List Event) → tapeBytes from es ≡ recordBytes r → Back o mem from es
+      → (from : ℕ) (es : List TapeEvent) → tapeBytes from es ≡ recordBytes r → Back o mem from es
   back-last r g o mem f from es e =
       record {
         back = λ at rest h.
@@ -119,10 +119,10 @@ module _ (book buffer tape : List ℕ) where
             f at (step-is at r rest g (h ∙ ap (λ (x : List ℕ). x ++ rest) e)) ∙ ap (λ (m : ℕ). went (place (at + m)) mem) (sym n);
       }
 
-  back-as : (o p : Cursor → List ℕ → Outcome) (mem : List ℕ) → ((at : Cursor) → o at mem ≡ p at mem) → (from : ℕ) (es : List Event) → Back p mem from es → Back o mem from es
+  back-as : (o p : Cursor → List ℕ → Outcome) (mem : List ℕ) → ((at : Cursor) → o at mem ≡ p at mem) → (from : ℕ) (es : List TapeEvent) → Back p mem from es → Back o mem from es
   back-as o p mem f from es b = record { back = λ at rest h. f (place at) ∙ b .back at rest h }
 
-  back-placed : (o : Cursor → List ℕ → Outcome) (a size : ℕ) (mem : List ℕ) (from : ℕ) (es : List Event) → Back o (cut a size mem) from es
+  back-placed : (o : Cursor → List ℕ → Outcome) (a size : ℕ) (mem : List ℕ) (from : ℕ) (es : List TapeEvent) → Back o (cut a size mem) from es
       → Back (λ at bytes. ser.placed a size bytes (o at (cut a size bytes))) mem from es
   unfolding ser.placed
   back-placed o a size mem from es b =
@@ -130,15 +130,15 @@ module _ (book buffer tape : List ℕ) where
 
   -- ---- traces
 
-  emits-map : (P Q : ℕ → List Event → Type 0) (t : Trace) → ((from : ℕ) (es : List Event) → P from es → Q from es) → Emits book buffer P t → Emits book buffer Q t
+  emits-map : (P Q : ℕ → List TapeEvent → Type 0) (t : Trace) → ((from : ℕ) (es : List TapeEvent) → P from es → Q from es) → Emits book buffer P t → Emits book buffer Q t
   emits-map P Q (done es) f p = record { emits = λ from s. f from es (p .emits from s) }
   emits-map P Q (stop es n b) f p = record { emits = tt }
 
-  emits-where : (P : ℕ → List Event → Type 0) (x : Bool) (t : Trace) (n b : ℕ) → (x ≡ true → Emits book buffer P t) → Emits book buffer P (cond x t (refuse n b))
+  emits-where : (P : ℕ → List TapeEvent → Type 0) (x : Bool) (t : Trace) (n b : ℕ) → (x ≡ true → Emits book buffer P t) → Emits book buffer P (cond x t (refuse n b))
   emits-where P true t n b p = p refl
   emits-where P false t n b p = emits-refused book buffer P n b
 
-  emits-fine : (P : ℕ → List Event → Type 0) (f : FieldsCheck) (t : Trace) → (f ≡ check.Fine → Emits book buffer P t) → Emits book buffer P (de.checked f t)
+  emits-fine : (P : ℕ → List TapeEvent → Type 0) (f : FieldsCheck) (t : Trace) → (f ≡ check.Fine → Emits book buffer P t) → Emits book buffer P (de.checked f t)
   unfolding de.checked checkNumbers
   emits-fine P check.Fine t p = p refl
   emits-fine P (check.NotFound b) t p = emits-refused book buffer P 7 b
@@ -160,8 +160,8 @@ module _ (book buffer tape : List ℕ) where
     abbrev rc : de.Ctx
     rc = de.ctx book width
 
-    abbrev sc : ser.Ctx
-    sc = ser.ctx book width tape buffer
+    abbrev sc : ser.WriteCtx
+    sc = ser.writeCtx book width tape buffer
 
     few : blocks book ≤ 65536
     few = valid-size book valid .few
@@ -175,16 +175,16 @@ module _ (book buffer tape : List ℕ) where
     below : (n : ℕ) → isType book n ≡ true → n < 2 ^ 32
     below n y = omega (arith, valid-below book valid n 0 (eqb-true (kindOf book n) 1 y), few)
 
-    abbrev Children : de.Child → ser.Child → trip.Child → Type 0
+    abbrev Children : de.Child → ser.ChildWrite → trip.ChildTrip → Type 0
     Children child write kept =
         (i : Content Typed) (mem : List ℕ) → Good i → Bytes mem → kept (plainItem i) mem ≡ true → Emits book buffer (Back (write (plainItem i)) mem) (child i mem)
 
-    module _ (child : de.Child) (write : ser.Child) (kept : trip.Child) (ih : Children child write kept) where
+    module _ (child : de.Child) (write : ser.ChildWrite) (kept : trip.ChildTrip) (ih : Children child write kept) where
       -- ---- a map
 
       field-back : (mem : List ℕ) → Bytes mem → (a : FieldAnswer) → TypedField book a → trip.fieldKept kept mem a ≡ true
-          → Emits book buffer (Back (λ at bytes. ser.fieldValue write at bytes a) mem) (de.fieldValue child rc mem a)
-      unfolding de.fieldValue ser.fieldValue trip.fieldKept fieldNumbers
+          → Emits book buffer (Back (λ at bytes. ser.fieldWrite write at bytes a) mem) (de.fieldValue child rc mem a)
+      unfolding de.fieldValue ser.fieldWrite trip.fieldKept fieldNumbers
       field-back mem b (answer.Field f) y h =
           emits-where _ (leb (f .offset + f .size) (length mem)) _ 10 0 (λ q.
           emits-map (Back (write (whole (f .resolved))) (cut (f .offset) (f .size) mem)) _ _
@@ -206,7 +206,7 @@ module _ (book buffer tape : List ℕ) where
           → trip.fieldKept kept mem (resolveField book width f) ≡ true → Emits book buffer (Back (ser.keyOf write sc t) mem) (de.memberOf child rc mem f)
       unfolding de.memberOf ser.keyOf ser.keyBy ser.taken ser.takenBy ser.foundValue tapeBytes
       member-back t mem b f l h v =
-          emits-after book buffer (Back (λ at bytes. ser.fieldValue write at bytes (resolveField book width f)) mem) _ (rec-of 0 4 0 f 0) _
+          emits-after book buffer (Back (λ at bytes. ser.fieldWrite write at bytes (resolveField book width f)) mem) _ (rec-of 0 4 0 f 0) _
           (field-back mem b (resolveField book width f) (field-typed book width f) v)
           (λ from fs x.
           back-record (rec-of 0 4 0 f 0) (held-of 0 4 0 f 0 (omega arith) (omega arith) (omega arith) (omega (arith, l, few)) (omega arith)) _ _ mem
@@ -228,8 +228,8 @@ module _ (book buffer tape : List ℕ) where
 
       map-back : (x : Typed) → GoodType book x → shapeOf (categoryOf book width (x .resolved)) ≡ shape.Map → (mem : List ℕ) → Bytes mem
           → trip.fieldsKept kept rc (x .resolved) mem (x .resolved + 1) (fieldsOf book (x .resolved)) ≡ true
-          → Emits book buffer (Back (ser.itemWalk write sc (whole (x .resolved))) mem) (de.mapOf child rc x mem)
-      unfolding de.mapOf de.membersOf ser.itemWalk ser.taken ser.takenBy ser.valueBy ser.mapOf ser.mapBy shapeAt ser.checked tapeBytes
+          → Emits book buffer (Back (ser.itemWrite write sc (whole (x .resolved))) mem) (de.mapOf child rc x mem)
+      unfolding de.mapOf de.membersOf ser.itemWrite ser.taken ser.takenBy ser.valueBy ser.mapWrite ser.mapBy shapeAt ser.checkedWrite tapeBytes
       map-back x y s mem b h =
           let t : ℕ = x .resolved in
           let d = valid-type book valid t (y .resolved) in
@@ -245,15 +245,15 @@ module _ (book buffer tape : List ℕ) where
       -- ---- an array
 
       elements-back : (i : Content Typed) → Good i → (stride n : ℕ) (mem : List ℕ) → Bytes mem → (index at k : ℕ) → index + k ≡ n → trip.elementsKept kept (plainItem i) stride mem at k ≡ true
-          → Emits book buffer (Back (ser.elementsFrom write sc (plainItem i) stride n index at k) mem) (de.elementsFrom child i stride mem at k)
-      unfolding de.elementsFrom ser.elementsFrom trip.elementsKept
+          → Emits book buffer (Back (ser.elementsWrite write sc (plainItem i) stride n index at k) mem) (de.elementsFrom child i stride mem at k)
+      unfolding de.elementsFrom ser.elementsWrite trip.elementsKept
       elements-back i g stride n mem b index at zero e h =
           emits-map (Back (λ cur bytes. ser.taken tape cur bytes (ser.endRecordBy 2 bytes)) mem) _ _
           (λ from es x. back-as _ _ mem (λ cur. rw (le-ltb index n (omega (arith, e)))) from es x) (end-back 2 (omega arith) mem)
       elements-back i g stride n mem b index at (suc k) e h =
           let first : Bool = kept (plainItem i) (cut at stride mem) in
           emits-then book buffer (Back (λ cur bytes. ser.placed at stride bytes (write (plainItem i) cur (cut at stride bytes))) mem)
-          (Back (ser.elementsFrom write sc (plainItem i) stride n (index + 1) (at + stride) k) mem) _ _ _
+          (Back (ser.elementsWrite write sc (plainItem i) stride n (index + 1) (at + stride) k) mem) _ _ _
           (emits-map (Back (write (plainItem i)) (cut at stride mem)) _ _ (λ from es x. back-placed (write (plainItem i)) at stride mem from es x)
           (ih i _ g (bytes-take stride (drop at mem) (bytes-drop at mem b)) (and-left first _ h)))
           (elements-back i g stride n mem b (index + 1) (at + stride) k (omega (arith, e)) (and-right first _ h))
@@ -277,13 +277,13 @@ module _ (book buffer tape : List ℕ) where
 
       -- a dimension, for what is the same as its walk where there is an array's record
       dimension-back : (m d t : ℕ) (e : Typed) → isType book m ≡ true → GoodType book e → isType book t ≡ true → (mem : List ℕ) → Bytes mem → trip.dimensionKept kept rc d t (e .resolved) mem ≡ true → (o : Cursor → List ℕ → Outcome)
-          → ((at : ℕ) → stepAt tape at ≡ step.Record (rec-of m 1 0 (countOf book t d) 0) (place (at + 24)) → o (place at) mem ≡ ser.dimensionOf write sc d t (e .resolved) (place at) mem)
+          → ((at : ℕ) → stepAt tape at ≡ step.Record (rec-of m 1 0 (countOf book t d) 0) (place (at + 24)) → o (place at) mem ≡ ser.dimensionWrite write sc d t (e .resolved) (place at) mem)
           → Emits book buffer (Back o mem) (de.dimensionOf child rc m d t e mem)
-      unfolding de.dimensionOf de.elementsOf ser.dimensionOf ser.checked ser.taken ser.takenBy ser.elementsBy trip.dimensionKept tapeBytes
+      unfolding de.dimensionOf de.elementsOf ser.dimensionWrite ser.checkedWrite ser.taken ser.takenBy ser.elementsBy trip.dimensionKept tapeBytes
       dimension-back m d t e g y w mem b h o same =
           let small-count : countOf book t d < 2 ^ 32 = u32-small book plain t (20 + 4 * d) in
           emits-fine _ (elementCheck book width d t (e .resolved)) _ (λ c.
-          emits-after book buffer (Back (ser.elementsFrom write sc (plainItem (elementItem book d t e)) (strideOf book d t (e .resolved)) (countOf book t d) 0 0 (countOf book t d)) mem) _
+          emits-after book buffer (Back (ser.elementsWrite write sc (plainItem (elementItem book d t e)) (strideOf book d t (e .resolved)) (countOf book t d) 0 0 (countOf book t d)) mem) _
           (rec-of m 1 0 (countOf book t d) 0) _
           (elements-back (elementItem book d t e) (element-good d t e y w) (strideOf book d t (e .resolved)) (countOf book t d) mem b 0 0 (countOf book t d) (omega arith) (rw (same-item d t e) h))
           (λ from fs x.
@@ -292,12 +292,12 @@ module _ (book buffer tape : List ℕ) where
 
       element-by : (x : Typed) → GoodType book x → shapeOf (categoryOf book width (x .resolved)) ≡ shape.Array → (mem : List ℕ) → Bytes mem
           → eqb (length mem) (sizeOf book (x .resolved)) ≡ true → (n : ℕ) → isType book n ≡ true → (r : Resolved) → lookUp book width (x .resolved) ≡ r
-          → trip.arrayKept kept rc (x .resolved) mem r ≡ true → Emits book buffer (Back (ser.itemWalk write sc (whole (x .resolved))) mem) (de.elementBy child rc x n mem r)
-      unfolding de.elementBy trip.arrayKept ser.itemWalk ser.taken ser.takenBy ser.valueBy ser.arrayOf ser.enteredAt ser.enteredBy ser.elementType ser.arrayBy resolvedNumbers
+          → trip.arrayKept kept rc (x .resolved) mem r ≡ true → Emits book buffer (Back (ser.itemWrite write sc (whole (x .resolved))) mem) (de.elementBy child rc x n mem r)
+      unfolding de.elementBy trip.arrayKept ser.itemWrite ser.taken ser.takenBy ser.valueBy ser.arrayWrite ser.enteredAt ser.enteredBy ser.elementType ser.arrayWriteBy resolvedNumbers
       element-by x g s mem b q n y (resolved.Base e) l h =
           emits-where _ (eqb (arrayBytes book (x .resolved) e) (length mem)) _ 10 0 (λ z.
           dimension-back (x .named) 0 (x .resolved) (de.typedOf rc n e) (g .named) (record { resolved = look-typed book width (x .resolved) e l; named = y }) (g .resolved) mem b h
-          (ser.itemWalk write sc (whole (x .resolved))) (λ at i. rw (i, s, q, l, z)))
+          (ser.itemWrite write sc (whole (x .resolved))) (λ at i. rw (i, s, q, l, z)))
       element-by x g s mem b q n y (resolved.NotFound k) l h = emits-refused book buffer _ 7 k
       element-by x g s mem b q n y resolved.TooLong l h = emits-refused book buffer _ 8 0
 
@@ -309,7 +309,7 @@ module _ (book buffer tape : List ℕ) where
       array-by : (x : Typed) → GoodType book x → shapeOf (categoryOf book width (x .resolved)) ≡ shape.Array → (mem : List ℕ) → Bytes mem
           → eqb (length mem) (sizeOf book (x .resolved)) ≡ true → trip.arrayKept kept rc (x .resolved) mem (lookUp book width (x .resolved)) ≡ true
           → (f : Found) → find book (typeNameOf book (x .resolved)) ≡ f
-          → Emits book buffer (Back (ser.itemWalk write sc (whole (x .resolved))) mem) (de.arrayBy child rc x mem f)
+          → Emits book buffer (Back (ser.itemWrite write sc (whole (x .resolved))) mem) (de.arrayBy child rc x mem f)
       unfolding de.arrayBy resolvedNumbers
       array-by x g s mem b q h (found.At n) e =
           let l = look-found (x .resolved) n e in
@@ -318,23 +318,23 @@ module _ (book buffer tape : List ℕ) where
 
       array-back : (x : Typed) → GoodType book x → shapeOf (categoryOf book width (x .resolved)) ≡ shape.Array → (mem : List ℕ) → Bytes mem
           → trip.arrayKept kept rc (x .resolved) mem (lookUp book width (x .resolved)) ≡ true
-          → Emits book buffer (Back (ser.itemWalk write sc (whole (x .resolved))) mem) (de.arrayOf child rc x mem)
+          → Emits book buffer (Back (ser.itemWrite write sc (whole (x .resolved))) mem) (de.arrayOf child rc x mem)
       unfolding de.arrayOf
       array-back x g s mem b h =
           emits-where _ (eqb (length mem) (sizeOf book (x .resolved))) _ 10 0 (λ q. array-by x g s mem b q h (find book (typeNameOf book (x .resolved))) refl)
 
       -- ---- a leaf
 
-      leaf-write : (m : ℕ) (l : m < 2 ^ 32) (t : ℕ) (mem : List ℕ) (b : Bytes mem) (from : ℕ) (es : List Event) → LeafBack book buffer m l mem b (λ r. leafFor book width t (categoryOf book width t) r buffer mem) from es
-          → Back (ser.itemWalk write sc (whole t)) mem from es
-      unfolding ser.itemWalk ser.taken ser.takenBy ser.valueBy ser.leafOf ser.leafEnd
+      leaf-write : (m : ℕ) (l : m < 2 ^ 32) (t : ℕ) (mem : List ℕ) (b : Bytes mem) (from : ℕ) (es : List TapeEvent) → LeafBack book buffer m l mem b (λ r. leafFor book width t (categoryOf book width t) r buffer mem) from es
+          → Back (ser.itemWrite write sc (whole t)) mem from es
+      unfolding ser.itemWrite ser.taken ser.takenBy ser.valueBy ser.leafWrite ser.leafEnd
       leaf-write m l t mem b from es x =
           let one-no : eqb (x .r .kind) 1 ≡ false = ne-eqb (x .r .kind) 1 (x .no-array) in
           let three-no : eqb (x .r .kind) 3 ≡ false = ne-eqb (x .r .kind) 3 (x .no-map) in
           back-last (x .r) (x .held) _ mem (λ at e. rw (e, one-no, three-no, x .writes)) from es (x .bytes)
 
       leaf-item : (x : Typed) → GoodType book x → (mem : List ℕ) → Bytes mem → trip.leafKept book (x .resolved) mem (leafAt book width (x .resolved) mem) ≡ true
-          → Emits book buffer (Back (ser.itemWalk write sc (whole (x .resolved))) mem) (de.leafOf rc x mem)
+          → Emits book buffer (Back (ser.itemWrite write sc (whole (x .resolved))) mem) (de.leafOf rc x mem)
       unfolding de.leafOf
       leaf-item x y mem b h =
           let l = below (x .named) (y .named) in
@@ -344,18 +344,18 @@ module _ (book buffer tape : List ℕ) where
 
       shape-back : (x : Typed) → GoodType book x → (mem : List ℕ) → Bytes mem → (s : Shape) → shapeOf (categoryOf book width (x .resolved)) ≡ s
           → trip.shapeKept kept rc (x .resolved) mem s ≡ true
-          → Emits book buffer (Back (ser.itemWalk write sc (whole (x .resolved))) mem) (de.shapeWalk child rc x mem s)
+          → Emits book buffer (Back (ser.itemWrite write sc (whole (x .resolved))) mem) (de.shapeWalk child rc x mem s)
       unfolding de.shapeWalk trip.shapeKept
       shape-back x y mem b shape.Map s h = map-back x y s mem b h
       shape-back x y mem b shape.Array s h = array-back x y s mem b h
       shape-back x y mem b shape.Leaf s h = leaf-item x y mem b h
 
-      item-back : Children (de.itemWalk child rc) (ser.itemWalk write sc) (trip.itemKept kept rc)
-      unfolding de.itemWalk shapeAt trip.itemKept ser.itemWalk
+      item-back : Children (de.itemWalk child rc) (ser.itemWrite write sc) (trip.itemKept kept rc)
+      unfolding de.itemWalk shapeAt trip.itemKept ser.itemWrite
       item-back (whole x) mem g b h = shape-back x g mem b (shapeOf (categoryOf book width (x .resolved))) refl h
-      item-back (further d t e) mem g b h = dimension-back t d t e (g .1) (g .0) (g .1) mem b h (ser.dimensionOf write sc d t (e .resolved)) (λ at x. refl)
+      item-back (further d t e) mem g b h = dimension-back t d t e (g .1) (g .0) (g .1) mem b h (ser.dimensionWrite write sc d t (e .resolved)) (λ at x. refl)
 
-    pub walk-back : (left : ℕ) → Children (de.walk rc left) (ser.walk sc left) (trip.walkKept rc left)
-    unfolding de.walk ser.walk trip.walkKept
+    pub walk-back : (left : ℕ) → Children (de.readWalk rc left) (ser.writeWalk sc left) (trip.walkKept rc left)
+    unfolding de.readWalk ser.writeWalk trip.walkKept
     walk-back zero i mem g b h = emits-refused book buffer _ 14 0
-    walk-back (suc left) i mem g b h = item-back (de.walk rc left) (ser.walk sc left) (trip.walkKept rc left) (walk-back left) i mem g b h
+    walk-back (suc left) i mem g b h = item-back (de.readWalk rc left) (ser.writeWalk sc left) (trip.walkKept rc left) (walk-back left) i mem g b h

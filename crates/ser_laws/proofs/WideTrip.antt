@@ -11,9 +11,9 @@ use Rattle.enc_number.proofs.ByteOrder.{leBytes-two, leValue-two}
 use Rattle.enc_utf_8.specs.Utf8.{Item, scalar, error, noError, isScalar, utf8Of, decodeFrom}
 use Rattle.enc_utf_8.proofs.Trips.{decode-utf8}
 use Rattle.enc_utf_16.specs.Unit16.{unitOf, isLeading, isTrailing, fromSurrogates}
-use Rattle.enc_utf_16.specs.Decode.{decodeItems, decodeScalars, decodeText}
+use Rattle.enc_utf_16.specs.Decode.{decodeItems, decodeScalars, decode16Text}
 use Rattle.enc_utf_16.specs.Decode as decode
-use Rattle.enc_utf_16.specs.Encode.{unitBytes, leadingOf, trailingOf, utf16Of, encodeText}
+use Rattle.enc_utf_16.specs.Encode.{unitBytes, leadingOf, trailingOf, utf16Of, encode16Text}
 use Rattle.enc_utf_16_scalar.proofs.Decodes.{odd-byte, plain-unit, trailing-unit, leading-end, leading-odd, leading-pair, leading-restored}
 use Rattle.enc_utf_16_encoder.proofs.Encodes.{one-unit, two-units}
 use Rattle.ser_laws.proofs.Plain.{different, and-left, and-right}
@@ -74,11 +74,11 @@ module _ (u v : ℕ) (a : Between 0xD800 0xDBFF u) (b : Between 0xDC00 0xDFFF v)
 
 -- a scalar value and what follows it
 scalar-again : (c : ℕ) (bytes xs : List ℕ) → isScalar c ≡ true → decodeItems bytes ≡ scalar c ∷ decodeItems xs
-    → encodeText (decodeText bytes) ≡ utf16Of c ++ encodeText (decodeText xs)
+    → encode16Text (decode16Text bytes) ≡ utf16Of c ++ encode16Text (decode16Text xs)
 unfolding decodeScalars flatMap
 scalar-again c bytes xs s e =
-    let q : decodeText bytes ≡ utf8Of c ++ decodeText xs = rw e in
-    rw (q, decode-utf8 c (decodeText xs) s)
+    let q : decode16Text bytes ≡ utf8Of c ++ decode16Text xs = rw e in
+    rw (q, decode-utf8 c (decode16Text xs) s)
 
 -- an error is one
 no-error : (bytes : List ℕ) {xs : List Item} → decodeItems bytes ≡ error ∷ xs → noError (decodeItems bytes) ≡ true → {X : Type 0} → X
@@ -89,21 +89,21 @@ rest-fine : (c : ℕ) (bytes xs : List ℕ) → decodeItems bytes ≡ scalar c �
 unfolding noError
 rest-fine c bytes xs e h = rw e at h
 
-none-again : encodeText (decodeText []) ≡ []
-unfolding decodeScalars flatMap decodeFrom decode.decodeFrom
+none-again : encode16Text (decode16Text []) ≡ []
+unfolding decodeScalars flatMap decodeFrom decode.decode16From
 none-again = refl
 
 module _ (x y : ℕ) (a : x < 256) (b : y < 256) where
   -- a unit alone
-  plain-again : (xs : List ℕ) → isLeading (unitOf x y) ≡ false → isTrailing (unitOf x y) ≡ false → encodeText (decodeText xs) ≡ xs → encodeText (decodeText (x ∷ y ∷ xs)) ≡ x ∷ y ∷ xs
+  plain-again : (xs : List ℕ) → isLeading (unitOf x y) ≡ false → isTrailing (unitOf x y) ≡ false → encode16Text (decode16Text xs) ≡ xs → encode16Text (decode16Text (x ∷ y ∷ xs)) ≡ x ∷ y ∷ xs
   plain-again xs l t ih =
       let s : unitOf x y < 0x10000 = omega (arith, leValue-two x y) in
       scalar-again (unitOf x y) (x ∷ y ∷ xs) xs (plain-scalar (unitOf x y) s l t) (plain-unit x y xs l t)
       ∙ ap (λ (e : List ℕ). utf16Of (unitOf x y) ++ e) ih ∙ ap (λ (e : List ℕ). e ++ xs) (one-unit (unitOf x y) s ∙ unit-back x y a b)
 
   -- a pair
-  pair-again : (z w : ℕ) → z < 256 → w < 256 → (xs : List ℕ) → isLeading (unitOf x y) ≡ true → isTrailing (unitOf z w) ≡ true → encodeText (decodeText xs) ≡ xs
-      → encodeText (decodeText (x ∷ y ∷ z ∷ w ∷ xs)) ≡ x ∷ y ∷ z ∷ w ∷ xs
+  pair-again : (z w : ℕ) → z < 256 → w < 256 → (xs : List ℕ) → isLeading (unitOf x y) ≡ true → isTrailing (unitOf z w) ≡ true → encode16Text (decode16Text xs) ≡ xs
+      → encode16Text (decode16Text (x ∷ y ∷ z ∷ w ∷ xs)) ≡ x ∷ y ∷ z ∷ w ∷ xs
   pair-again z w c d xs l t ih =
       let p = between 0xD800 0xDBFF (unitOf x y) l in
       let q = between 0xDC00 0xDFFF (unitOf z w) t in
@@ -122,19 +122,19 @@ after-two x y xs b i = b (suc (suc i))
 
 -- by the first unit: no surrogate, or a leading one with its trailing one after it; all else is an error
 module _ (x y : ℕ) (a : x < 256) (b : y < 256) (xs : List ℕ) (h : noError (decodeItems (x ∷ y ∷ xs)) ≡ true) where
-  unit-again : isLeading (unitOf x y) ≡ false → (noError (decodeItems xs) ≡ true → encodeText (decodeText xs) ≡ xs) → encodeText (decodeText (x ∷ y ∷ xs)) ≡ x ∷ y ∷ xs
+  unit-again : isLeading (unitOf x y) ≡ false → (noError (decodeItems xs) ≡ true → encode16Text (decode16Text xs) ≡ xs) → encode16Text (decode16Text (x ∷ y ∷ xs)) ≡ x ∷ y ∷ xs
   unit-again l ih = by (isTrailing (unitOf x y)) refl
     where
-      by : (t : Bool) → isTrailing (unitOf x y) ≡ t → encodeText (decodeText (x ∷ y ∷ xs)) ≡ x ∷ y ∷ xs
+      by : (t : Bool) → isTrailing (unitOf x y) ≡ t → encode16Text (decode16Text (x ∷ y ∷ xs)) ≡ x ∷ y ∷ xs
       by true t = no-error (x ∷ y ∷ xs) (trailing-unit x y xs l t) h
       by false t = plain-again x y a b xs l t (ih (rest-fine (unitOf x y) (x ∷ y ∷ xs) xs (plain-unit x y xs l t) h))
 
 module _ (x y z w : ℕ) (a : x < 256) (b : y < 256) (c : z < 256) (d : w < 256) (xs : List ℕ) (h : noError (decodeItems (x ∷ y ∷ z ∷ w ∷ xs)) ≡ true) where
-  two-again : isLeading (unitOf x y) ≡ true → (noError (decodeItems xs) ≡ true → encodeText (decodeText xs) ≡ xs)
-      → encodeText (decodeText (x ∷ y ∷ z ∷ w ∷ xs)) ≡ x ∷ y ∷ z ∷ w ∷ xs
+  two-again : isLeading (unitOf x y) ≡ true → (noError (decodeItems xs) ≡ true → encode16Text (decode16Text xs) ≡ xs)
+      → encode16Text (decode16Text (x ∷ y ∷ z ∷ w ∷ xs)) ≡ x ∷ y ∷ z ∷ w ∷ xs
   two-again l ih = by (isTrailing (unitOf z w)) refl
     where
-      by : (t : Bool) → isTrailing (unitOf z w) ≡ t → encodeText (decodeText (x ∷ y ∷ z ∷ w ∷ xs)) ≡ x ∷ y ∷ z ∷ w ∷ xs
+      by : (t : Bool) → isTrailing (unitOf z w) ≡ t → encode16Text (decode16Text (x ∷ y ∷ z ∷ w ∷ xs)) ≡ x ∷ y ∷ z ∷ w ∷ xs
       by true t = pair-again x y a b z w c d xs l t (ih (rest-fine _ (x ∷ y ∷ z ∷ w ∷ xs) xs (leading-pair x y l z w xs t) h))
       by false t = no-error (x ∷ y ∷ z ∷ w ∷ xs) (leading-restored x y l z w xs t) h
 
@@ -143,7 +143,7 @@ either : {X : Type 0} (t : Bool) → (t ≡ true → X) → (t ≡ false → X) 
 either true p q = p refl
 either false p q = q refl
 
-pub wide-again : (bytes : List ℕ) → Bytes bytes → noError (decodeItems bytes) ≡ true → encodeText (decodeText bytes) ≡ bytes
+pub wide-again : (bytes : List ℕ) → Bytes bytes → noError (decodeItems bytes) ≡ true → encode16Text (decode16Text bytes) ≡ bytes
 wide-again [] b h = none-again
 wide-again (x ∷ []) b h = no-error (x ∷ []) (odd-byte x) h
 wide-again (x ∷ y ∷ []) b h =

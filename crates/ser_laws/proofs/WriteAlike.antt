@@ -31,14 +31,14 @@ use Rattle.tape.specs.declared.cursor.Cursor.{Cursor}
 use Rattle.tape.specs.declared.cursor.NextRecord.the-variants as step
 use Rattle.ser_leaf.specs.declared.Target.{Target}
 use Rattle.type_category.specs.declared.type_category.AdsTypeCategory.{AdsTypeCategory}
-use Rattle.ser_leaf.specs.Leaf.{Leaf, holds, targetOf, leafBy, countLeaf, leafFor}
+use Rattle.ser_leaf.specs.Leaf.{Leaf, holds, targetOf, leafWriteBy, countLeaf, leafFor}
 use Rattle.time_types.specs.Counts.{countWidth}
 use Rattle.ser_leaf.specs.Leaf as leaf
 use Rattle.ser.specs.declared.array_writer.Entered.{Entered}
 use Rattle.ser.specs.declared.array_writer.Entered.the-variants as entered
 use Rattle.tape_array_elements.specs.Element.{Content, whole, further, shapeAt, elementItem, elementCheck}
-use Rattle.ser.specs.Write.{Ctx, ctx, Outcome, went, refused, _then_, Child, placed, takenBy, taken, endRecordBy, leafEnd, leafOf, checked, fieldValue, foundValue, keyBy, keyOf, keysFrom, mapBy, mapOf, elementsFrom, elementsBy, dimensionOf, enteredAt, arrayBy, arrayOf, valueBy, itemWalk, walk}
-use Rattle.ser.specs.Call.{typeWrite, rootBy, rootWrite}
+use Rattle.ser.specs.Write.{WriteCtx, writeCtx, Outcome, went, refused, _thenWrites_, ChildWrite, placed, takenBy, taken, endRecordBy, leafEnd, leafWrite, checkedWrite, fieldWrite, foundValue, keyBy, keyOf, keysFrom, mapBy, mapWrite, elementsWrite, elementsBy, dimensionWrite, enteredAt, arrayWriteBy, arrayWrite, valueBy, itemWrite, writeWalk}
+use Rattle.ser.specs.Call.{typeWrite, rootWriteBy, rootWrite}
 use Rattle.ser_laws.specs.Alike.{Records}
 
 -- two records that are written alike
@@ -68,8 +68,8 @@ same-cond : (t : Bool) {o u o′ u′ : Outcome} → Same o o′ → Same u u′
 same-cond true p q = p
 same-cond false p q = q
 
-same-then : (o o′ : Outcome) (f f′ : Cursor → List ℕ → Outcome) → Same o o′ → ((at : Cursor) (bytes : List ℕ) → at .at % 24 ≡ 0 → Same (f at bytes) (f′ at bytes)) → Same (o then f) (o′ then f′)
-unfolding _then_
+same-then : (o o′ : Outcome) (f f′ : Cursor → List ℕ → Outcome) → Same o o′ → ((at : Cursor) (bytes : List ℕ) → at .at % 24 ≡ 0 → Same (f at bytes) (f′ at bytes)) → Same (o thenWrites f) (o′ thenWrites f′)
+unfolding _thenWrites_
 same-then (went at bytes) o′ f f′ p q = rw (sym (p .is)) (q at bytes (p .whole-end))
 same-then (refused k b bytes) o′ f f′ p q = rw (sym (p .is)) (same-refused k b bytes)
 
@@ -78,8 +78,8 @@ unfolding placed
 same-placed from size bytes (went at part) o′ p = rw (sym (p .is)) (same-went at _ (p .whole-end))
 same-placed from size bytes (refused k b part) o′ p = rw (sym (p .is)) (same-refused k b _)
 
-same-checked : (f : FieldsCheck) (bytes : List ℕ) (o o′ : Outcome) → Same o o′ → Same (checked f bytes o) (checked f bytes o′)
-unfolding checked
+same-checked : (f : FieldsCheck) (bytes : List ℕ) (o o′ : Outcome) → Same o o′ → Same (checkedWrite f bytes o) (checkedWrite f bytes o′)
+unfolding checkedWrite
 same-checked check.Fine bytes o o′ p = p
 same-checked (check.NotFound b) bytes o o′ p = same-refused _ _ bytes
 same-checked check.TooLong bytes o o′ p = same-refused _ _ bytes
@@ -91,11 +91,11 @@ module _ (book text : List ℕ) (r s : Record) (w : WrittenAlike r s) where
   unfolding recordText
   text-alike = rw (w .kind, w .a, w .b)
 
-  leaf-alike : (width t : ℕ) (k : Target) (old : List ℕ) → leafBy book width t k r text old ≡ leafBy book width t k s text old
-  unfolding leafBy
+  leaf-alike : (width t : ℕ) (k : Target) (old : List ℕ) → leafWriteBy book width t k r text old ≡ leafWriteBy book width t k s text old
+  unfolding leafWriteBy
   leaf-alike width t k old = by (eqb (r .kind) 11) refl
     where
-      by : (x : Bool) → eqb (r .kind) 11 ≡ x → leafBy book width t k r text old ≡ leafBy book width t k s text old
+      by : (x : Bool) → eqb (r .kind) 11 ≡ x → leafWriteBy book width t k r text old ≡ leafWriteBy book width t k s text old
       by true q =
           let e : r .kind ≡ 11 = eqb-true (r .kind) 11 q in
           let f : s .kind ≡ 11 = sym (w .kind) ∙ e in
@@ -120,11 +120,11 @@ module _ (book text : List ℕ) (r s : Record) (w : WrittenAlike r s) where
 -- ---- the walk
 
 module _ (book : List ℕ) (width : ℕ) (text tape tape′ : List ℕ) (alike : Records WrittenAlike tape tape′) where
-  abbrev c : Ctx
-  c = ctx book width tape text
+  abbrev c : WriteCtx
+  c = writeCtx book width tape text
 
-  abbrev c′ : Ctx
-  c′ = ctx book width tape′ text
+  abbrev c′ : WriteCtx
+  c′ = writeCtx book width tape′ text
 
   -- what follows by a record, where it follows alike by records that are alike
   same-taken : (at : Cursor) (bytes : List ℕ) (f f′ : Record → Cursor → Outcome) → at .at % 24 ≡ 0
@@ -149,11 +149,11 @@ module _ (book : List ℕ) (width : ℕ) (text tape tape′ : List ℕ) (alike :
   same-leaf next bytes h (holds new) = same-went next new h
   same-leaf next bytes h (leaf.refused n) = same-refused n 0 bytes
 
-  module _ (child child′ : Child) (ih : (i : Content ℕ) (at : Cursor) (bytes : List ℕ) → at .at % 24 ≡ 0 → Same (child i at bytes) (child′ i at bytes)) where
+  module _ (child child′ : ChildWrite) (ih : (i : Content ℕ) (at : Cursor) (bytes : List ℕ) → at .at % 24 ≡ 0 → Same (child i at bytes) (child′ i at bytes)) where
     -- ---- a map
 
-    field-same : (at : Cursor) (bytes : List ℕ) → at .at % 24 ≡ 0 → (a : FieldAnswer) → Same (fieldValue child at bytes a) (fieldValue child′ at bytes a)
-    unfolding fieldValue
+    field-same : (at : Cursor) (bytes : List ℕ) → at .at % 24 ≡ 0 → (a : FieldAnswer) → Same (fieldWrite child at bytes a) (fieldWrite child′ at bytes a)
+    unfolding fieldWrite
     field-same at bytes h (answer.Field f) =
         same-cond (leb (f .offset + f .size) (length bytes)) (same-placed _ _ bytes _ _ (ih (whole (f .resolved)) at _ h)) (same-refused 10 0 bytes)
     field-same at bytes h (answer.NotFound b) = same-refused _ _ bytes
@@ -185,16 +185,16 @@ module _ (book : List ℕ) (width : ℕ) (text tape tape′ : List ℕ) (alike :
     -- ---- an array
 
     elements-same : (item : Content ℕ) (stride n i from k : ℕ) (at : Cursor) (bytes : List ℕ) → at .at % 24 ≡ 0
-        → Same (elementsFrom child c item stride n i from k at bytes) (elementsFrom child′ c′ item stride n i from k at bytes)
-    unfolding elementsFrom
+        → Same (elementsWrite child c item stride n i from k at bytes) (elementsWrite child′ c′ item stride n i from k at bytes)
+    unfolding elementsWrite
     elements-same item stride n i from zero at bytes h = same-cond (ltb i n) (same-refused 17 0 bytes) (same-end 2 at bytes h)
     elements-same item stride n i from (suc k) at bytes h =
         same-cond (ltb i n)
         (same-then _ _ _ _ (same-placed from stride bytes _ _ (ih item at _ h)) (λ next mid m. elements-same item stride n (i + 1) (from + stride) k next mid m))
         (same-refused 17 0 bytes)
 
-    dimension-same : (d t e : ℕ) (at : Cursor) (bytes : List ℕ) → at .at % 24 ≡ 0 → Same (dimensionOf child c d t e at bytes) (dimensionOf child′ c′ d t e at bytes)
-    unfolding dimensionOf elementsBy
+    dimension-same : (d t e : ℕ) (at : Cursor) (bytes : List ℕ) → at .at % 24 ≡ 0 → Same (dimensionWrite child c d t e at bytes) (dimensionWrite child′ c′ d t e at bytes)
+    unfolding dimensionWrite elementsBy
     dimension-same d t e at bytes h =
         same-checked (elementCheck book width d t e) bytes _ _
         (same-taken at bytes _ _ h
@@ -202,42 +202,42 @@ module _ (book : List ℕ) (width : ℕ) (text tape tape′ : List ℕ) (alike :
         rw (← w .kind, ← w .a)
         (same-cond (eqb (r .kind) 1) (elements-same (elementItem book d t e) (strideOf book d t e) (countOf book t d) 0 0 (r .a) next bytes n) (same-refused 17 0 bytes))))
 
-    entered-same : (t : ℕ) (at : Cursor) (bytes : List ℕ) → at .at % 24 ≡ 0 → (x : Entered) → Same (arrayBy child c t at bytes x) (arrayBy child′ c′ t at bytes x)
-    unfolding arrayBy
+    entered-same : (t : ℕ) (at : Cursor) (bytes : List ℕ) → at .at % 24 ≡ 0 → (x : Entered) → Same (arrayWriteBy child c t at bytes x) (arrayWriteBy child′ c′ t at bytes x)
+    unfolding arrayWriteBy
     entered-same t at bytes h (entered.Element e) = dimension-same 0 t e at bytes h
     entered-same t at bytes h (entered.Stop n b) = same-refused n b bytes
 
-    array-same : (t : ℕ) (at : Cursor) (bytes : List ℕ) → at .at % 24 ≡ 0 → Same (arrayOf child c t at bytes) (arrayOf child′ c′ t at bytes)
-    unfolding arrayOf
+    array-same : (t : ℕ) (at : Cursor) (bytes : List ℕ) → at .at % 24 ≡ 0 → Same (arrayWrite child c t at bytes) (arrayWrite child′ c′ t at bytes)
+    unfolding arrayWrite
     array-same t at bytes h = entered-same t at bytes h (enteredAt book width t (length bytes))
 
     -- ---- a value
 
     value-same : (t : ℕ) (at : Cursor) (bytes : List ℕ) → at .at % 24 ≡ 0 → (r s : Record) (next : Cursor) → WrittenAlike r s → next .at % 24 ≡ 0
         → Same (valueBy child c t at bytes r next) (valueBy child′ c′ t at bytes s next)
-    unfolding valueBy mapOf leafOf
+    unfolding valueBy mapWrite leafWrite
     value-same t at bytes h r s next w n =
         rw (← leaf-for-alike book text r s w width t (categoryOf book width t) bytes, ← w .kind, ← w .a)
         (same-cond (eqb (r .kind) 1) (array-same t at bytes h)
         (same-cond (eqb (r .kind) 3) (map-same t (r .a) next bytes n (shapeAt book width t)) (same-leaf next bytes n _)))
 
-    item-same : (i : Content ℕ) (at : Cursor) (bytes : List ℕ) → at .at % 24 ≡ 0 → Same (itemWalk child c i at bytes) (itemWalk child′ c′ i at bytes)
-    unfolding itemWalk
+    item-same : (i : Content ℕ) (at : Cursor) (bytes : List ℕ) → at .at % 24 ≡ 0 → Same (itemWrite child c i at bytes) (itemWrite child′ c′ i at bytes)
+    unfolding itemWrite
     item-same (whole t) at bytes h = same-taken at bytes _ _ h (value-same t at bytes h)
     item-same (further d t e) at bytes h = dimension-same d t e at bytes h
 
-  pub walk-same : (left : ℕ) (i : Content ℕ) (at : Cursor) (bytes : List ℕ) → at .at % 24 ≡ 0 → Same (walk c left i at bytes) (walk c′ left i at bytes)
-  unfolding walk
+  pub walk-same : (left : ℕ) (i : Content ℕ) (at : Cursor) (bytes : List ℕ) → at .at % 24 ≡ 0 → Same (writeWalk c left i at bytes) (writeWalk c′ left i at bytes)
+  unfolding writeWalk
   walk-same zero i at bytes h = same-refused 16 0 bytes
-  walk-same (suc left) i at bytes h = item-same (walk c left) (walk c′ left) (walk-same left) i at bytes h
+  walk-same (suc left) i at bytes h = item-same (writeWalk c left) (writeWalk c′ left) (walk-same left) i at bytes h
 
   -- what is written of a resolved type
   pub type-same : (t : ℕ) (image : List ℕ) → typeWrite c t image ≡ typeWrite c′ t image
   unfolding typeWrite
   type-same t image = walk-same 64 (whole t) (record { at = 0 }) image refl .is
 
-  root-by-same : (image : List ℕ) (r : Resolved) → rootBy c image r ≡ rootBy c′ image r
-  unfolding rootBy
+  root-by-same : (image : List ℕ) (r : Resolved) → rootWriteBy c image r ≡ rootWriteBy c′ image r
+  unfolding rootWriteBy
   root-by-same image (resolved.Base t) = type-same t image
   root-by-same image (resolved.NotFound b) = refl
   root-by-same image resolved.TooLong = refl

@@ -15,8 +15,8 @@ use Rattle.de.specs.Walk as de
 use Rattle.de.specs.Read.{readTrace}
 use Rattle.ser.specs.declared.WriteAnswer.{WriteAnswer}
 use Rattle.ser.specs.declared.WriteAnswer.the-variants.{Done, Refused}
-use Rattle.ser.specs.Write.{Ctx, ctx, Outcome, went, refused}
-use Rattle.ser.specs.Call.{typeWrite, bookWrite, answerOf, writeCall, WriteIs}
+use Rattle.ser.specs.Write.{WriteCtx, writeCtx, Outcome, went, refused}
+use Rattle.ser.specs.Call.{typeWrite, bookWrite, writeAnswerOf, writeCall, WriteIs}
 use Rattle.ser_laws.specs.Touched.{OnlyIn, leavesOf}
 use Rattle.ser_laws.specs.Trip.{isKept}
 use Rattle.ser_laws.specs.Alike.{Records, SameButEnd, SameButDeclared}
@@ -27,7 +27,7 @@ abbrev pub BytesOutside : Type 0
 BytesOutside =
     (buffer : List ℕ) (len width n : ℕ) (image output tape text : List ℕ) (r : WriteAnswer) (new : List ℕ)
     → WriteIs (writeCall buffer len width n image (length output) tape text) image output r new → r ≡ Done
-    → OnlyIn (leavesOf (ctx (take len buffer) width tape text) n (length image)) image new
+    → OnlyIn (leavesOf (writeCtx (take len buffer) width tape text) n (length image)) image new
 
 -- a write that is accepted ends at place n of the tape, and one that is refused is not refused with 16
 abbrev pub endsBy : ℕ → Outcome → Type 0
@@ -40,12 +40,12 @@ pub record EndsAt (n : ℕ) (o : Outcome) : Type 0 where
 
 -- a well-formed tape never meets 16 in the walk of any type over any image, and an accepted walk ends at the tape's end
 abbrev pub FormedEnds : Type 0
-FormedEnds = (c : Ctx) (t : ℕ) (image : List ℕ) → formed (c .book) (c .tape) (c .text) ≡ true → EndsAt (length (c .tape)) (typeWrite c t image)
+FormedEnds = (c : WriteCtx) (t : ℕ) (image : List ℕ) → formed (c .book) (c .tape) (c .text) ≡ true → EndsAt (length (c .tape)) (typeWrite c t image)
 
 -- with an output as long as the image, a checked book's write is refused with 16 exactly where the tape is not well formed
 abbrev pub SixteenIsForm : Type 0
 SixteenIsForm =
-    (c : Ctx) (n : ℕ) (image : List ℕ) → (answerOf (bookWrite c n (length image) image) ≡ Refused refusal.wrongTape) ↔ (formed (c .book) (c .tape) (c .text) ≡ false)
+    (c : WriteCtx) (n : ℕ) (image : List ℕ) → (writeAnswerOf (bookWrite c n (length image) image) ≡ Refused refusal.wrongTape) ↔ (formed (c .book) (c .tape) (c .text) ≡ false)
 
 -- what an accepted read of any bytes leaves, k records on the tape and m bytes in the text buffer, is a well-formed tape of the book, with any
 -- first part of the text buffer that has these m bytes

@@ -67,8 +67,8 @@ leafKept book t mem (leaf.Refused k) = true
 -- ---- the walk
 
 -- what is asked at one level less
-abbrev pub Child : Type 0
-Child = Content ℕ → List ℕ → Bool
+abbrev pub ChildTrip : Type 0
+ChildTrip = Content ℕ → List ℕ → Bool
 
 -- a name finds this block
 unfoldable pub finds : ℕ → Found → Bool
@@ -76,46 +76,46 @@ finds f (found.At m) = eqb m f
 finds f found.Nothing = false
 
 -- a field's value
-unfoldable pub fieldKept : Child → List ℕ → FieldAnswer → Bool
+unfoldable pub fieldKept : ChildTrip → List ℕ → FieldAnswer → Bool
 fieldKept child mem (answer.Field f) = child (whole (f .resolved)) (cut (f .offset) (f .size) mem)
 fieldKept child mem (answer.NotFound b) = true
 fieldKept child mem answer.TooLong = true
 
 -- the k fields from block f on: each is the first of type t that has its name, and its value is kept
-unfoldable pub fieldsKept : Child → Ctx → ℕ → List ℕ → ℕ → ℕ → Bool
+unfoldable pub fieldsKept : ChildTrip → Ctx → ℕ → List ℕ → ℕ → ℕ → Bool
 fieldsKept child c t mem f zero = true
 fieldsKept child c t mem f (suc k) =
     finds f (fieldNamed (c .book) t (nameOf (c .book) f))
     && (fieldKept child mem (resolveField (c .book) (c .width) f) && fieldsKept child c t mem (f + 1) k)
 
 -- the k elements of `stride` bytes from `from` on
-unfoldable pub elementsKept : Child → Content ℕ → ℕ → List ℕ → ℕ → ℕ → Bool
+unfoldable pub elementsKept : ChildTrip → Content ℕ → ℕ → List ℕ → ℕ → ℕ → Bool
 elementsKept child item stride mem from zero = true
 elementsKept child item stride mem from (suc k) = child item (cut from stride mem) && elementsKept child item stride mem (from + stride) k
 
 -- dimension d of array t
-unfoldable pub dimensionKept : Child → Ctx → ℕ → ℕ → ℕ → List ℕ → Bool
+unfoldable pub dimensionKept : ChildTrip → Ctx → ℕ → ℕ → ℕ → List ℕ → Bool
 dimensionKept child c d t e mem = elementsKept child (elementItem (c .book) d t e) (strideOf (c .book) d t e) mem 0 (countOf (c .book) t d)
 
 -- array t, by what its element's type comes to
-unfoldable pub arrayKept : Child → Ctx → ℕ → List ℕ → Resolved → Bool
+unfoldable pub arrayKept : ChildTrip → Ctx → ℕ → List ℕ → Resolved → Bool
 arrayKept child c t mem (resolved.Base e) = dimensionKept child c 0 t e mem
 arrayKept child c t mem (resolved.NotFound b) = true
 arrayKept child c t mem resolved.TooLong = true
 
 -- a value by its fields, by its elements, or as a whole
-unfoldable pub shapeKept : Child → Ctx → ℕ → List ℕ → Shape → Bool
+unfoldable pub shapeKept : ChildTrip → Ctx → ℕ → List ℕ → Shape → Bool
 shapeKept child c t mem shape.Map = fieldsKept child c t mem (t + 1) (fieldsOf (c .book) t)
 shapeKept child c t mem shape.Array = arrayKept child c t mem (lookUp (c .book) (c .width) t)
 shapeKept child c t mem shape.Leaf = leafKept (c .book) t mem (leafAt (c .book) (c .width) t mem)
 
 -- an item
-unfoldable pub itemKept : Child → Ctx → Child
+unfoldable pub itemKept : ChildTrip → Ctx → ChildTrip
 itemKept child c (whole t) mem = shapeKept child c t mem (shapeAt (c .book) (c .width) t)
 itemKept child c (further d t e) mem = dimensionKept child c d t e mem
 
 -- where `left` is the number of levels left
-unfoldable pub walkKept : Ctx → ℕ → Child
+unfoldable pub walkKept : Ctx → ℕ → ChildTrip
 walkKept c zero i mem = true
 walkKept c (suc left) i mem = itemKept (walkKept c left) c i mem
 

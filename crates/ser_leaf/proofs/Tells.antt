@@ -26,7 +26,7 @@ use Rattle.tape.specs.declared.record.Record.{Record}
 use Rattle.tape.specs.Text.{recordText}
 use Rattle.ser_leaf.specs.declared.Target.{Target}
 use Rattle.ser_leaf.specs.declared.Target.the-variants as target
-use Rattle.ser_leaf.specs.Leaf.{Leaf, holds, refused, exactly, boolLeaf, realId, realLeaf, integerEnd, integerBy, pointerLeaf, integerLeaf, entryBy, entryLeaf, enumLeaf, padded, textBy, textLeaf, leafBy, targetOf, countLeaf, leafFor}
+use Rattle.ser_leaf.specs.Leaf.{Leaf, holds, refused, exactly, boolWrite, realId, realWrite, integerEnd, integerBy, pointerWrite, integerWrite, entryBy, entryLeaf, enumWrite, padded, textBy, textWrite, leafWriteBy, targetOf, countLeaf, leafFor}
 
 -- P holds of the number of a leaf that is refused
 pub record Tells (P : ℕ → Type 0) (l : Leaf) : Type 0 where
@@ -66,8 +66,8 @@ module _ (P : ℕ → Type 0) where
     unfolding integerBy
     tells-integer id v old = tells-end (writeInteger id v old) (integerBytes id v)
 
-    tells-pointer : (width : ℕ) (v : Integer) (old : List ℕ) → Tells P (pointerLeaf width v old)
-    unfolding pointerLeaf
+    tells-pointer : (width : ℕ) (v : Integer) (old : List ℕ) → Tells P (pointerWrite width v old)
+    unfolding pointerWrite
     tells-pointer width v old =
         tells-cond (eqb width 2) _ _ (tells-integer UInt16 v old)
         (tells-cond (eqb width 4) _ _ (tells-integer UInt32 v old)
@@ -82,16 +82,16 @@ module _ (P : ℕ → Type 0) where
     tells-text-by id marked text old = tells-cond (eqb id 30) _ _ (tells-padded _ 1 old) (tells-cond (eqb id 31) _ _ (tells-padded _ 2 old) (tells-refused 17 p17))
 
     module _ (book : List ℕ) (width t : ℕ) (old : List ℕ) where
-      tells-bool : (b : ℕ) → Tells P (boolLeaf book t b old)
-      unfolding boolLeaf
+      tells-bool : (b : ℕ) → Tells P (boolWrite book t b old)
+      unfolding boolWrite
       tells-bool b = tells-cond (eqb (typeIdOf book t) 33) _ _ (tells-exactly _ old) (tells-refused 17 p17)
 
-      tells-real : (is-double : Bool) (b : ℕ) → Tells P (realLeaf book t is-double b old)
-      unfolding realLeaf
+      tells-real : (is-double : Bool) (b : ℕ) → Tells P (realWrite book t is-double b old)
+      unfolding realWrite
       tells-real is-double b = tells-cond (eqb (typeIdOf book t) (realId is-double)) _ _ (tells-exactly _ old) (tells-refused 17 p17)
 
-      tells-number : (v : Integer) (k : Target) → Tells P (integerLeaf book width t v old k)
-      unfolding integerLeaf
+      tells-number : (v : Integer) (k : Target) → Tells P (integerWrite book width t v old k)
+      unfolding integerWrite
       tells-number v target.Pointer = tells-pointer width v old
       tells-number v target.Enum = tells-integer _ v old
       tells-number v target.Other = tells-integer _ v old
@@ -105,14 +105,14 @@ module _ (P : ℕ → Type 0) where
       unfolding entryLeaf
       tells-entry name = tells-cond (eqb (length old) (sizeOf book t)) _ _ (tells-found (entryNamed book t name)) (tells-refused 10 p10)
 
-      tells-enum : (name : List ℕ) (k : Target) → Tells P (enumLeaf book t name old k)
-      unfolding enumLeaf
+      tells-enum : (name : List ℕ) (k : Target) → Tells P (enumWrite book t name old k)
+      unfolding enumWrite
       tells-enum name target.Enum = tells-entry name
       tells-enum name target.Pointer = tells-refused 17 p17
       tells-enum name target.Other = tells-refused 17 p17
 
-      tells-text : (text : List ℕ) (k : Target) → Tells P (textLeaf book t text old k)
-      unfolding textLeaf
+      tells-text : (text : List ℕ) (k : Target) → Tells P (textWrite book t text old k)
+      unfolding textWrite
       tells-text text target.Enum = tells-entry text
       tells-text text target.Pointer = tells-text-by _ _ text old
       tells-text text target.Other = tells-text-by _ _ text old
@@ -120,8 +120,8 @@ module _ (P : ℕ → Type 0) where
       -- a leaf's record; 16 is told of a record of another kind alone
       pub leaf-tells : (k : Target) (r : Record) (text : List ℕ)
           → ((r .kind ≡ 6 → ⊥) → (r .kind ≡ 7 → ⊥) → (r .kind ≡ 8 → ⊥) → (r .kind ≡ 9 → ⊥) → (r .kind ≡ 10 → ⊥) → (r .kind ≡ 11 → ⊥) → (r .kind ≡ 12 → ⊥) → (r .kind ≡ 13 → ⊥) → P 16)
-          → Tells P (leafBy book width t k r text old)
-      unfolding leafBy
+          → Tells P (leafWriteBy book width t k r text old)
+      unfolding leafWriteBy
       leaf-tells k r text p16 =
           tells-test (r .kind) 6 _ _ (tells-bool (r .b)) (λ n6.
           tells-test (r .kind) 7 _ _ (tells-number _ k) (λ n7.

@@ -17,7 +17,7 @@ use Rattle.time_parts.specs.declared.PartsAnswer.{PartsAnswer}
 use Rattle.time_parts.specs.declared.PartsAnswer.the-variants as parts
 use Rattle.time_parts.specs.declared.CountAnswer.{CountAnswer}
 use Rattle.time_parts.specs.declared.CountAnswer.the-variants as count
-use Rattle.time_parts.specs.Parts.{partsNumbers, countNumbers, dayLength, partsAt, clockParts, momentParts, partsOf, namesClock, clockOf, dateless, dateIn, momentOf, countIn, clockCount, momentCount, countOf}
+use Rattle.time_parts.specs.Parts.{partsNumbers, countNumbers, dayLength, partsAt, clockParts, momentParts, timeParts, namesClock, clockOf, dateless, dateIn, momentOf, countIn, clockCount, momentCount, timeCount}
 use Rattle.time_parts.specs.Nanoseconds.{clockNanoseconds, momentNanoseconds, sumIn, inUnits}
 use Rattle.time_parts.proofs.Clock.{clock-few}
 
@@ -39,48 +39,48 @@ unfolding momentParts
 moment-parts-is n d p e q = q ∙ ap (λ (x : Date). partsAt x (n % dayLength)) e
 
 module _ (y : TimeType) (n : ℕ) where
-  pub parts-time : y ≡ time.Time → parts.Refused ≡ partsOf y n
-  unfolding partsOf
+  pub parts-time : y ≡ time.Time → parts.Refused ≡ timeParts y n
+  unfolding timeParts
   parts-time e = sym (rw e)
 
-  pub parts-ltime : y ≡ time.LTime → parts.Refused ≡ partsOf y n
-  unfolding partsOf
+  pub parts-ltime : y ≡ time.LTime → parts.Refused ≡ timeParts y n
+  unfolding timeParts
   parts-ltime e = sym (rw e)
 
-  pub parts-none : y ≡ time.NoTime → parts.Refused ≡ partsOf y n
-  unfolding partsOf
+  pub parts-none : y ≡ time.NoTime → parts.Refused ≡ timeParts y n
+  unfolding timeParts
   parts-none e = sym (rw e)
 
-  pub parts-tod : y ≡ time.TimeOfDay → n < 86_400_000 → (p : Parts) → p ≡ clockParts (n * 1_000_000) → parts.Told p ≡ partsOf y n
-  unfolding partsOf
+  pub parts-tod : y ≡ time.TimeOfDay → n < 86_400_000 → (p : Parts) → p ≡ clockParts (n * 1_000_000) → parts.Told p ≡ timeParts y n
+  unfolding timeParts
   parts-tod e h p q = sym (rw (e, lt-ltb n 86_400_000 h, q))
 
-  pub parts-tod-late : y ≡ time.TimeOfDay → 86_400_000 ≤ n → parts.Refused ≡ partsOf y n
-  unfolding partsOf
+  pub parts-tod-late : y ≡ time.TimeOfDay → 86_400_000 ≤ n → parts.Refused ≡ timeParts y n
+  unfolding timeParts
   parts-tod-late e h = sym (rw (e, le-ltb n 86_400_000 h))
 
-  pub parts-ltod : y ≡ time.LTimeOfDay → n < dayLength → (p : Parts) → p ≡ clockParts n → parts.Told p ≡ partsOf y n
-  unfolding partsOf
+  pub parts-ltod : y ≡ time.LTimeOfDay → n < dayLength → (p : Parts) → p ≡ clockParts n → parts.Told p ≡ timeParts y n
+  unfolding timeParts
   parts-ltod e h p q = sym (rw (e, lt-ltb n dayLength h, q))
 
-  pub parts-ltod-late : y ≡ time.LTimeOfDay → dayLength ≤ n → parts.Refused ≡ partsOf y n
-  unfolding partsOf
+  pub parts-ltod-late : y ≡ time.LTimeOfDay → dayLength ≤ n → parts.Refused ≡ timeParts y n
+  unfolding timeParts
   parts-ltod-late e h = sym (rw (e, le-ltb n dayLength h))
 
-  pub parts-dt : y ≡ time.DateTime → n ≤ 0xffff_ffff → (p : Parts) → p ≡ momentParts (n * 1_000_000_000) → parts.Told p ≡ partsOf y n
-  unfolding partsOf
+  pub parts-dt : y ≡ time.DateTime → n ≤ 0xffff_ffff → (p : Parts) → p ≡ momentParts (n * 1_000_000_000) → parts.Told p ≡ timeParts y n
+  unfolding timeParts
   parts-dt e h p q = sym (rw (e, le-leb n 0xffff_ffff h, q))
 
-  pub parts-dt-late : y ≡ time.DateTime → 0xffff_ffff < n → parts.Refused ≡ partsOf y n
-  unfolding partsOf
+  pub parts-dt-late : y ≡ time.DateTime → 0xffff_ffff < n → parts.Refused ≡ timeParts y n
+  unfolding timeParts
   parts-dt-late e h = sym (rw (e, lt-leb n 0xffff_ffff h))
 
-  pub parts-ldt : y ≡ time.LDateTime → n < 2 ^ 64 → (p : Parts) → p ≡ momentParts n → parts.Told p ≡ partsOf y n
-  unfolding partsOf
+  pub parts-ldt : y ≡ time.LDateTime → n < 2 ^ 64 → (p : Parts) → p ≡ momentParts n → parts.Told p ≡ timeParts y n
+  unfolding timeParts
   parts-ldt e h p q = sym (rw (e, le-leb n 0xffff_ffff_ffff_ffff (omega arith), q))
 
-pub parts-say : (name : List ℕ) (n : ℕ) (y : TimeType) (r : PartsAnswer) → y ≡ timeTypeOf name → r ≡ partsOf y n → partsNumbers r ≡ partsNumbers (partsOf (timeTypeOf name) n)
-parts-say name n y r e q = ap partsNumbers (q ∙ ap (λ (x : TimeType). partsOf x n) e)
+pub parts-say : (name : List ℕ) (n : ℕ) (y : TimeType) (r : PartsAnswer) → y ≡ timeTypeOf name → r ≡ timeParts y n → partsNumbers r ≡ partsNumbers (timeParts (timeTypeOf name) n)
+parts-say name n y r e q = ap partsNumbers (q ∙ ap (λ (x : TimeType). timeParts x n) e)
 
 -- ---- from parts to the count
 
@@ -223,34 +223,34 @@ module _ (unit : ℕ) (p : Parts) where
 
 -- count_by
 module _ (y : TimeType) (p : Parts) where
-  pub count-time : y ≡ time.Time → count.Refused ≡ countOf y p
-  unfolding countOf
+  pub count-time : y ≡ time.Time → count.Refused ≡ timeCount y p
+  unfolding timeCount
   count-time e = sym (rw e)
 
-  pub count-ltime : y ≡ time.LTime → count.Refused ≡ countOf y p
-  unfolding countOf
+  pub count-ltime : y ≡ time.LTime → count.Refused ≡ timeCount y p
+  unfolding timeCount
   count-ltime e = sym (rw e)
 
-  pub count-none : y ≡ time.NoTime → count.Refused ≡ countOf y p
-  unfolding countOf
+  pub count-none : y ≡ time.NoTime → count.Refused ≡ timeCount y p
+  unfolding timeCount
   count-none e = sym (rw e)
 
   module _ (m r : CountAnswer) where
-    pub count-tod : y ≡ time.TimeOfDay → m ≡ clockNanoseconds p → r ≡ inUnits 1_000_000 0xffff_ffff_ffff_ffff m → r ≡ countOf y p
-    unfolding countOf clockCount
+    pub count-tod : y ≡ time.TimeOfDay → m ≡ clockNanoseconds p → r ≡ inUnits 1_000_000 0xffff_ffff_ffff_ffff m → r ≡ timeCount y p
+    unfolding timeCount clockCount
     count-tod e em er = rw e (er ∙ rw em (clock-units 1_000_000 p 0xffff_ffff_ffff_ffff))
 
-    pub count-ltod : y ≡ time.LTimeOfDay → m ≡ clockNanoseconds p → r ≡ inUnits 1 0xffff_ffff_ffff_ffff m → r ≡ countOf y p
-    unfolding countOf clockCount
+    pub count-ltod : y ≡ time.LTimeOfDay → m ≡ clockNanoseconds p → r ≡ inUnits 1 0xffff_ffff_ffff_ffff m → r ≡ timeCount y p
+    unfolding timeCount clockCount
     count-ltod e em er = rw e (er ∙ rw em (clock-units 1 p 0xffff_ffff_ffff_ffff))
 
-    pub count-dt : y ≡ time.DateTime → m ≡ momentNanoseconds p → r ≡ inUnits 1_000_000_000 0xffff_ffff m → r ≡ countOf y p
-    unfolding countOf
+    pub count-dt : y ≡ time.DateTime → m ≡ momentNanoseconds p → r ≡ inUnits 1_000_000_000 0xffff_ffff m → r ≡ timeCount y p
+    unfolding timeCount
     count-dt e em er = rw e (er ∙ rw em (moment-units 1_000_000_000 p 0xffff_ffff past-seconds))
 
-    pub count-ldt : y ≡ time.LDateTime → m ≡ momentNanoseconds p → r ≡ inUnits 1 0xffff_ffff_ffff_ffff m → r ≡ countOf y p
-    unfolding countOf
+    pub count-ldt : y ≡ time.LDateTime → m ≡ momentNanoseconds p → r ≡ inUnits 1 0xffff_ffff_ffff_ffff m → r ≡ timeCount y p
+    unfolding timeCount
     count-ldt e em er = rw e (er ∙ rw em (moment-units 1 p 0xffff_ffff_ffff_ffff past-nanoseconds))
 
-pub count-say : (name : List ℕ) (p : Parts) (y : TimeType) (r : CountAnswer) → y ≡ timeTypeOf name → r ≡ countOf y p → countNumbers r ≡ countNumbers (countOf (timeTypeOf name) p)
-count-say name p y r e q = ap countNumbers (q ∙ ap (λ (x : TimeType). countOf x p) e)
+pub count-say : (name : List ℕ) (p : Parts) (y : TimeType) (r : CountAnswer) → y ≡ timeTypeOf name → r ≡ timeCount y p → countNumbers r ≡ countNumbers (timeCount (timeTypeOf name) p)
+count-say name p y r e q = ap countNumbers (q ∙ ap (λ (x : TimeType). timeCount x p) e)

@@ -17,7 +17,7 @@ use Rattle.time_parts.specs.declared.PartsAnswer.{PartsAnswer}
 use Rattle.time_parts.specs.declared.PartsAnswer.the-variants as parts
 use Rattle.time_parts.specs.declared.CountAnswer.{CountAnswer}
 use Rattle.time_parts.specs.declared.CountAnswer.the-variants as count
-use Rattle.time_parts.specs.Parts.{dayLength, partsAt, clockParts, momentParts, partsOf, partsNamed, namesClock, clockOf, dateless, dateIn, momentOf, countIn, clockCount, momentCount, countOf, countNamed}
+use Rattle.time_parts.specs.Parts.{dayLength, partsAt, clockParts, momentParts, timeParts, partsNamed, namesClock, clockOf, dateless, dateIn, momentOf, countIn, clockCount, momentCount, timeCount, countNamed}
 use Rattle.time_parts.specs.Laws.{Exact}
 use Rattle.time_parts.proofs.Clock.{and-first, and-second, clock-few, clock-there, clock-back, hour-back, minute-back, second-back, nanosecond-back}
 
@@ -163,8 +163,8 @@ unfolding countIn
 count-units unit largest n k a q l = rw (eq-eqb (n % unit) 0 a, q, le-leb k largest l)
 
 module _ (p : Parts) (n : ℕ) where
-  there-by : (y : TimeType) → partsOf y n ≡ parts.Told p → countOf y p ≡ count.Told n
-  unfolding partsOf countOf clockCount momentCount
+  there-by : (y : TimeType) → timeParts y n ≡ parts.Told p → timeCount y p ≡ count.Told n
+  unfolding timeParts timeCount clockCount momentCount
   there-by time.Time e = absurd (let z : _≡_ {A = ℕ} 0 1 = cc in omega arith)
   there-by time.LTime e = absurd (let z : _≡_ {A = ℕ} 0 1 = cc in omega arith)
   there-by time.NoTime e = absurd (let z : _≡_ {A = ℕ} 0 1 = cc in omega arith)
@@ -186,8 +186,8 @@ module _ (p : Parts) (n : ℕ) where
       let l : n ≤ 0xffff_ffff_ffff_ffff = leb-true n 0xffff_ffff_ffff_ffff (t .0) in
       rw (← t .1, moment-names n, moment-n n) (count-units 1 _ n n (omega arith) (omega arith) l)
 
-  back-by : (y : TimeType) → countOf y p ≡ count.Told n → partsOf y n ≡ parts.Told p
-  unfolding partsOf countOf clockCount momentCount
+  back-by : (y : TimeType) → timeCount y p ≡ count.Told n → timeParts y n ≡ parts.Told p
+  unfolding timeParts timeCount clockCount momentCount
   back-by time.Time e = absurd (let z : _≡_ {A = ℕ} 0 1 = cc in omega arith)
   back-by time.LTime e = absurd (let z : _≡_ {A = ℕ} 0 1 = cc in omega arith)
   back-by time.NoTime e = absurd (let z : _≡_ {A = ℕ} 0 1 = cc in omega arith)
@@ -221,12 +221,12 @@ exact name = record {
   back = λ p n e. back-by p n (timeTypeOf name) e;
   one = λ n m p e f. same-told n m (sym (there-by p n (timeTypeOf name) e) ∙ there-by p m (timeTypeOf name) f);
   refused = λ p r n e. never n (sym r ∙ there-by p n (timeTypeOf name) e);
-  unnamed = λ p none. by p none (countOf (timeTypeOf name) p) refl;
+  unnamed = λ p none. by p none (timeCount (timeTypeOf name) p) refl;
 }
   where
     never : (n : ℕ) → count.Refused ≡ count.Told n → ⊥
     never n e = let z : _≡_ {A = ℕ} 0 1 = cc in omega arith
 
-    by : (p : Parts) → ((n : ℕ) → partsOf (timeTypeOf name) n ≡ parts.Told p → ⊥) → (r : CountAnswer) → countOf (timeTypeOf name) p ≡ r → r ≡ count.Refused
+    by : (p : Parts) → ((n : ℕ) → timeParts (timeTypeOf name) n ≡ parts.Told p → ⊥) → (r : CountAnswer) → timeCount (timeTypeOf name) p ≡ r → r ≡ count.Refused
     by p none (count.Told n) e = absurd (none n (back-by p n (timeTypeOf name) e))
     by p none count.Refused e = refl

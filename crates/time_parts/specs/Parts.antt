@@ -55,18 +55,18 @@ momentParts n = partsAt (dateOf (n / dayLength)) (n % dayLength)
 
 -- the parts of a count: milliseconds or nanoseconds since midnight, which are less than a day; seconds, in 4 bytes, or nanoseconds, in 8,
 -- since 1970-01-01 00:00:00; a type that counts something else has none
-unfoldable pub partsOf : TimeType → ℕ → PartsAnswer
-partsOf time.Time n = parts.Refused
-partsOf time.LTime n = parts.Refused
-partsOf time.TimeOfDay n = cond (ltb n 86_400_000) (parts.Told (clockParts (n * 1_000_000))) parts.Refused
-partsOf time.LTimeOfDay n = cond (ltb n dayLength) (parts.Told (clockParts n)) parts.Refused
-partsOf time.DateTime n = cond (leb n 0xffff_ffff) (parts.Told (momentParts (n * 1_000_000_000))) parts.Refused
-partsOf time.LDateTime n = cond (leb n 0xffff_ffff_ffff_ffff) (parts.Told (momentParts n)) parts.Refused
-partsOf time.NoTime n = parts.Refused
+unfoldable pub timeParts : TimeType → ℕ → PartsAnswer
+timeParts time.Time n = parts.Refused
+timeParts time.LTime n = parts.Refused
+timeParts time.TimeOfDay n = cond (ltb n 86_400_000) (parts.Told (clockParts (n * 1_000_000))) parts.Refused
+timeParts time.LTimeOfDay n = cond (ltb n dayLength) (parts.Told (clockParts n)) parts.Refused
+timeParts time.DateTime n = cond (leb n 0xffff_ffff) (parts.Told (momentParts (n * 1_000_000_000))) parts.Refused
+timeParts time.LDateTime n = cond (leb n 0xffff_ffff_ffff_ffff) (parts.Told (momentParts n)) parts.Refused
+timeParts time.NoTime n = parts.Refused
 
 -- the parts of a count of the type of that name
 abbrev pub partsNamed : List ℕ → ℕ → PartsAnswer
-partsNamed name n = partsOf (timeTypeOf name) n
+partsNamed name n = timeParts (timeTypeOf name) n
 
 -- ---- from parts to the count
 
@@ -103,15 +103,15 @@ unfoldable pub momentCount : ℕ → ℕ → Parts → CountAnswer
 momentCount unit largest p = cond (namesDate (dateIn p) && namesClock p) (countIn unit largest (momentOf p)) count.Refused
 
 -- the count that has these parts
-unfoldable pub countOf : TimeType → Parts → CountAnswer
-countOf time.Time p = count.Refused
-countOf time.LTime p = count.Refused
-countOf time.TimeOfDay p = clockCount 1_000_000 p
-countOf time.LTimeOfDay p = clockCount 1 p
-countOf time.DateTime p = momentCount 1_000_000_000 0xffff_ffff p
-countOf time.LDateTime p = momentCount 1 0xffff_ffff_ffff_ffff p
-countOf time.NoTime p = count.Refused
+unfoldable pub timeCount : TimeType → Parts → CountAnswer
+timeCount time.Time p = count.Refused
+timeCount time.LTime p = count.Refused
+timeCount time.TimeOfDay p = clockCount 1_000_000 p
+timeCount time.LTimeOfDay p = clockCount 1 p
+timeCount time.DateTime p = momentCount 1_000_000_000 0xffff_ffff p
+timeCount time.LDateTime p = momentCount 1 0xffff_ffff_ffff_ffff p
+timeCount time.NoTime p = count.Refused
 
 -- the count of the type of that name that has these parts
 abbrev pub countNamed : List ℕ → Parts → CountAnswer
-countNamed name p = countOf (timeTypeOf name) p
+countNamed name p = timeCount (timeTypeOf name) p

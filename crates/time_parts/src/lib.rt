@@ -2,7 +2,7 @@
 ghost use mathlib.Core.Path.{_≡_};
 ghost use mathlib.Core.Bool.{true};
 ghost use Prim.Native.Nat.{_<_};
-ghost use Rattle.time_parts.specs.Parts.{partsNumbers, countNumbers, dayLength, partsAt, clockParts, momentParts, partsOf, partsNamed, namesClock, clockOf, dateless, countIn, countOf, countNamed};
+ghost use Rattle.time_parts.specs.Parts.{partsNumbers, countNumbers, dayLength, partsAt, clockParts, momentParts, timeParts, partsNamed, namesClock, clockOf, dateless, countIn, timeCount, countNamed};
 ghost use Rattle.time_parts.specs.Nanoseconds.{clockNanoseconds, momentNanoseconds, sumIn, inUnits};
 use time_calendar::Date;
 use time_calendar::date_of;
@@ -90,7 +90,7 @@ fn moment_parts(moment: u64) -> Parts
 }
 
 fn parts_by(time: TimeType, count: u64) -> PartsAnswer
-    ensures { λ r. ⌜ r ≡ partsOf time count ⌝ }
+    ensures { λ r. ⌜ r ≡ timeParts time count ⌝ }
 {
     match time {
         TimeType::Time => PartsAnswer::Refused,
@@ -233,7 +233,7 @@ fn in_units(unit: u64, largest: u64, nanoseconds: CountAnswer) -> CountAnswer
 }
 
 fn count_by(time: TimeType, p: Parts) -> CountAnswer
-    ensures { λ r. ⌜ r ≡ countOf time p ⌝ }
+    ensures { λ r. ⌜ r ≡ timeCount time p ⌝ }
 {
     match time {
         TimeType::Time => CountAnswer::Refused,

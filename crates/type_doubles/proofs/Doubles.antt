@@ -10,7 +10,7 @@ use Rattle.type_book.specs.Book.{blocks, isType, nameOf, isNamed}
 use Rattle.type_provider.proofs.Finds.{named-kind, named-name, named-own}
 use Rattle.type_order.specs.declared.Order.{Order}
 use Rattle.type_order.specs.declared.Order.the-variants.{Distinct, Doubled}
-use Rattle.type_order.specs.Names.{Apart, Twice, Decided}
+use Rattle.type_order.specs.Names.{Apart, Twice, OrderDecided}
 use Rattle.type_doubles.specs.Doubles.{allFrom, isOther, isFirst, distinct}
 use Rattle.type_marks.specs.Marks.{hashOf, isMarked, Marked}
 use Rattle.type_doubles.specs.Met.{MarkedTo, MetIs}
@@ -105,9 +105,9 @@ first-apart book apart n l = by (isType book n) refl
     by false k = refl
     by true k = all-of _ n (λ m g. other k m g _ refl)
 
-pub distinct-apart : (book : List ℕ) → (d : Order) → Decided book d → d ≡ Distinct → true ≡ distinct book
+pub distinct-apart : (book : List ℕ) → (d : Order) → OrderDecided book d → d ≡ Distinct → true ≡ distinct book
 distinct-apart book d is e =
-    let h : Decided book Distinct = rw (← e) is in
+    let h : OrderDecided book Distinct = rw (← e) is in
     sym (all-of _ (blocks book) (first-apart book (h .holds)))
 
 first-twice : (book : List ℕ) (two : Twice book) → isFirst book (two .two) ≡ true → ⊥
@@ -120,11 +120,11 @@ first-twice book two h =
     let y : _≡_ {A = ℕ} 0 1 = cc in
     omega arith
 
-pub distinct-twice : (book : List ℕ) → (d : Order) → Decided book d → d ≡ Doubled → false ≡ distinct book
+pub distinct-twice : (book : List ℕ) → (d : Order) → OrderDecided book d → d ≡ Doubled → false ≡ distinct book
 distinct-twice book d is e = by (distinct book) refl
   where
     two : Twice book
-    two = let h : Decided book Doubled = rw (← e) is in h .holds
+    two = let h : OrderDecided book Doubled = rw (← e) is in h .holds
 
     by : (t : Bool) → distinct book ≡ t → false ≡ distinct book
     by false k = sym k

@@ -10,7 +10,7 @@ use lib.Dec.{eqb}
 use borrow.Author.Tests.{eq-eqb, ne-eqb}
 use Rattle.type_book.specs.Book.{isType, nameOf, typeNameOf}
 use Rattle.type_provider.specs.Find.{searched}
-use Rattle.type_index.specs.Index.{slotsOf, placeOf, nextOf, probeOf, freeFrom, freeOf, entered, enteredFrom, namesIndex, hintFor, hintsFrom, hintedIndex}
+use Rattle.type_index.specs.Index.{slotsOf, slotFor, nextOf, probeOf, freeFrom, freeOf, entered, enteredFrom, namesIndex, hintFor, hintsFrom, hintedIndex}
 use Rattle.type_index.specs.Parts.{HintsAt, PlaceIs, NextIs}
 use Rattle.type_index.proofs.Slots.{place-none}
 use Rattle.type_index.proofs.Probes.{none}
@@ -26,7 +26,7 @@ module _ (book index name : List ℕ) where
         let l : length index ≡ 0 = none n (length index) (hints .some) z in
         let g : (i : ℕ) → getD index i 0 ≡ 0 = λ i. List·getD-eq-default index 0 (omega arith) in
         let s : slotsOf book (length index) ≡ 0 = sym (hints .is) ∙ z in
-        sym (rw (g (placeOf name (slotsOf book (length index))), s, place-none name, l))
+        sym (rw (g (slotFor name (slotsOf book (length index))), s, place-none name, l))
 
     pub free-start : (at : ℕ) → PlaceIs name n at → freeFrom index n at 64 ≡ freeOf book index name
     unfolding freeOf

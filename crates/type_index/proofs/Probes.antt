@@ -12,7 +12,7 @@ use Rattle.type_provider.specs.declared.Found.the-variants.{At, Nothing}
 use Rattle.type_book.specs.Book.{blocks, typeNameOf, isNamed}
 use Rattle.type_provider.specs.Find.{searched, NamedBlock}
 use Rattle.type_block_form.proofs.Bytes.{and-left, and-right}
-use Rattle.type_index.specs.Index.{slotsOf, placeOf, nextOf, ledTo, orElse, probeFrom, probeOf, hintFor}
+use Rattle.type_index.specs.Index.{slotsOf, slotFor, nextOf, ledTo, firstFound, probeFrom, probeOf, hintFor}
 use Rattle.type_index.specs.Parts.{HintsAt, PlaceIs, NextIs, Probed}
 
 -- ---- what one number stands for
@@ -64,16 +64,16 @@ none n (suc len) f z = absurd (let l : 0 < n = f (omega arith) in omega arith)
 
 module _ (book index name : List ℕ) where
   from-named : (n k at m : ℕ) → probeFrom book index name n at k ≡ At m → NamedBlock book name m
-  unfolding probeFrom orElse
+  unfolding probeFrom firstFound
   from-named n zero at m e = absurd (let z : _≡_ {A = ℕ} 0 1 = cc in omega arith)
   from-named n (suc k) at m e = by (eqb (getD index at 0) 0) (from-named n k (nextOf n at) m) e
     where
-      led : (f later : Found) → f ≡ ledTo book name (getD index at 0) → (later ≡ At m → NamedBlock book name m) → orElse f later ≡ At m → NamedBlock book name m
+      led : (f later : Found) → f ≡ ledTo book name (getD index at 0) → (later ≡ At m → NamedBlock book name m) → firstFound f later ≡ At m → NamedBlock book name m
       led (At x) later ef ih q = led-named book name (getD index at 0) m (sym ef ∙ q)
       led Nothing later ef ih q = ih q
 
       by : (g : Bool) → (probeFrom book index name n (nextOf n at) k ≡ At m → NamedBlock book name m)
-          → cond g Nothing (orElse (ledTo book name (getD index at 0)) (probeFrom book index name n (nextOf n at) k)) ≡ At m → NamedBlock book name m
+          → cond g Nothing (firstFound (ledTo book name (getD index at 0)) (probeFrom book index name n (nextOf n at) k)) ≡ At m → NamedBlock book name m
       by true ih q = absurd (let z : _≡_ {A = ℕ} 0 1 = cc in omega arith)
       by false ih q = led (ledTo book name (getD index at 0)) _ refl ih q
 
@@ -88,7 +88,7 @@ module _ (book index name : List ℕ) where
     probe-empty z =
         let l : length index ≡ 0 = none n (length index) (hints .some) z in
         let g : (i : ℕ) → getD index i 0 ≡ 0 = λ i. List·getD-eq-default index 0 (omega arith) in
-        sym (rw (g (placeOf name (slotsOf book (length index)))))
+        sym (rw (g (slotFor name (slotsOf book (length index)))))
 
     pub probe-start : (at : ℕ) → PlaceIs name n at → probeFrom book index name n at 64 ≡ probeOf book index name
     unfolding probeOf
@@ -100,7 +100,7 @@ module _ (book index name : List ℕ) where
     probe-end l = let z : left ≡ 0 = omega arith in ap (probeFrom book index name n at) (sym z) ∙ inv
 
     module _ (l : 0 < left) (slot : ℕ) (es : slot ≡ getD index at 0) where
-      turn : probeOf book index name ≡ cond (eqb slot 0) Nothing (orElse (ledTo book name slot) (probeFrom book index name n (nextOf n at) (left - 1)))
+      turn : probeOf book index name ≡ cond (eqb slot 0) Nothing (firstFound (ledTo book name slot) (probeFrom book index name n (nextOf n at) (left - 1)))
       unfolding probeFrom
       turn = let z : left ≡ suc (left - 1) = omega arith in sym inv ∙ ap (probeFrom book index name n at) z ∙ rw es
 
@@ -108,15 +108,15 @@ module _ (book index name : List ℕ) where
       probe-free e = sym (turn ∙ rw (eq-eqb slot 0 e))
 
       module _ (ne : slot ≡ 0 → ⊥) (f : Found) (ef : f ≡ ledTo book name slot) where
-        tried : probeOf book index name ≡ orElse f (probeFrom book index name n (nextOf n at) (left - 1))
+        tried : probeOf book index name ≡ firstFound f (probeFrom book index name n (nextOf n at) (left - 1))
         tried = turn ∙ rw (ne-eqb slot 0 ne, ef)
 
         pub probe-here : (m : ℕ) → f ≡ At m → f ≡ probeOf book index name
-        unfolding orElse
+        unfolding firstFound
         probe-here m e = e ∙ sym (tried ∙ rw e)
 
         pub probe-again : f ≡ Nothing → (at′ : ℕ) → NextIs at n at′ → probeFrom book index name n at′ (left - 1) ≡ probeOf book index name
-        unfolding orElse
+        unfolding firstFound
         probe-again e at′ p = sym (tried ∙ rw (e, p .is))
 
 -- ---- a hint

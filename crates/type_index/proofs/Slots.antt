@@ -11,7 +11,7 @@ use borrow.Author.Tests.{lt-ltb, le-ltb}
 use Rattle.type_marks.specs.Marks.{hashOf}
 use Rattle.type_book.specs.Book.{blocks}
 use Rattle.type_provider.specs.Find.{searched}
-use Rattle.type_index.specs.Index.{slotsOf, placeOf, nextOf}
+use Rattle.type_index.specs.Index.{slotsOf, slotFor, nextOf}
 use Rattle.type_index.specs.Parts.{HintsAt, PlaceIs, NextIs}
 
 -- ---- the slots and the hints after them
@@ -46,21 +46,21 @@ module _ (h n : ℕ) (small : h < 4294967296) (some : 0 < n) where
 
 module _ (name : List ℕ) (h : ℕ) (eh : h ≡ hashOf name) (small : h < 4294967296) (n : ℕ) where
   pub place-long : 4294967295 < n → PlaceIs name n (h * 4294967295 / 4294967296)
-  unfolding placeOf
+  unfolding slotFor
   place-long l =
       let m : min n 4294967295 ≡ 4294967295 = omega arith in
       let b : h * 4294967295 / 4294967296 < 4294967295 = slot-below h 4294967295 small (omega arith) in
       record { is = rw (m, eh); below = omega arith }
 
   pub place-short : n ≤ 4294967295 → 0 < n → PlaceIs name n (h * n / 4294967296)
-  unfolding placeOf
+  unfolding slotFor
   place-short l z =
       let m : min n 4294967295 ≡ n = omega arith in
       record { is = rw (m, eh); below = slot-below h n small z }
 
 -- no slots: the place is 0
-pub place-none : (name : List ℕ) → placeOf name 0 ≡ 0
-unfolding placeOf
+pub place-none : (name : List ℕ) → slotFor name 0 ≡ 0
+unfolding slotFor
 place-none name = let m : min 0 4294967295 ≡ 0 = omega arith in rw m (omega arith)
 
 -- ---- the slot after another

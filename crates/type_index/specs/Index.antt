@@ -24,8 +24,8 @@ unfoldable pub slotsOf : List ℕ → ℕ → ℕ
 slotsOf book len = cond (ltb (len / 3) (searched book)) len (len - searched book)
 
 -- the name's place among n slots: its hash of 32 bits in the proportion of n to 2^32
-unfoldable pub placeOf : List ℕ → ℕ → ℕ
-placeOf name n = hashOf name * min n 4294967295 / 4294967296
+unfoldable pub slotFor : List ℕ → ℕ → ℕ
+slotFor name n = hashOf name * min n 4294967295 / 4294967296
 
 -- the slot after another: the last of n is followed by the first
 unfoldable pub nextOf : ℕ → ℕ → ℕ
@@ -37,9 +37,9 @@ ledTo book name zero = Nothing
 ledTo book name (suc n) = cond (ltb n (searched book) && isNamed book name n) (At n) Nothing
 
 -- the first that is found
-unfoldable pub orElse : Found → Found → Found
-orElse (At n) f = At n
-orElse Nothing f = f
+unfoldable pub firstFound : Found → Found → Found
+firstFound (At n) f = At n
+firstFound Nothing f = f
 
 -- ---- the look-up
 
@@ -47,11 +47,11 @@ orElse Nothing f = f
 unfoldable pub probeFrom : List ℕ → List ℕ → List ℕ → ℕ → ℕ → ℕ → Found
 probeFrom book index name n at zero = Nothing
 probeFrom book index name n at (suc k) =
-    cond (eqb (getD index at 0) 0) Nothing (orElse (ledTo book name (getD index at 0)) (probeFrom book index name n (nextOf n at) k))
+    cond (eqb (getD index at 0) 0) Nothing (firstFound (ledTo book name (getD index at 0)) (probeFrom book index name n (nextOf n at) k))
 
 -- the type block of that name to which the index leads: 64 slots from the name's place on are tried
 unfoldable pub probeOf : List ℕ → List ℕ → List ℕ → Found
-probeOf book index name = probeFrom book index name (slotsOf book (length index)) (placeOf name (slotsOf book (length index))) 64
+probeOf book index name = probeFrom book index name (slotsOf book (length index)) (slotFor name (slotsOf book (length index))) 64
 
 -- what the look-up by an index answers, whatever the index holds
 pub record FoundBy (book name : List ℕ) (r : Found) : Type 0 where
@@ -68,7 +68,7 @@ freeFrom index n at (suc k) = cond (eqb (getD index at 0) 0) at (freeFrom index 
 
 -- the first empty slot of the 64 from the name's place on, or the index's length
 unfoldable pub freeOf : List ℕ → List ℕ → List ℕ → ℕ
-freeOf book index name = freeFrom index (slotsOf book (length index)) (placeOf name (slotsOf book (length index))) 64
+freeOf book index name = freeFrom index (slotsOf book (length index)) (slotFor name (slotsOf book (length index))) 64
 
 -- the index with block n in it, if it is a type block; one for which no slot is free is left out
 unfoldable pub entered : List ℕ → List ℕ → ℕ → List ℕ

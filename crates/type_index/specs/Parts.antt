@@ -5,7 +5,7 @@ use Prim.Native.Nat.{ℕ, _+_, _≤_, _<_}
 use Rattle.type_provider.specs.Find.{NamedBlock}
 use Rattle.type_provider.specs.declared.Found.{Found}
 use Rattle.type_provider.specs.declared.Found.the-variants.{At}
-use Rattle.type_index.specs.Index.{slotsOf, placeOf, nextOf}
+use Rattle.type_index.specs.Index.{slotsOf, slotFor, nextOf}
 
 -- the hints begin after the slots, within an index of len numbers, and are no more than a book has blocks
 pub record HintsAt (book : List ℕ) (len r : ℕ) : Type 0 where
@@ -16,7 +16,7 @@ pub record HintsAt (book : List ℕ) (len r : ℕ) : Type 0 where
 
 -- the name's place, which is one of the n slots
 pub record PlaceIs (name : List ℕ) (n r : ℕ) : Type 0 where
-  pub is : r ≡ placeOf name n
+  pub is : r ≡ slotFor name n
   pub below : r < n
 
 -- the slot after slot `at`, which is one of the n slots too

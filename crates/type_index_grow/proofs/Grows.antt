@@ -20,7 +20,7 @@ use Rattle.type_book_check.proofs.Valid.{valid-size, valid-below}
 use Rattle.type_book_check.proofs.Append.{append-blocks}
 use Rattle.type_cache.proofs.Definitions.{same-type}
 use Rattle.type_cache.proofs.Joins.{OneType, named-old, join-name, join-kept, join-types, join-valid, find-new}
-use Rattle.type_index.specs.Index.{slotsOf, placeOf, probeFrom, probeOf, freeFrom, freeOf}
+use Rattle.type_index.specs.Index.{slotsOf, slotFor, probeFrom, probeOf, freeFrom, freeOf}
 use Rattle.type_index.specs.Trust.{leads, leadsFrom, holdsAll}
 use Rattle.type_index_grow.specs.Grow.{takes, withLast}
 use Rattle.type_index_grow.proofs.Kept.{free-empty, led-found, probe-kept, probe-new}

@@ -13,7 +13,7 @@ use Rattle.type_provider.specs.declared.Found.the-variants.{At, Nothing}
 use Rattle.type_provider.specs.Find.{searched, NamedBlock, isFound}
 use Rattle.type_book.specs.Book.{isNamed}
 use Rattle.type_block_form.proofs.Bytes.{and-left, and-right}
-use Rattle.type_index.specs.Index.{nextOf, ledTo, orElse, probeFrom, freeFrom}
+use Rattle.type_index.specs.Index.{nextOf, ledTo, firstFound, probeFrom, freeFrom}
 
 -- the slot that is given out is empty
 pub free-empty : (index : List ℕ) (n k at : ℕ) → freeFrom index n at k < length index → getD index (freeFrom index n at k) 0 ≡ 0
@@ -32,19 +32,19 @@ module _ (index : List ℕ) (f : ℕ) (free : getD index f 0 ≡ 0) (x : ℕ) wh
   pub slot-kept : (at : ℕ) → (getD index at 0 ≡ 0 → ⊥) → getD (set index f x) at 0 ≡ getD index at 0
   slot-kept at ne = getD-set-other index f at x 0 (λ e. ne (rw e free))
 
-or-found : (a b : Found) → isFound b ≡ true → isFound (orElse a b) ≡ true
-unfolding orElse
+or-found : (a b : Found) → isFound b ≡ true → isFound (firstFound a b) ≡ true
+unfolding firstFound
 or-found (At n) b h = refl
 or-found Nothing b h = h
 
-or-here : (a b : Found) → isFound a ≡ true → isFound (orElse a b) ≡ true
-unfolding orElse
+or-here : (a b : Found) → isFound a ≡ true → isFound (firstFound a b) ≡ true
+unfolding firstFound
 or-here (At m) b h = refl
 or-here Nothing b h = absurd (let z : _≡_ {A = ℕ} 0 1 = cc in omega arith)
 
 or-both : (a b : Found) → (isFound a ≡ true → isFound b ≡ true) → (p q : Found) → (isFound p ≡ true → isFound q ≡ true)
-    → isFound (orElse a p) ≡ true → isFound (orElse b q) ≡ true
-unfolding orElse
+    → isFound (firstFound a p) ≡ true → isFound (firstFound b q) ≡ true
+unfolding firstFound
 or-both (At m) b i p q j h = or-here b q (i refl)
 or-both Nothing b i p q j h = or-found b q (j h)
 
@@ -82,8 +82,8 @@ module _ (old new name : List ℕ) (kept : (m : ℕ) → NamedBlock old name m �
       where
         by : (g : Bool) → eqb (getD index at 0) 0 ≡ g
             → (isFound (probeFrom old index name n (nextOf n at) k) ≡ true → isFound (probeFrom new index′ name n (nextOf n at) k) ≡ true)
-            → isFound (cond g Nothing (orElse (ledTo old name (getD index at 0)) (probeFrom old index name n (nextOf n at) k))) ≡ true
-            → isFound (cond (eqb (getD index′ at 0) 0) Nothing (orElse (ledTo new name (getD index′ at 0)) (probeFrom new index′ name n (nextOf n at) k))) ≡ true
+            → isFound (cond g Nothing (firstFound (ledTo old name (getD index at 0)) (probeFrom old index name n (nextOf n at) k))) ≡ true
+            → isFound (cond (eqb (getD index′ at 0) 0) Nothing (firstFound (ledTo new name (getD index′ at 0)) (probeFrom new index′ name n (nextOf n at) k))) ≡ true
         by true e ih q = absurd (let z : _≡_ {A = ℕ} 0 1 = cc in omega arith)
         by false e ih q =
             rw (slot-kept index f free x at (eqb-false _ _ e), e)
@@ -102,7 +102,7 @@ module _ (book name index : List ℕ) (f : ℕ) (x : ℕ) (some : x ≡ 0 → �
       by : (g : Bool) → eqb (getD index at 0) 0 ≡ g
           → (freeFrom index n (nextOf n at) k ≡ f → isFound (probeFrom book index″ name n (nextOf n at) k) ≡ true)
           → cond g at (freeFrom index n (nextOf n at) k) ≡ f
-          → isFound (cond (eqb (getD index″ at 0) 0) Nothing (orElse (ledTo book name (getD index″ at 0)) (probeFrom book index″ name n (nextOf n at) k))) ≡ true
+          → isFound (cond (eqb (getD index″ at 0) 0) Nothing (firstFound (ledTo book name (getD index″ at 0)) (probeFrom book index″ name n (nextOf n at) k))) ≡ true
       by true g ih q =
           let s : getD index″ at 0 ≡ x = rw q (getD-set-same index f x 0 l) in
           rw (s, ne-eqb x 0 some) (or-here (ledTo book name x) _ led)

@@ -13,7 +13,7 @@ use Rattle.type_provider.specs.Find.{searched}
 use Rattle.type_index.specs.declared.Trust.{Trust}
 use Rattle.type_index.specs.declared.Trust.the-variants as trust
 use Rattle.type_index.specs.Index.{freeOf, entered, enteredFrom, namesIndex}
-use Rattle.type_index_held.specs.Held.{findsSlot, fitFrom, allFit, EnteredIs, FilledIs}
+use Rattle.type_index_held.specs.Held.{findsSlot, fitFrom, allFit, HeldNext, FilledIs}
 
 and-assoc : (a b c : Bool) → (a && b) && c ≡ a && (b && c)
 and-assoc true b c = refl
@@ -21,7 +21,7 @@ and-assoc false b c = refl
 
 -- ---- one block more
 module _ (book index : List ℕ) (n : ℕ) (all : Bool) (t : Bool) (et : t ≡ isType book n) where
-  pub enters-other : not t ≡ true → EnteredIs book index n all all index
+  pub enters-other : not t ≡ true → HeldNext book index n all all index
   unfolding findsSlot entered
   enters-other h =
       let f : isType book n ≡ false = sym et ∙ not-true t h in
@@ -34,11 +34,11 @@ module _ (book index : List ℕ) (n : ℕ) (all : Bool) (t : Bool) (et : t ≡ i
     place : freeOf book index (nameOf book n) ≡ at
     place = sym (rw (← en) ea)
 
-    pub enters-not : length index ≤ at → EnteredIs book index n all false index
+    pub enters-not : length index ≤ at → HeldNext book index n all false index
     unfolding findsSlot entered
     enters-not l = record { answer = sym (rw (kind, place, le-ltb at (length index) l) (and-false all)); numbers = sym (rw (kind, place) (set-out index at (n + 1) l)) }
 
-    pub enters-in : at < length index → EnteredIs book index n all all (set index at (n + 1))
+    pub enters-in : at < length index → HeldNext book index n all all (set index at (n + 1))
     unfolding findsSlot entered
     enters-in l = record { answer = sym (rw (kind, place, lt-ltb at (length index) l) (and-true all)); numbers = sym (rw (kind, place)) }
 
@@ -81,7 +81,7 @@ module _ (book before start : List ℕ) (es : start ≡ replicate (length before
     fill-some h = record { answer = sym (rw (← told, h)); numbers = numbers }
 
 module _ (book : List ℕ) (len n i : ℕ) (index : List ℕ) (all : Bool) (inv : Filling book len n i index all) where
-  pub filling-again : i < n → (r : Bool) (index′ : List ℕ) → EnteredIs book index i all r index′ → Filling book len n (i + 1) index′ r
+  pub filling-again : i < n → (r : Bool) (index′ : List ℕ) → HeldNext book index i all r index′ → Filling book len n (i + 1) index′ r
   unfolding enteredFrom fitFrom
   filling-again l r index′ e =
       let q : n - i ≡ suc (n - (i + 1)) = omega arith in

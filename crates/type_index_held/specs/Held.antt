@@ -25,7 +25,7 @@ unfoldable pub allFit : List ℕ → ℕ → Bool
 allFit book len = fitFrom book (replicate len 0) 0 (searched book)
 
 -- block n is entered, and what is said of those before it holds of all up to it, or does not
-pub record EnteredIs (book index : List ℕ) (n : ℕ) (all r : Bool) (index′ : List ℕ) : Type 0 where
+pub record HeldNext (book index : List ℕ) (n : ℕ) (all r : Bool) (index′ : List ℕ) : Type 0 where
   pub answer : r ≡ all && findsSlot book index n
   pub numbers : index′ ≡ entered book index n
 

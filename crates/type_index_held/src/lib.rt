@@ -3,7 +3,7 @@
 ghost use Prim.Native.Nat.{_<_};
 ghost use lib.ListN.{length};
 ghost use Rattle.type_provider.specs.Find.{searched as searchedOf};
-ghost use Rattle.type_index_held.specs.Held.{EnteredIs, FilledIs};
+ghost use Rattle.type_index_held.specs.Held.{HeldNext, FilledIs};
 use enc_zeros::clear_numbers;
 use type_book::block;
 use type_index::Trust;
@@ -13,7 +13,7 @@ use type_provider::searched;
 // Puts block n into the index, if it is a type block, and says whether all those before it and this one found a slot.
 fn enter_next(book: &[u8], index: &mut [u32], n: u32, all: bool) -> bool
     requires { ⌜ n < searchedOf (now book) ⌝ }
-    ensures { λ r. ⌜ EnteredIs (now (book .entry)) (now (index .entry)) n all r (now (index .exit)) ⌝ }
+    ensures { λ r. ⌜ HeldNext (now (book .entry)) (now (index .entry)) n all r (now (index .exit)) ⌝ }
 {
     if !block::is_type(book, n) {
         return all;

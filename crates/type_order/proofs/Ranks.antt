@@ -12,7 +12,7 @@ use borrow.Author.Tests.{ltb-true, ltb-false, eqb-true, not-true, not-false}
 use Rattle.type_book.specs.Book.{blocks, isType, nameOf, isNamed}
 use Rattle.type_provider.proofs.Finds.{named-kind, named-name}
 use Rattle.type_order.specs.declared.Order.the-variants.{Distinct, Doubled, Unknown}
-use Rattle.type_order.specs.Names.{Apart, Twice, Decided, Less, LessAt}
+use Rattle.type_order.specs.Names.{Apart, Twice, OrderDecided, Less, LessAt}
 use Rattle.type_order.specs.Ranks.{numberAt, RisesTo, Listed, RankIs, RankedTo, RankedIs}
 use Rattle.type_order.proofs.Names.{less-other, less-trans}
 
@@ -99,10 +99,10 @@ module _ (book order : List ℕ) (n r : ℕ) (l : n ≤ r) (rise : RisesTo book 
   are-apart : Apart book
   are-apart = record { all = λ a b g h u v e. apart a b g (listed .all a (omega arith) u) (listed .all b h v) e }
 
-pub decided-apart : (book order : List ℕ) (n r : ℕ) → RisesTo book order r → n ≤ r → (t : Bool) → RankedIs book order n t → t ≡ true → Decided book Distinct
+pub decided-apart : (book order : List ℕ) (n r : ℕ) → RisesTo book order r → n ≤ r → (t : Bool) → RankedIs book order n t → t ≡ true → OrderDecided book Distinct
 decided-apart book order n r rise l t e h = record { holds = are-apart book order n r l rise (e .is h) }
 
-pub decided-twice : (book name : List ℕ) (b : ℕ) (u : Bool) → u ≡ isNamed book name b → u ≡ true → (a : ℕ) → name ≡ nameOf book a → (t : Bool) → t ≡ isType book a → not t ≡ false → a < b → (k : ℕ) → k ≡ blocks book → b < k → Decided book Doubled
+pub decided-twice : (book name : List ℕ) (b : ℕ) (u : Bool) → u ≡ isNamed book name b → u ≡ true → (a : ℕ) → name ≡ nameOf book a → (t : Bool) → t ≡ isType book a → not t ≡ false → a < b → (k : ℕ) → k ≡ blocks book → b < k → OrderDecided book Doubled
 decided-twice book name b u eu hu a en t et ht l k ek g =
     let is : isNamed book name b ≡ true = sym eu ∙ hu in
     record {
@@ -117,5 +117,5 @@ decided-twice book name b u eu hu a en t et ht l k ek g =
       };
     }
 
-pub decided-nothing : (book : List ℕ) → Decided book Unknown
+pub decided-nothing : (book : List ℕ) → OrderDecided book Unknown
 decided-nothing book = record { holds = tt }

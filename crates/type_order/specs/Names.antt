@@ -32,7 +32,7 @@ decidedBy book Doubled = Twice book
 decidedBy book Unknown = Unit {0}
 
 -- what a decision says holds
-pub record Decided (book : List ℕ) (r : Order) : Type 0 where
+pub record OrderDecided (book : List ℕ) (r : Order) : Type 0 where
   pub holds : decidedBy book r
 
 -- ---- the order

@@ -3,7 +3,7 @@
 ghost use mathlib.Core.Path.{_≡_};
 ghost use Prim.Native.Nat.{_≤_, _<_};
 ghost use Rattle.type_book.specs.Book.{blocks as blocksOf};
-ghost use Rattle.type_order.specs.Names.{wordAt, LessIs, LessAt, Decided};
+ghost use Rattle.type_order.specs.Names.{wordAt, LessIs, LessAt, OrderDecided};
 ghost use Rattle.type_order.specs.Ranks.{numberAt, RisesTo, RankIs, RankedIs};
 use enc_number::le::le_value;
 use type_book::block;
@@ -263,7 +263,7 @@ fn all_ranked(book: &[u8], order: &[u32], ranks: &[u32], n: usize) -> bool
 
 // Why two neighbours do not rise: they have one name, or the sorting left them so.
 fn not_rising(book: &[u8], a: u32, b: u32) -> Order
-    ensures { λ r. ⌜ Decided (now (book .entry)) r ⌝ }
+    ensures { λ r. ⌜ OrderDecided (now (book .entry)) r ⌝ }
 {
     if a >= b {
         return Order::Unknown;
@@ -282,7 +282,7 @@ fn not_rising(book: &[u8], a: u32, b: u32) -> Order
 
 fn decide_in(book: &[u8], order: &mut [u32], other: &mut [u32]) -> Order
     requires { ⌜ blocksOf (now book) ≤ 65536 ⌝ }
-    ensures { λ r. ⌜ Decided (now (book .entry)) r ⌝ }
+    ensures { λ r. ⌜ OrderDecided (now (book .entry)) r ⌝ }
 {
     let n = list_types(book, order);
     sort(book, order, other, n);
@@ -301,7 +301,7 @@ fn decide_in(book: &[u8], order: &mut [u32], other: &mut [u32]) -> Order
 // may find neither. It takes as many again on the stack, 128 KiB.
 pub fn decide(book: &[u8], lent: &mut [u32]) -> Order
     requires { ⌜ blocksOf (now book) ≤ 65536 ⌝ }
-    ensures { λ r. ⌜ Decided (now (book .entry)) r ⌝ }
+    ensures { λ r. ⌜ OrderDecided (now (book .entry)) r ⌝ }
 {
     let mut other = [0u32; MOST];
     decide_in(book, lent, &mut other)

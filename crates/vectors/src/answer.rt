@@ -3,7 +3,7 @@
 use cases_file::input::first;
 
 // At most two numbers, each in as many bytes as its length says, low byte first.
-pub struct Reply {
+pub struct Answered {
     pub head: u64,
     pub head_len: usize,
     pub value: u64,
@@ -11,8 +11,8 @@ pub struct Reply {
 }
 
 // A number alone, of no bytes where there is nothing to say.
-pub(crate) fn number(value: u64, len: usize) -> Reply {
-    Reply {
+pub(crate) fn number(value: u64, len: usize) -> Answered {
+    Answered {
         head: 0,
         head_len: 0,
         value,
@@ -21,13 +21,13 @@ pub(crate) fn number(value: u64, len: usize) -> Reply {
 }
 
 // A byte alone.
-pub(crate) fn byte(head: u8) -> Reply {
+pub(crate) fn byte(head: u8) -> Answered {
     number(head as u64, 1)
 }
 
 // A byte, and a number after it.
-pub(crate) fn byte_and(head: u8, value: u64, len: usize) -> Reply {
-    Reply {
+pub(crate) fn byte_and(head: u8, value: u64, len: usize) -> Answered {
+    Answered {
         head: head as u64,
         head_len: 1,
         value,
@@ -36,12 +36,12 @@ pub(crate) fn byte_and(head: u8, value: u64, len: usize) -> Reply {
 }
 
 // Document 01's 7, with the block whose type name is not in the book.
-pub(crate) fn not_found(block: u32) -> Reply {
+pub(crate) fn not_found(block: u32) -> Answered {
     byte_and(7, block as u64, 4)
 }
 
 // Puts the numbers at the start of the answer.
-pub(crate) fn put(answer: &mut [u8], reply: Reply) -> usize {
+pub(crate) fn put(answer: &mut [u8], reply: Answered) -> usize {
     let at = put_number(answer, 0, reply.head, reply.head_len);
     put_number(answer, at, reply.value, reply.value_len)
 }

@@ -1,6 +1,6 @@
 // The operations on a type book that answer with a number, by their numbers. The book is kept in a buffer from case to case:
 // `len` is its length there.
-use crate::answer::Reply;
+use crate::answer::Answered;
 use crate::answer::byte;
 use crate::answer::byte_and;
 use crate::answer::not_found;
@@ -19,7 +19,7 @@ use resolvers::Resolution;
 use type_book_check::RootCheck;
 use type_category::type_category::AdsTypeCategory;
 
-pub(crate) fn run(operation: u8, input: &[u8], book: &mut [u8], len: usize) -> Reply {
+pub(crate) fn run(operation: u8, input: &[u8], book: &mut [u8], len: usize) -> Answered {
     match operation {
         64 => keep(input, book),
         65 => byte(refusal_of_root(type_book_check::check_root(book, len, u64_at(input, 0)))),
@@ -45,7 +45,7 @@ pub(crate) fn run(operation: u8, input: &[u8], book: &mut [u8], len: usize) -> R
 }
 
 // Puts packed bytes at a place of the kept book, which ends after them.
-fn keep(input: &[u8], book: &mut [u8]) -> Reply {
+fn keep(input: &[u8], book: &mut [u8]) -> Answered {
     let n = unpack(from(input, 4), book, u32_at(input, 0) as usize);
     number(n as u64, 4)
 }
@@ -83,7 +83,7 @@ fn category(input: &[u8], book: &[u8]) -> AdsTypeCategory {
     AdsTypeCategory::determine(book, byte_at(input, 0), u32_at(input, 1))
 }
 
-fn resolution(resolution: Resolution) -> Reply {
+fn resolution(resolution: Resolution) -> Answered {
     match resolution {
         Resolution::Block(block) => byte_and(0, block as u64, 4),
         Resolution::NotFound(block) => not_found(block),

@@ -1,6 +1,6 @@
 // The operations of the crates `enc_utf_8`, `enc_windows_1252` and `enc_utf_16`, by their numbers. Each takes a case's input and a lent buffer
 // `out`, which stands in the answer after the reply.
-use crate::answer::Reply;
+use crate::answer::Answered;
 use crate::answer::byte;
 use crate::answer::byte_and;
 use crate::answer::number;
@@ -18,35 +18,35 @@ use enc_windows_1252::Byte;
 // Document 01's number where a buffer is too short.
 const SHORT: u8 = 15;
 
-fn written(put: Put) -> Reply {
+fn written(put: Put) -> Answered {
     match put {
         Put::Next(n) => byte_and(0, n as u64, 8),
         Put::Full => byte(SHORT),
     }
 }
 
-fn room(room: Room) -> Reply {
+fn room(room: Room) -> Answered {
     match room {
         Room::Fits(n) => byte_and(0, n as u64, 8),
         Room::Over => byte(SHORT),
     }
 }
 
-fn end(end: TextEnd) -> Reply {
+fn end(end: TextEnd) -> Answered {
     match end {
         TextEnd::Terminated(n) => byte_and(1, n as u64, 4),
         TextEnd::Unterminated(n) => byte_and(0, n as u64, 4),
     }
 }
 
-fn encoded(found: Byte) -> Reply {
+fn encoded(found: Byte) -> Answered {
     match found {
         Byte::Is(b) => byte_and(1, b as u64, 1),
         Byte::None => byte(0),
     }
 }
 
-pub(crate) fn run_windows_1252(operation: u8, input: &[u8], out: &mut [u8]) -> Reply {
+pub(crate) fn run_windows_1252(operation: u8, input: &[u8], out: &mut [u8]) -> Answered {
     match operation {
         1 => number(enc_windows_1252::code_point(byte_at(input, 0)) as u64, 4),
         2 => encoded(enc_windows_1252::byte_of(u32_at(input, 0))),
@@ -59,7 +59,7 @@ pub(crate) fn run_windows_1252(operation: u8, input: &[u8], out: &mut [u8]) -> R
     }
 }
 
-pub(crate) fn run_utf_16(operation: u8, input: &[u8], out: &mut [u8]) -> Reply {
+pub(crate) fn run_utf_16(operation: u8, input: &[u8], out: &mut [u8]) -> Answered {
     match operation {
         8 => end(enc_utf_16::wstring_end(input)),
         9 => room(enc_utf_16_decoder::decoded_len(from(input, 2), u16_at(input, 0))),
@@ -70,7 +70,7 @@ pub(crate) fn run_utf_16(operation: u8, input: &[u8], out: &mut [u8]) -> Reply {
     }
 }
 
-pub(crate) fn run_utf_8(operation: u8, input: &[u8], out: &mut [u8]) -> Reply {
+pub(crate) fn run_utf_8(operation: u8, input: &[u8], out: &mut [u8]) -> Answered {
     match operation {
         13 => byte(enc_utf_8_decoder::well_formed(input) as u8),
         15 => written(enc_utf_8_encoder::put(out, u16_at(input, 0), u32_at(input, 2))),

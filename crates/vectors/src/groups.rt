@@ -1,6 +1,6 @@
 // The groups of byte strings whose texts in UTF-8 are recorded as one sum each: made, decoded or read, and summed.
 // tools/record_marked_strings.py makes the same groups, and says what a group's sum is.
-use crate::answer::Reply;
+use crate::answer::Answered;
 use crate::answer::number;
 use crate::answer::put_byte;
 use cases_file::input::byte_at;
@@ -21,7 +21,7 @@ const START: u64 = 0xcbf2_9ce4_8422_2325;
 const HALF: u64 = 0x1_0000_0000;
 
 // The decoder over a group, or the reader over the same group and the kept book.
-pub(crate) fn run(operation: u8, input: &[u8], book: &[u8]) -> Reply {
+pub(crate) fn run(operation: u8, input: &[u8], book: &[u8]) -> Answered {
     match operation {
         17 => number(pairs(byte_at(input, 0), first(book, 0)), 8),
         18 => number(leads(byte_at(input, 0), first(book, 0)), 8),

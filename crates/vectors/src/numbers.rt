@@ -1,6 +1,6 @@
 // The operations of the crates `enc_number`, `type_id`, `enc_integer` and `enc_float`, by their numbers. Each takes a case's input and a lent
 // buffer `out`, which stands in the answer after the reply.
-use crate::answer::Reply;
+use crate::answer::Answered;
 use crate::answer::byte;
 use crate::answer::byte_and;
 use crate::answer::number;
@@ -34,7 +34,7 @@ const SINGLE: u8 = 9;
 
 const DOUBLE: u8 = 10;
 
-pub(crate) fn run(operation: u8, input: &[u8], out: &mut [u8]) -> Reply {
+pub(crate) fn run(operation: u8, input: &[u8], out: &mut [u8]) -> Answered {
     match operation {
         32 => type_id(u32_at(input, 0)),
         33 => number(enc_number::le::le_value(input), 8),
@@ -72,19 +72,19 @@ fn ordinal(id: AdsTypeId) -> u8 {
     }
 }
 
-fn type_id(n: u32) -> Reply {
+fn type_id(n: u32) -> Answered {
     let id = AdsTypeId::from_u32(n);
     byte_and(ordinal(id), id.to_u32() as u64, 4)
 }
 
-fn le_store(input: &[u8], out: &mut [u8]) -> Reply {
+fn le_store(input: &[u8], out: &mut [u8]) -> Answered {
     enc_number::le::le_store(u64_at(input, 0), out);
     number(0, 0)
 }
 
 // Zero, the record's kind, its width and its bits.
-fn value(kind: u8, width: u8, bits: u64) -> Reply {
-    Reply {
+fn value(kind: u8, width: u8, bits: u64) -> Answered {
+    Answered {
         head: 256 * (kind as u64) + 65536 * (width as u64),
         head_len: 3,
         value: bits,
@@ -92,14 +92,14 @@ fn value(kind: u8, width: u8, bits: u64) -> Reply {
     }
 }
 
-fn integer(read: Integer) -> Reply {
+fn integer(read: Integer) -> Answered {
     match read {
         Integer::Signed(width, bits) => value(SIGNED, width, bits),
         Integer::Unsigned(width, bits) => value(UNSIGNED, width, bits),
     }
 }
 
-fn integer_read(input: &[u8]) -> Reply {
+fn integer_read(input: &[u8]) -> Answered {
     let id = AdsTypeId::from_u32(u32_at(input, 0));
     match enc_integer::try_from_le_slice(from(input, 4), id) {
         IntegerRead::Value(read) => integer(read),
@@ -124,7 +124,7 @@ fn refusal_of(write: IntegerWrite) -> u8 {
     }
 }
 
-fn integer_write(input: &[u8], out: &mut [u8]) -> Reply {
+fn integer_write(input: &[u8], out: &mut [u8]) -> Answered {
     let id = AdsTypeId::from_u32(u32_at(input, 0));
     let value = integer_of(byte_at(input, 4), byte_at(input, 5), u64_at(input, 6));
     byte(refusal_of(enc_integer::to_le_slice(value, id, out)))
@@ -139,7 +139,7 @@ fn kind_of(value: Real) -> u8 {
     }
 }
 
-fn real_read(input: &[u8]) -> Reply {
+fn real_read(input: &[u8]) -> Answered {
     let id = AdsTypeId::from_u32(u32_at(input, 0));
     match enc_float::real_from_le_slice(from(input, 4), id) {
         RealRead::Value(read) => value(kind_of(read), 0, read.bits()),
@@ -155,7 +155,7 @@ fn refusal_of_real(write: RealWrite) -> u8 {
     }
 }
 
-fn real_write(input: &[u8], out: &mut [u8]) -> Reply {
+fn real_write(input: &[u8], out: &mut [u8]) -> Answered {
     let value = enc_float::real_from_bits(byte_at(input, 0) == DOUBLE, u64_at(input, 1));
     byte(refusal_of_real(enc_float::real_to_le_slice(value, out)))
 }

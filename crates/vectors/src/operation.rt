@@ -1,6 +1,6 @@
 // The operations by their numbers. tools/case_file.py lists them with their inputs and answers.
 use crate::answer;
-use crate::answer::Reply;
+use crate::answer::Answered;
 use crate::answer::put_bytes;
 use crate::books;
 use crate::encodings;
@@ -53,7 +53,7 @@ pub(crate) fn run(
 }
 
 // What an operation says before its lent buffer.
-fn reply_of(operation: u8, input: &[u8], book: &mut [u8], len: usize, out: &mut [u8]) -> Reply {
+fn reply_of(operation: u8, input: &[u8], book: &mut [u8], len: usize, out: &mut [u8]) -> Answered {
     if operation >= KEEP {
         return books::run(operation, input, book, len);
     }

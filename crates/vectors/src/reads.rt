@@ -1,5 +1,5 @@
 // The operation of the crate de, on the book that is kept.
-use crate::answer::Reply;
+use crate::answer::Answered;
 use crate::answer::byte;
 use crate::answer::byte_and;
 use crate::answer::not_found;
@@ -23,7 +23,7 @@ fn bytes_of(n: usize) -> usize {
     0
 }
 
-fn reply_of(read: ReadAnswer) -> Reply {
+fn reply_of(read: ReadAnswer) -> Answered {
     match read {
         ReadAnswer::Done(n, m) => {
             let counts = (n % 65536) as u64 + 4294967296 * ((m % 65536) as u64);

@@ -1,6 +1,6 @@
 // Compares the two forms of resolved fields: records that are structs and records of four numbers.
 ghost use Prim.Native.Nat.{_≤_};
-use resolve_field_records::ResolvedField;
+use resolve_field_records::FieldRecord;
 use resolve_field_records::resolve_fields;
 use resolve_field_types::FieldsAnswer;
 
@@ -10,8 +10,8 @@ const FILL: u32 = 0xa5a5_a5a5;
 // As many records as a recorded case lends.
 const RECORDS: usize = 4096;
 
-fn blank() -> [ResolvedField; 4096] {
-    let filled = ResolvedField {
+fn blank() -> [FieldRecord; 4096] {
+    let filled = FieldRecord {
         offset: FILL,
         size: FILL,
         type_block: FILL,
@@ -38,7 +38,7 @@ fn number_at(numbers: &[u32], n: u32) -> u32 {
 }
 
 // Whether the record has the four numbers of record i.
-fn same_record(record: ResolvedField, numbers: &[u32], i: u16) -> bool {
+fn same_record(record: FieldRecord, numbers: &[u32], i: u16) -> bool {
     let at = 4 * i as u32;
     if record.offset != number_at(numbers, at) {
         return false;
@@ -53,7 +53,7 @@ fn same_record(record: ResolvedField, numbers: &[u32], i: u16) -> bool {
 }
 
 // 1 where the answer has this code and every record these numbers, else 0.
-fn same(answer: FieldsAnswer, records: [ResolvedField; 4096], code: u64, numbers: &[u32]) -> u8
+fn same(answer: FieldsAnswer, records: [FieldRecord; 4096], code: u64, numbers: &[u32]) -> u8
     ensures { λ r. ⌜ r ≤ 1 ⌝ }
 {
     if code_of(answer) != code {

@@ -1,6 +1,6 @@
 // The operations of the crates `resolve_field_types`, `resolve_field_records`, `resolve_read_modify_write` and `resolve_missing_types`, on the
 // book that is kept and with lent numbers.
-use crate::answer::Reply;
+use crate::answer::Answered;
 use crate::answer::byte;
 use crate::answer::byte_and;
 use crate::answer::not_found;
@@ -85,7 +85,7 @@ fn put_scratch(answer: &mut [u8], at: usize, scratch: &[u32]) -> usize {
     put_numbers_are(answer, at, scratch, left)
 }
 
-fn rmw_reply(rmw: Rmw) -> Reply {
+fn rmw_reply(rmw: Rmw) -> Answered {
     match rmw {
         Rmw::Yes => byte_and(0, 1, 1),
         Rmw::No => byte_and(0, 0, 1),
@@ -120,9 +120,9 @@ fn whole_head(whole: bool) -> u64 {
     0
 }
 
-fn missing_reply(missing: Missing) -> Reply {
+fn missing_reply(missing: Missing) -> Answered {
     match missing {
-        Missing::Listed(_, whole, count) => Reply {
+        Missing::Listed(_, whole, count) => Answered {
             head: whole_head(whole),
             head_len: 2,
             value: count as u64,
@@ -174,7 +174,7 @@ fn numbers_of(n: usize) -> usize {
     0
 }
 
-fn fields_reply(fields: FieldsAnswer) -> Reply {
+fn fields_reply(fields: FieldsAnswer) -> Answered {
     match fields {
         FieldsAnswer::Done(_) => byte(0),
         FieldsAnswer::NotFound(block) => not_found(block),

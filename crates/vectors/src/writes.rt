@@ -1,5 +1,5 @@
 // The operation of the crate ser, on the book that is kept.
-use crate::answer::Reply;
+use crate::answer::Answered;
 use crate::answer::byte;
 use crate::answer::not_found;
 use crate::answer::put;
@@ -13,7 +13,7 @@ use cases_file::input::u16_at;
 use cases_file::input::u32_at;
 use ser::WriteAnswer;
 
-fn reply_of(write: WriteAnswer) -> Reply {
+fn reply_of(write: WriteAnswer) -> Answered {
     match write {
         WriteAnswer::Done => byte(0),
         WriteAnswer::NotFound(block) => not_found(block),

@@ -2,7 +2,7 @@ use borrow.Author.Needs.{needs}
 use mathlib.Core.Path.{_≡_, refl}
 use Prim.Native.Nat.{ℕ, _+_, _*_, _-_, _≤_, _<_}
 use lib.ListN.{length}
-use Rattle.de.specs.Walk.{ctx, walk, membersFrom, elementsFrom}
+use Rattle.de.specs.Walk.{ctx, readWalk, membersFrom, elementsFrom}
 use Rattle.tape_array_elements.specs.Element.{elementItem}
 use Rattle.de_output.proofs.Runs.{Rest}
 use Rattle.tape_shape.proofs.Strides.{Along, along-start, along-again, along-end, along-fits, element-fills, next-dimension, fills-first, fills-further}
@@ -452,7 +452,7 @@ array-access·element-returns-3 t c = search element-further
 
 abbrev array-access·elements-Inv-loop : array-access·elements-lts.InvT-loop
 array-access·elements-Inv-loop book index p plan bytes tape₀ text₀ n here₀ stride from₀ i₀ tape text here from i =
-    (i ≤ n) × Along book (p .d) (p .t) (p .element .resolved) n stride from i (length bytes) × (length tape ≡ length tape₀) × (length text ≡ length text₀) × Rest (elementsFrom (walk (ctx book (p .width)) (p .left)) (elementItem book (p .d) (p .t) (p .element)) (strideOf book (p .d) (p .t) (p .element .resolved)) bytes 0 n) tape₀ text₀ here₀ (elementsFrom (walk (ctx book (p .width)) (p .left)) (elementItem book (p .d) (p .t) (p .element)) (strideOf book (p .d) (p .t) (p .element .resolved)) bytes from (n - i)) tape text here
+    (i ≤ n) × Along book (p .d) (p .t) (p .element .resolved) n stride from i (length bytes) × (length tape ≡ length tape₀) × (length text ≡ length text₀) × Rest (elementsFrom (readWalk (ctx book (p .width)) (p .left)) (elementItem book (p .d) (p .t) (p .element)) (strideOf book (p .d) (p .t) (p .element .resolved)) bytes 0 n) tape₀ text₀ here₀ (elementsFrom (readWalk (ctx book (p .width)) (p .left)) (elementItem book (p .d) (p .t) (p .element)) (strideOf book (p .d) (p .t) (p .element .resolved)) bytes from (n - i)) tape text here
 
 abbrev array-access·elements-μ-loop : array-access·elements-lts.MeasureT-loop
 array-access·elements-μ-loop book index p plan bytes tape₀ text₀ n here₀ stride from₀ i₀ tape text here from i =
@@ -739,7 +739,7 @@ map-access·member-returns-2 t c = search member-field
 
 abbrev map-access·members-Inv-loop : map-access·members-lts.InvT-loop
 map-access·members-Inv-loop book index v plan bytes tape₀ text₀ t n here₀ i₀ tape text here i =
-    (i ≤ n) × (length tape ≡ length tape₀) × (length text ≡ length text₀) × Rest (membersFrom (walk (ctx book (v .width)) (v .left)) (ctx book (v .width)) bytes (v .typed .resolved + 1) n) tape₀ text₀ here₀ (membersFrom (walk (ctx book (v .width)) (v .left)) (ctx book (v .width)) bytes (v .typed .resolved + 1 + i) (n - i)) tape text here
+    (i ≤ n) × (length tape ≡ length tape₀) × (length text ≡ length text₀) × Rest (membersFrom (readWalk (ctx book (v .width)) (v .left)) (ctx book (v .width)) bytes (v .typed .resolved + 1) n) tape₀ text₀ here₀ (membersFrom (readWalk (ctx book (v .width)) (v .left)) (ctx book (v .width)) bytes (v .typed .resolved + 1 + i) (n - i)) tape text here
 
 abbrev map-access·members-μ-loop : map-access·members-lts.MeasureT-loop
 map-access·members-μ-loop book index v plan bytes tape₀ text₀ t n here₀ i₀ tape text here i =

@@ -3,14 +3,14 @@ use borrow.Author.Needs.{needs}
 use mathlib.Core.Path.{_≡_, refl}
 use Prim.Native.Nat.{_≤_, _-_}
 use lib.ListN.{length, drop}
-use Rattle.enc_utf_16.specs.WString.{endFrom, wstringEnd}
+use Rattle.enc_utf_16.specs.WString.{end16From, wstringEnd}
 use Rattle.enc_utf_16.proofs.Ends.{end-here, end-again, end-none}
 use Rattle.enc_utf_16.proofs.wstring_end.Statement.{statement}
 use Rattle.enc_utf_16.proofs.wstring_end.Tie as tie
 
 abbrev Inv-loop : tie.InvT-loop
 Inv-loop bytes at₀ at =
-    (at ≤ length bytes) × (wstringEnd bytes ≡ endFrom at (drop at bytes))
+    (at ≤ length bytes) × (wstringEnd bytes ≡ end16From at (drop at bytes))
 
 abbrev μ-loop : tie.MeasureT-loop
 μ-loop bytes at₀ at =

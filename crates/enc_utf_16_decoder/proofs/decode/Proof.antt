@@ -5,7 +5,7 @@ use native.Mathlib.Omega.{arith}
 use lib.ListN.{length}
 use borrow.Author.Tests.{leb-true}
 use Rattle.enc_utf_8.specs.Utf8.{utf8Of}
-use Rattle.enc_utf_16.specs.Decode.{decodeScalars, decodeText}
+use Rattle.enc_utf_16.specs.Decode.{decodeScalars, decode16Text}
 use Rattle.enc_utf_16_scalar.proofs.Decodes.{nothing-left, text-some}
 use Rattle.enc_utf_16.proofs.Runs.{write-none, full-past, full-at}
 use borrow.Author.Needs.{needs}
@@ -28,7 +28,7 @@ write-8-requires : tie.Need-write-8-requires
 write-8-requires c κs =
     let told = c .before .before in
     let entry = told .before .before .before .before .before in
-    let size = length (decodeText (entry .args .bytes .now)) in
+    let size = length (decode16Text (entry .args .bytes .now)) in
     omega (arith, leb-true size (length (entry .args .out .now) - entry .args .at) (sym (told .fits-in .ensures) ∙ c .before .if3 .taken))
 
 same-length : tie.Need-same-length

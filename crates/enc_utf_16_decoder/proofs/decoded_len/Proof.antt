@@ -4,7 +4,7 @@ use Prim.Native.Nat.{_+_, _-_, _≤_}
 use native.Mathlib.Omega.{arith}
 use lib.ListN.{length, drop}
 use Rattle.enc_utf_8.specs.Utf8.{utf8Of}
-use Rattle.enc_utf_16.specs.Decode.{decodeScalars, decodeText}
+use Rattle.enc_utf_16.specs.Decode.{decodeScalars, decode16Text}
 use Rattle.enc_utf_16_scalar.proofs.Decodes.{nothing-left}
 use Rattle.enc_utf_16.proofs.Runs.{size-end}
 use Rattle.enc_utf_16_decoder.proofs.Blocks.{part-again, part-over}
@@ -14,7 +14,7 @@ use Rattle.enc_utf_16_decoder.proofs.decoded_len.Tie as tie
 
 abbrev Inv-loop : tie.InvT-loop
 Inv-loop bytes room at₀ used₀ at used =
-    (at ≤ length bytes) × (used ≤ room) × (used + length (decodeText (drop at bytes)) ≡ length (decodeText bytes))
+    (at ≤ length bytes) × (used ≤ room) × (used + length (decode16Text (drop at bytes)) ≡ length (decode16Text bytes))
 
 abbrev μ-loop : tie.MeasureT-loop
 μ-loop bytes room at₀ used₀ at used =

@@ -3,7 +3,7 @@ use mathlib.Core.Path.{_≡_}
 use Prim.Native.Nat.{_+_, _*_, _-_, _≤_}
 use native.Mathlib.Omega.{arith}
 use lib.ListN.{length, drop}
-use Rattle.enc_utf_16.specs.Decode.{decodeText}
+use Rattle.enc_utf_16.specs.Decode.{decode16Text}
 use Rattle.enc_utf_16_decoder.proofs.Blocks.{units-more, units-measured}
 use borrow.Author.Needs.{needs}
 use Rattle.enc_utf_16_decoder.proofs.measure_units.Statement.{statement}
@@ -11,7 +11,7 @@ use Rattle.enc_utf_16_decoder.proofs.measure_units.Tie as tie
 
 abbrev Inv-loop : tie.InvT-loop
 Inv-loop bytes at end size₀ next₀ size next =
-    (at ≤ next) × (next ≤ length bytes) × (size ≤ 4 * (next - at)) × (length (decodeText (drop at bytes)) ≡ size + length (decodeText (drop next bytes)))
+    (at ≤ next) × (next ≤ length bytes) × (size ≤ 4 * (next - at)) × (length (decode16Text (drop at bytes)) ≡ size + length (decode16Text (drop next bytes)))
 
 abbrev μ-loop : tie.MeasureT-loop
 μ-loop bytes at end size₀ next₀ size next =

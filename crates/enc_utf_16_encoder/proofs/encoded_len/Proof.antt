@@ -5,7 +5,7 @@ use Prim.Native.Nat.{_+_, _-_, _≤_}
 use native.Mathlib.Omega.{arith}
 use lib.ListN.{length, drop}
 use Rattle.enc_utf_8.specs.Utf8.{scalars}
-use Rattle.enc_utf_16.specs.Encode.{utf16Of, encodeText}
+use Rattle.enc_utf_16.specs.Encode.{utf16Of, encode16Text}
 use Rattle.enc_utf_16_encoder.proofs.Scalars.{no-scalars}
 use Rattle.enc_utf_16.proofs.Runs.{size-again, size-over, size-end}
 use Rattle.enc_utf_16_encoder.proofs.encoded_len.Statement.{statement}
@@ -13,7 +13,7 @@ use Rattle.enc_utf_16_encoder.proofs.encoded_len.Tie as tie
 
 abbrev Inv-loop : tie.InvT-loop
 Inv-loop text room at₀ used₀ at used =
-    (at ≤ length text) × (used ≤ room) × (used + length (encodeText (drop at text)) ≡ length (encodeText text))
+    (at ≤ length text) × (used ≤ room) × (used + length (encode16Text (drop at text)) ≡ length (encode16Text text))
 
 abbrev μ-loop : tie.MeasureT-loop
 μ-loop text room at₀ used₀ at used =

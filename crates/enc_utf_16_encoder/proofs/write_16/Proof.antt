@@ -4,7 +4,7 @@ use Prim.Native.Nat.{_-_, _≤_}
 use native.Mathlib.Omega.{arith}
 use lib.ListN.{length, drop}
 use Rattle.enc_utf_8.specs.Utf8.{scalars}
-use Rattle.enc_utf_16.specs.Encode.{utf16Of, encodeText}
+use Rattle.enc_utf_16.specs.Encode.{utf16Of, encode16Text}
 use Rattle.enc_utf_16_encoder.proofs.Scalars.{no-scalars}
 use Rattle.enc_utf_16.specs.Step.{LeftToWrite}
 use Rattle.enc_utf_16.proofs.Runs.{left-all, write-again, write-never, write-end}
@@ -13,7 +13,7 @@ use Rattle.enc_utf_16_encoder.proofs.write_16.Tie as tie
 
 abbrev Inv-loop : tie.InvT-loop
 Inv-loop text out₀ from₀ to₀ out from to =
-    (from ≤ length text) × LeftToWrite (encodeText text) out₀ 0 (encodeText (drop from text)) out to
+    (from ≤ length text) × LeftToWrite (encode16Text text) out₀ 0 (encode16Text (drop from text)) out to
 
 abbrev μ-loop : tie.MeasureT-loop
 μ-loop text out₀ from₀ to₀ out from to =

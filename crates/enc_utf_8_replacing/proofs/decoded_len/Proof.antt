@@ -2,7 +2,7 @@ use borrow.Author.Needs.{needs}
 use mathlib.Core.Path.{_≡_}
 use Prim.Native.Nat.{_+_, _≤_, _-_}
 use lib.ListN.{length, drop}
-use Rattle.enc_utf_8_replacing.specs.Text.{decodeText}
+use Rattle.enc_utf_8_replacing.specs.Text.{decode8Text}
 use Rattle.enc_utf_8_replacing.proofs.Decoders.{length-again, length-over, length-fits}
 use Rattle.enc_utf_8_replacing.proofs.decoded_len.Statement.{statement}
 use Rattle.enc_utf_8_replacing.proofs.decoded_len.Tie as tie
@@ -12,7 +12,7 @@ use Rattle.enc_utf_8_replacing.proofs.measure.Reads as measure-reads
 
 abbrev Inv-loop : tie.InvT-loop
 Inv-loop bytes room used₀ at₀ used at =
-    (at ≤ length bytes) × (used ≤ room) × (used + length (decodeText (drop at bytes)) ≡ length (decodeText bytes))
+    (at ≤ length bytes) × (used ≤ room) × (used + length (decode8Text (drop at bytes)) ≡ length (decode8Text bytes))
 
 abbrev μ-loop : tie.MeasureT-loop
 μ-loop bytes room used₀ at₀ used at =

@@ -3,7 +3,7 @@ use Prim.Native.Nat.{_-_}
 use lib.ListN.{length, drop}
 use Rattle.enc_utf_8.specs.Utf8.{Stretch}
 use Rattle.enc_utf_8.proofs.Lays.{Rest, rest-all}
-use Rattle.enc_utf_8_replacing.specs.Text.{decodeText}
+use Rattle.enc_utf_8_replacing.specs.Text.{decode8Text}
 use Rattle.enc_utf_8_replacing.proofs.Decoders.{first-stretch, part-room, scalar-room, text-again, text-done, text-less}
 use Rattle.enc_utf_8_replacing.proofs.put_text.Statement.{statement}
 use Rattle.enc_utf_8_replacing.proofs.put_text.Tie as tie
@@ -16,7 +16,7 @@ use Rattle.enc_utf_8_replacing.proofs.scalar_8.Reads as scalar-8-reads
 
 abbrev Inv-loop : tie.InvT-loop
 Inv-loop bytes formed out₀ at from₀ end₀ to₀ out from end to =
-    Stretch bytes from end × Rest (decodeText bytes) out₀ at (decodeText (drop from bytes)) out to
+    Stretch bytes from end × Rest (decode8Text bytes) out₀ at (decode8Text (drop from bytes)) out to
 
 abbrev μ-loop : tie.MeasureT-loop
 μ-loop bytes formed out₀ at from₀ end₀ to₀ out from end to =

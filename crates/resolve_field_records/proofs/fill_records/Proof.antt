@@ -51,12 +51,12 @@ use denote.Triple.Spec.{Meets, tripleOf}
 use denote.Triple.Table.{entered, cited}
 use denote.Triple.Walked.{says, needs, Stays, stay-slice, stay-none, stay-none-slice, walkOf, goes-slice, goes-none, goes-none-slice, Walks, ends-at, walked, walk-meets}
 use denote.Exit.{yes}
-use Rattle.resolve_field_records.specs.declared.ResolvedField.{ResolvedField as Rec}
+use Rattle.resolve_field_records.specs.declared.FieldRecord.{FieldRecord as Rec}
 use Rattle.resolve_field_records.specs.Stored.{noRecord}
 use Rattle.resolve_field_records.specs.Stored.{AllResolvable, recordAt, resolvedRecordsAt, filledAt}
 use Rattle.resolve_field_records.proofs.Stored.{sets-filled}
-use Rattle.resolve_field_records.proofs.ResolvedField as T
-use Rattle.resolve_field_records.proofs.ResolvedField.Laws as T′
+use Rattle.resolve_field_records.proofs.FieldRecord as T
+use Rattle.resolve_field_records.proofs.FieldRecord.Laws as T′
 use Rattle.resolve_field_records.proofs.record_at as record-at
 use Rattle.resolve_field_records.proofs.record_at.Symbol as record-at-def
 use Rattle.resolve_field_records.proofs.record_at.Symbol.{name as #resolve-field-records·record-at}

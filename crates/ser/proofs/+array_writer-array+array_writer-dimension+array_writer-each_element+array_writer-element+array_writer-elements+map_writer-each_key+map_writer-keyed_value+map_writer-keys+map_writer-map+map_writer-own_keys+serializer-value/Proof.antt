@@ -2,7 +2,7 @@ use borrow.Author.Needs.{needs}
 use mathlib.Core.Path.{_≡_, refl}
 use Prim.Native.Nat.{ℕ, _+_, _*_, _-_, _≤_, _<_}
 use lib.ListN.{length}
-use Rattle.ser.specs.Write.{ctx, outcomeOf, _then_, walk, keysFrom, elementsFrom, elementItem}
+use Rattle.ser.specs.Write.{writeCtx, outcomeOf, _thenWrites_, writeWalk, keysFrom, elementsWrite, elementWritten}
 use Rattle.type_category.proofs.Numbers.{category-is}
 use Rattle.resolve_field_types.proofs.Numbers.{check-is}
 use Rattle.tape_shape.proofs.Strides.{Along, along-start, along-again, along-fits, next-dimension, fills-further}
@@ -418,7 +418,7 @@ array-writer·dimension-returns-2 t c = search dimensions
 
 abbrev array-writer·each-element-Inv-loop : array-writer·each-element-lts.InvT-loop
 array-writer·each-element-Inv-loop book index q plan firsts tape text out₀ stride category here₀ from₀ i₀ out here from i =
-    (i ≤ q .n) × Along book (q .d) (q .t) (q .e) (q .n) stride from i (length out₀) × (length out ≡ length out₀) × ((outcomeOf here out then elementsFrom (walk (ctx book (q .width) tape text) (q .left)) (ctx book (q .width) tape text) (elementItem (ctx book (q .width) tape text) (q .d) (q .t) (q .e)) (strideOf book (q .d) (q .t) (q .e)) (q .n) i from (q .k - i)) ≡ (outcomeOf here₀ out₀ then elementsFrom (walk (ctx book (q .width) tape text) (q .left)) (ctx book (q .width) tape text) (elementItem (ctx book (q .width) tape text) (q .d) (q .t) (q .e)) (strideOf book (q .d) (q .t) (q .e)) (q .n) 0 0 (q .k)))
+    (i ≤ q .n) × Along book (q .d) (q .t) (q .e) (q .n) stride from i (length out₀) × (length out ≡ length out₀) × ((outcomeOf here out thenWrites elementsWrite (writeWalk (writeCtx book (q .width) tape text) (q .left)) (writeCtx book (q .width) tape text) (elementWritten (writeCtx book (q .width) tape text) (q .d) (q .t) (q .e)) (strideOf book (q .d) (q .t) (q .e)) (q .n) i from (q .k - i)) ≡ (outcomeOf here₀ out₀ thenWrites elementsWrite (writeWalk (writeCtx book (q .width) tape text) (q .left)) (writeCtx book (q .width) tape text) (elementWritten (writeCtx book (q .width) tape text) (q .d) (q .t) (q .e)) (strideOf book (q .d) (q .t) (q .e)) (q .n) 0 0 (q .k)))
 
 abbrev array-writer·each-element-μ-loop : array-writer·each-element-lts.MeasureT-loop
 array-writer·each-element-μ-loop book index q plan firsts tape text out₀ stride category here₀ from₀ i₀ out here from i =
@@ -592,7 +592,7 @@ array-writer·elements-returns-3 t c = search needs
 
 abbrev map-writer·each-key-Inv-loop : map-writer·each-key-lts.InvT-loop
 map-writer·each-key-Inv-loop book index m plan firsts tape text out₀ here₀ i₀ out here i =
-    (length out ≡ length out₀) × ((outcomeOf here out then keysFrom (walk (ctx book (m .width) tape text) (m .left)) (ctx book (m .width) tape text) (m .t) (m .n - i)) ≡ (outcomeOf here₀ out₀ then keysFrom (walk (ctx book (m .width) tape text) (m .left)) (ctx book (m .width) tape text) (m .t) (m .n)))
+    (length out ≡ length out₀) × ((outcomeOf here out thenWrites keysFrom (writeWalk (writeCtx book (m .width) tape text) (m .left)) (writeCtx book (m .width) tape text) (m .t) (m .n - i)) ≡ (outcomeOf here₀ out₀ thenWrites keysFrom (writeWalk (writeCtx book (m .width) tape text) (m .left)) (writeCtx book (m .width) tape text) (m .t) (m .n)))
 
 abbrev map-writer·each-key-μ-loop : map-writer·each-key-lts.MeasureT-loop
 map-writer·each-key-μ-loop book index m plan firsts tape text out₀ here₀ i₀ out here i =

@@ -43,12 +43,12 @@ use denote.Triple.Spec.{Meets, tripleOf}
 use denote.Triple.Table.{entered, cited}
 use denote.Triple.Walked.{says, Stays, stay-none, stay-none-slice, walkOf, goes-none, goes-none-slice, Walks, ends-at, walked, walk-meets}
 use denote.Exit.{yes}
-use Rattle.resolve_field_records.specs.declared.ResolvedField.{ResolvedField as Rec}
+use Rattle.resolve_field_records.specs.declared.FieldRecord.{FieldRecord as Rec}
 use Rattle.resolve_field_records.specs.Stored.{StoredIs}
 use Rattle.resolve_field_types.specs.declared.FieldsAnswer.{FieldsAnswer}
 use Rattle.vectors.proofs.Borrowed.{lends-mut, whole-again, big-lit}
-use Rattle.resolve_field_records.proofs.ResolvedField as T
-use Rattle.resolve_field_records.proofs.ResolvedField.Laws as T′
+use Rattle.resolve_field_records.proofs.FieldRecord as T
+use Rattle.resolve_field_records.proofs.FieldRecord.Laws as T′
 use Rattle.resolve_field_types.proofs.FieldsAnswer as S
 use Rattle.resolve_field_types.proofs.FieldsAnswer.Laws as S′
 use Rattle.vectors.proofs.records.blank as blank
