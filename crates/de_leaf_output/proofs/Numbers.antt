@@ -16,17 +16,20 @@ use Rattle.enc_integer.specs.declared.Integer.{Integer}
 use Rattle.enc_integer.specs.declared.Integer.the-variants as integer
 use Rattle.enc_integer.specs.declared.IntegerRead.{IntegerRead}
 use Rattle.enc_integer.specs.declared.IntegerRead.the-variants as read
+use Rattle.enc_integer.proofs.Integers.{read-unsupported}
 use Rattle.enc_integer.proofs.Numbers.{read-unsupported-number}
-use Rattle.enc_float.specs.Float.{singleOf, doubleOf, realBits, readReal}
+use Rattle.enc_float.specs.Float.{singleOf, doubleOf, realBits}
 use Rattle.enc_float.specs.declared.Real.{Real}
-use Rattle.enc_float.proofs.Reals.{single-by, double-by, single-back, double-back, read-single, read-double}
+use Rattle.enc_float.proofs.Reals.{single-by, double-by, single-back, double-back, real-unsupported, read-single, read-double}
 use Rattle.type_book.specs.Book.{nameOf, typeIdOf, sameName}
 use Rattle.type_book.proofs.Names.{other-name}
-use Rattle.type_names.specs.Text.{asciiBytes, isOneOf}
+use Rattle.type_names.specs.Text.{asciiBytes}
 use Rattle.type_category.specs.declared.type_category.AdsTypeCategory.{AdsTypeCategory}
 use Rattle.time_types.specs.declared.TimeType.the-variants as time
-use Rattle.time_types.specs.Types.{timeTypeOf, timeWidth}
-use Rattle.time_types.specs.Counts.{nameCounts, timeOf, countWidth}
+use Rattle.time_types.specs.Types.{timeTypeOf}
+use Rattle.time_types.specs.Counts.{nameCounts, countWidth}
+use Rattle.time_types.proofs.Names.{no-time}
+use Rattle.time_types.proofs.Widths.{width-none, width-named}
 use Rattle.tape.specs.Record.{newRecord, declaring}
 use Rattle.tape.specs.declared.record.Record.{Record}
 use Rattle.de_leaves.specs.declared.leaf.LeafValue.{LeafValue}
@@ -91,44 +94,44 @@ module _ (book : List ℕ) (t : ℕ) (mem : List ℕ) (r : Record) (n : ℕ) (en
   by-bool e h = let q : typeIdOf book t ≡ 33 = sym en ∙ e in rw q h
 
   pub by-2 : n ≡ 2 → Tells (integerLeaf (readInteger Int16 mem)) r → Tells (numberLeaf book t mem) r
-  unfolding numberLeaf realOr readReal
-  by-2 e h = let q : typeIdOf book t ≡ 2 = sym en ∙ e in rw (q, ← named Int16 tt 2 refl) h
+  unfolding numberLeaf realOr
+  by-2 e h = let q : typeIdOf book t ≡ 2 = sym en ∙ e in rw (q, ← named Int16 tt 2 refl, ← real-unsupported Int16 mem 0 refl refl) h
 
   pub by-3 : n ≡ 3 → Tells (integerLeaf (readInteger Int32 mem)) r → Tells (numberLeaf book t mem) r
-  unfolding numberLeaf realOr readReal
-  by-3 e h = let q : typeIdOf book t ≡ 3 = sym en ∙ e in rw (q, ← named Int32 tt 3 refl) h
+  unfolding numberLeaf realOr
+  by-3 e h = let q : typeIdOf book t ≡ 3 = sym en ∙ e in rw (q, ← named Int32 tt 3 refl, ← real-unsupported Int32 mem 0 refl refl) h
 
   pub by-16 : n ≡ 16 → Tells (integerLeaf (readInteger Int8 mem)) r → Tells (numberLeaf book t mem) r
-  unfolding numberLeaf realOr readReal
-  by-16 e h = let q : typeIdOf book t ≡ 16 = sym en ∙ e in rw (q, ← named Int8 tt 16 refl) h
+  unfolding numberLeaf realOr
+  by-16 e h = let q : typeIdOf book t ≡ 16 = sym en ∙ e in rw (q, ← named Int8 tt 16 refl, ← real-unsupported Int8 mem 0 refl refl) h
 
   pub by-17 : n ≡ 17 → Tells (integerLeaf (readInteger UInt8 mem)) r → Tells (numberLeaf book t mem) r
-  unfolding numberLeaf realOr readReal
-  by-17 e h = let q : typeIdOf book t ≡ 17 = sym en ∙ e in rw (q, ← named UInt8 tt 17 refl) h
+  unfolding numberLeaf realOr
+  by-17 e h = let q : typeIdOf book t ≡ 17 = sym en ∙ e in rw (q, ← named UInt8 tt 17 refl, ← real-unsupported UInt8 mem 0 refl refl) h
 
   pub by-18 : n ≡ 18 → Tells (integerLeaf (readInteger UInt16 mem)) r → Tells (numberLeaf book t mem) r
-  unfolding numberLeaf realOr readReal
-  by-18 e h = let q : typeIdOf book t ≡ 18 = sym en ∙ e in rw (q, ← named UInt16 tt 18 refl) h
+  unfolding numberLeaf realOr
+  by-18 e h = let q : typeIdOf book t ≡ 18 = sym en ∙ e in rw (q, ← named UInt16 tt 18 refl, ← real-unsupported UInt16 mem 0 refl refl) h
 
   pub by-19 : n ≡ 19 → Tells (integerLeaf (readInteger UInt32 mem)) r → Tells (numberLeaf book t mem) r
-  unfolding numberLeaf realOr readReal
-  by-19 e h = let q : typeIdOf book t ≡ 19 = sym en ∙ e in rw (q, ← named UInt32 tt 19 refl) h
+  unfolding numberLeaf realOr
+  by-19 e h = let q : typeIdOf book t ≡ 19 = sym en ∙ e in rw (q, ← named UInt32 tt 19 refl, ← real-unsupported UInt32 mem 0 refl refl) h
 
   pub by-20 : n ≡ 20 → Tells (integerLeaf (readInteger Int64 mem)) r → Tells (numberLeaf book t mem) r
-  unfolding numberLeaf realOr readReal
-  by-20 e h = let q : typeIdOf book t ≡ 20 = sym en ∙ e in rw (q, ← named Int64 tt 20 refl) h
+  unfolding numberLeaf realOr
+  by-20 e h = let q : typeIdOf book t ≡ 20 = sym en ∙ e in rw (q, ← named Int64 tt 20 refl, ← real-unsupported Int64 mem 0 refl refl) h
 
   pub by-21 : n ≡ 21 → Tells (integerLeaf (readInteger UInt64 mem)) r → Tells (numberLeaf book t mem) r
-  unfolding numberLeaf realOr readReal
-  by-21 e h = let q : typeIdOf book t ≡ 21 = sym en ∙ e in rw (q, ← named UInt64 tt 21 refl) h
+  unfolding numberLeaf realOr
+  by-21 e h = let q : typeIdOf book t ≡ 21 = sym en ∙ e in rw (q, ← named UInt64 tt 21 refl, ← real-unsupported UInt64 mem 0 refl refl) h
 
   pub by-4 : n ≡ 4 → Tells (realIn Real32 mem) r → Tells (numberLeaf book t mem) r
-  unfolding numberLeaf realIn readInteger integerLeaf
-  by-4 e h = let q : typeIdOf book t ≡ 4 = sym en ∙ e in rw (q, ← named Real32 tt 4 refl, read-unsupported-number) h
+  unfolding numberLeaf realIn integerLeaf
+  by-4 e h = let q : typeIdOf book t ≡ 4 = sym en ∙ e in rw (q, ← named Real32 tt 4 refl, ← read-unsupported Real32 mem 0 refl refl, read-unsupported-number) h
 
   pub by-5 : n ≡ 5 → Tells (realIn Real64 mem) r → Tells (numberLeaf book t mem) r
-  unfolding numberLeaf realIn readInteger integerLeaf
-  by-5 e h = let q : typeIdOf book t ≡ 5 = sym en ∙ e in rw (q, ← named Real64 tt 5 refl, read-unsupported-number) h
+  unfolding numberLeaf realIn integerLeaf
+  by-5 e h = let q : typeIdOf book t ≡ 5 = sym en ∙ e in rw (q, ← named Real64 tt 5 refl, ← read-unsupported Real64 mem 0 refl refl, read-unsupported-number) h
 
 -- ---- a name that counts no time
 
@@ -147,8 +150,18 @@ module _ (name : List ℕ) where
     lt : getD name 0 0 ≡ 76 → getD name 1 0 ≡ 84 → ⊥
 
   none-of : Begins → time.NoTime ≡ timeTypeOf name
-  unfolding timeTypeOf isOneOf
-  none-of b = sym (rw (differs name (asciiBytes "TIME") (b .ti), differs name (asciiBytes "LTIME") (b .lt), differs name (asciiBytes "TOD") (b .to), differs name (asciiBytes "TIME_OF_DAY") (b .ti), differs name (asciiBytes "DATE") (b .da), differs name (asciiBytes "DT") (b .dt), differs name (asciiBytes "DATE_AND_TIME") (b .da), differs name (asciiBytes "LDATE") (b .ld), differs name (asciiBytes "LDT") (b .ld), differs name (asciiBytes "LTOD") (b .lt)))
+  none-of b = no-time name (record {
+    time = differs name (asciiBytes "TIME") (b .ti);
+    ltime = differs name (asciiBytes "LTIME") (b .lt);
+    tod = differs name (asciiBytes "TOD") (b .to);
+    timeOfDay = differs name (asciiBytes "TIME_OF_DAY") (b .ti);
+    date = differs name (asciiBytes "DATE") (b .da);
+    dt = differs name (asciiBytes "DT") (b .dt);
+    dateAndTime = differs name (asciiBytes "DATE_AND_TIME") (b .da);
+    ldate = differs name (asciiBytes "LDATE") (b .ld);
+    ldt = differs name (asciiBytes "LDT") (b .ld);
+    ltod = differs name (asciiBytes "LTOD") (b .lt);
+  })
 
   pub may-count : Uncounted name true
   may-count = record { none = λ e. absurd (let z : _≡_ {A = ℕ} 0 1 = cc in omega arith) }
@@ -195,12 +208,11 @@ kind-number kind.None e = absurd (let z : _≡_ {A = ℕ} 0 1 = cc in omega arit
 
 -- a name that counts no time makes no count, whatever the category
 no-count : (book : List ℕ) (t : ℕ) (c : AdsTypeCategory) → time.NoTime ≡ timeTypeOf (nameOf book t) → countWidth book t c ≡ 0
-unfolding countWidth timeOf
-no-count book t c e = by (nameCounts c)
+no-count book t c e = sym (by (nameCounts c) refl)
   where
-    by : (b : Bool) → timeWidth (cond b (timeTypeOf (nameOf book t)) time.NoTime) ≡ 0
-    by true = rw (← e)
-    by false = refl
+    by : (b : Bool) → b ≡ nameCounts c → 0 ≡ countWidth book t c
+    by true q = width-named book t c true q refl (nameOf book t) refl time.NoTime e 0 refl
+    by false q = width-none book t c false q refl
 
 pub number-is : (book : List ℕ) (x : Typed) (mem : List ℕ) (b : Bool) → b ≡ isNumber (kindOfLeaf (x .category)) → b ≡ true → (name : List ℕ) → name ≡ nameOf book (x .resolved)
     → (m : Bool) → Uncounted name m → m ≡ false → (y r : Record) → Tells (numberLeaf book (x .resolved) mem) y → r ≡ declaring (x .named) y → NumberRecordIs book x mem r

@@ -34,7 +34,7 @@ module _ (name : List ℕ) where
     pub ldt : sameName name (asciiBytes "LDT") ≡ false
     pub ltod : sameName name (asciiBytes "LTOD") ≡ false
 
-  no-time : Others → time.NoTime ≡ timeTypeOf name
+  pub no-time : Others → time.NoTime ≡ timeTypeOf name
   unfolding timeTypeOf isOneOf
   no-time o = sym (rw (o .time, o .ltime, o .tod, o .timeOfDay, o .date, o .dt, o .dateAndTime, o .ldate, o .ldt, o .ltod))
 
