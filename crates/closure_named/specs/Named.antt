@@ -80,6 +80,7 @@ abbrev pub FetchedBy : List ℕ → ℕ → List ℕ → Ours → List Call → 
 FetchedBy c width name s is (At t) = (b : ℕ) → List·Memᴰ b (listed (walkAt width t s)) → AddedNext c (typeNameOf (bookOf s) b) is
 FetchedBy c width name s is Nothing = AddedNext c name is
 
+-- what this asks of each call: of an ask that each name which it lists is added before the next one; of an add nothing
 abbrev pub NamedFetched : List ℕ → ℕ → List ℕ → Ours → Call → List Call → Type 0
 NamedFetched c width name s (ask ix sc ls) is = FetchedBy c width name s is (find (bookOf s) name)
 NamedFetched c width name s (add n) is = Unit {0}
