@@ -9,7 +9,14 @@ const ROUNDS: usize = 15;
 unsafe extern "C" {
     fn gateway_check_book(buffer: *const u8, buffer_len: usize, len: usize) -> u8;
     fn gateway_find(book: *const u8, len: usize, name: *const u8, name_len: usize) -> u32;
-    fn gateway_find_by(book: *const u8, len: usize, index: *const u32, slots: usize, name: *const u8, name_len: usize) -> u32;
+    fn gateway_find_by(
+        book: *const u8,
+        len: usize,
+        index: *const u32,
+        slots: usize,
+        name: *const u8,
+        name_len: usize,
+    ) -> u32;
     fn gateway_fill_index(book: *const u8, len: usize, index: *mut u32, slots: usize);
 }
 
@@ -23,7 +30,16 @@ fn find(book: &[u8], name: &[u8]) -> u32 {
 }
 
 fn find_by(book: &[u8], index: &[u32], name: &[u8]) -> u32 {
-    unsafe { gateway_find_by(book.as_ptr(), book.len(), index.as_ptr(), index.len(), name.as_ptr(), name.len()) }
+    unsafe {
+        gateway_find_by(
+            book.as_ptr(),
+            book.len(),
+            index.as_ptr(),
+            index.len(),
+            name.as_ptr(),
+            name.len(),
+        )
+    }
 }
 
 fn fill_index(book: &[u8], index: &mut [u32]) {
@@ -68,7 +84,9 @@ fn trial(rounds: usize) {
         state as usize
     };
     for _ in 0..rounds {
-        let mut book: Vec<u8> = (0..next() % 4097).map(|_| if next() % 3 == 0 { next() as u8 } else { 0 }).collect();
+        let mut book: Vec<u8> = (0..next() % 4097)
+            .map(|_| if next() % 3 == 0 { next() as u8 } else { 0 })
+            .collect();
         for block in book.chunks_exact_mut(BLOCK) {
             if next() % 2 == 0 {
                 block[0] = (1 + next() % 4) as u8;
@@ -86,8 +104,18 @@ fn trial(rounds: usize) {
         } else {
             assert!(matches!(answer, 0 | 3 | 4));
         }
-        let name: Vec<u8> = (0..next() % 4).map(|_| if next() % 3 == 0 { next() as u8 } else { 0 }).collect();
-        let index: Vec<u32> = (0..next() % 65).map(|_| if next() % 2 == 0 { next() as u32 } else { (next() % 12) as u32 }).collect();
+        let name: Vec<u8> = (0..next() % 4)
+            .map(|_| if next() % 3 == 0 { next() as u8 } else { 0 })
+            .collect();
+        let index: Vec<u32> = (0..next() % 65)
+            .map(|_| {
+                if next() % 2 == 0 {
+                    next() as u32
+                } else {
+                    (next() % 12) as u32
+                }
+            })
+            .collect();
         let named = |b: &[u8]| b[0] == 1 && b[52] as usize == name.len() && b[54..54 + name.len()] == name[..];
         let first = book.chunks_exact(BLOCK).position(named).map_or(u32::MAX, |n| n as u32);
         assert_eq!(find(&book, &name), first);
@@ -127,8 +155,18 @@ pub fn run() {
     let summed = median(|| {
         black_box(check_book(black_box(&damaged)));
     });
-    println!("{:44} {:9.1} ms", "check_book, 65,536 types, all of 1 to 4", whole * 1e3);
-    println!("{:44} {:9.1} ms, a plain Rust loop {:.1} ms: {:.2} times", "its sums alone", summed * 1e3, plain * 1e3, summed / plain);
+    println!(
+        "{:44} {:9.1} ms",
+        "check_book, 65,536 types, all of 1 to 4",
+        whole * 1e3
+    );
+    println!(
+        "{:44} {:9.1} ms, a plain Rust loop {:.1} ms: {:.2} times",
+        "its sums alone",
+        summed * 1e3,
+        plain * 1e3,
+        summed / plain
+    );
 
     let book = made(4_096);
     let mut index = vec![0u32; 16_384];
@@ -148,5 +186,11 @@ pub fn run() {
         }
     });
     let each = |s: f64| s / names.len() as f64 * 1e9;
-    println!("{:44} {:9.0} ns, find {:.0} ns: {:.0} times quicker", "find_by, 4,096 types, index of 16,384", each(quick), each(scan), scan / quick);
+    println!(
+        "{:44} {:9.0} ns, find {:.0} ns: {:.0} times quicker",
+        "find_by, 4,096 types, index of 16,384",
+        each(quick),
+        each(scan),
+        scan / quick
+    );
 }

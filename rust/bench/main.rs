@@ -128,7 +128,10 @@ unsafe extern "C" {
 const THREAD: i32 = 3;
 
 fn on_processor() -> f64 {
-    let mut time = Time { seconds: 0, nanoseconds: 0 };
+    let mut time = Time {
+        seconds: 0,
+        nanoseconds: 0,
+    };
     assert_eq!(unsafe { clock_gettime(THREAD, &mut time) }, 0);
     time.seconds as f64 + time.nanoseconds as f64 / 1e9
 }
@@ -165,28 +168,79 @@ fn compare_in(what: &str, input: &[u8], port: Call, rust: Call, room: usize) {
     }
     let (ours, theirs) = (median(ours), median(theirs));
     let speed = |s: f64| input.len() as f64 / s / 1e6;
-    println!("{what:58} {:9.0} {:9.0} {:7.2}", speed(ours), speed(theirs), theirs / ours);
+    println!(
+        "{what:58} {:9.0} {:9.0} {:7.2}",
+        speed(ours),
+        speed(theirs),
+        theirs / ours
+    );
 }
 
 fn main() {
-    println!("{:58} {:>9} {:>9} {:>7}", "medians, MB/s of input", "port", "Rust", "port/Rust");
+    println!(
+        "{:58} {:>9} {:>9} {:>7}",
+        "medians, MB/s of input", "port", "Rust", "port/Rust"
+    );
     let ascii = made(&["plain ", "text ", "0123456789 ", "of a recipe, "], SIZE);
-    let latin = made(&["Stra\u{df}e ", "Gr\u{f6}\u{df}e ", "plain text ", "price 12 \u{20ac} "], SIZE);
+    let latin = made(
+        &["Stra\u{df}e ", "Gr\u{f6}\u{df}e ", "plain text ", "price 12 \u{20ac} "],
+        SIZE,
+    );
     let accents = made(&["\u{e4}\u{f6}", "\u{fc}", "\u{20ac}", "\u{2019}"], SIZE);
     let cyrillic = made(&["\u{416}\u{437}", "\u{20ac}", "\u{430}\u{431} "], SIZE);
     let faces = made(&["\u{1f600}", "a\u{1f4d6}", "\u{10ffff}"], SIZE);
-    for (name, text) in [("ASCII", &ascii), ("Latin, one in ten", &latin), ("Latin, all", &accents)] {
+    for (name, text) in [
+        ("ASCII", &ascii),
+        ("Latin, one in ten", &latin),
+        ("Latin, all", &accents),
+    ] {
         let bytes = WINDOWS_1252.encode(text).0;
-        compare(&format!("enc_windows_1252_decoder::decode, {name}"), &bytes, port_windows_1252_decode, rust_windows_1252_decode);
+        compare(
+            &format!("enc_windows_1252_decoder::decode, {name}"),
+            &bytes,
+            port_windows_1252_decode,
+            rust_windows_1252_decode,
+        );
         let tight = format!("the same, a buffer of just the length, {name}");
-        compare_in(&tight, &bytes, port_windows_1252_decode, rust_windows_1252_decode, text.len());
-        compare(&format!("enc_windows_1252_encoder::encode, {name}"), text.as_bytes(), port_windows_1252_encode, rust_windows_1252_encode);
+        compare_in(
+            &tight,
+            &bytes,
+            port_windows_1252_decode,
+            rust_windows_1252_decode,
+            text.len(),
+        );
+        compare(
+            &format!("enc_windows_1252_encoder::encode, {name}"),
+            text.as_bytes(),
+            port_windows_1252_encode,
+            rust_windows_1252_encode,
+        );
     }
-    for (name, text) in [("ASCII", &ascii), ("Latin, one in ten", &latin), ("Cyrillic", &cyrillic), ("pairs", &faces)] {
+    for (name, text) in [
+        ("ASCII", &ascii),
+        ("Latin, one in ten", &latin),
+        ("Cyrillic", &cyrillic),
+        ("pairs", &faces),
+    ] {
         let bytes: Vec<u8> = text.encode_utf16().flat_map(u16::to_le_bytes).collect();
-        compare(&format!("enc_utf_16_decoder::decode, {name}"), &bytes, port_utf_16_decode, rust_utf_16_decode);
-        compare(&format!("enc_utf_16_encoder::encode, {name}"), text.as_bytes(), port_utf_16_encode, rust_utf_16_encode);
-        compare(&format!("enc_utf_8_decoder::well_formed, {name}"), text.as_bytes(), port_utf_8_well_formed, rust_utf_8_well_formed);
+        compare(
+            &format!("enc_utf_16_decoder::decode, {name}"),
+            &bytes,
+            port_utf_16_decode,
+            rust_utf_16_decode,
+        );
+        compare(
+            &format!("enc_utf_16_encoder::encode, {name}"),
+            text.as_bytes(),
+            port_utf_16_encode,
+            rust_utf_16_encode,
+        );
+        compare(
+            &format!("enc_utf_8_decoder::well_formed, {name}"),
+            text.as_bytes(),
+            port_utf_8_well_formed,
+            rust_utf_8_well_formed,
+        );
     }
     utf_8();
     book::run();
@@ -196,11 +250,47 @@ fn main() {
 fn utf_8() {
     let sets: [(&str, &[&[u8]]); 6] = [
         ("ASCII", &[b"plain ", b"text ", b"0123456789 ", b"of a recipe, "]),
-        ("Latin", &["Stra\u{df}e ".as_bytes(), "Gr\u{f6}\u{df}e ".as_bytes(), b"plain text ", "price 12 \u{20ac} ".as_bytes()]),
-        ("Cyrillic", &["\u{416}\u{437}".as_bytes(), "\u{20ac}".as_bytes(), "\u{430}\u{431} ".as_bytes()]),
-        ("CJK", &["\u{6e29}\u{5ea6}".as_bytes(), "\u{80f6}".as_bytes(), "\u{8bbe}\u{5b9a}\u{503c}".as_bytes(), b"12 "]),
-        ("emoji", &["\u{1f600}".as_bytes(), "a\u{1f4d6}".as_bytes(), "\u{10ffff}".as_bytes()]),
-        ("damaged", &["Stra\u{df}e ".as_bytes(), b"\xE2\x82", b"plain text ", b"\xF0\x80", b"\xFF", "\u{6e29}".as_bytes()]),
+        (
+            "Latin",
+            &[
+                "Stra\u{df}e ".as_bytes(),
+                "Gr\u{f6}\u{df}e ".as_bytes(),
+                b"plain text ",
+                "price 12 \u{20ac} ".as_bytes(),
+            ],
+        ),
+        (
+            "Cyrillic",
+            &[
+                "\u{416}\u{437}".as_bytes(),
+                "\u{20ac}".as_bytes(),
+                "\u{430}\u{431} ".as_bytes(),
+            ],
+        ),
+        (
+            "CJK",
+            &[
+                "\u{6e29}\u{5ea6}".as_bytes(),
+                "\u{80f6}".as_bytes(),
+                "\u{8bbe}\u{5b9a}\u{503c}".as_bytes(),
+                b"12 ",
+            ],
+        ),
+        (
+            "emoji",
+            &["\u{1f600}".as_bytes(), "a\u{1f4d6}".as_bytes(), "\u{10ffff}".as_bytes()],
+        ),
+        (
+            "damaged",
+            &[
+                "Stra\u{df}e ".as_bytes(),
+                b"\xE2\x82",
+                b"plain text ",
+                b"\xF0\x80",
+                b"\xFF",
+                "\u{6e29}".as_bytes(),
+            ],
+        ),
     ];
     for (name, pieces) in sets {
         for (long, size) in [("", SIZE), (", 80 bytes", 80)] {
