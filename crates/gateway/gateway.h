@@ -235,7 +235,7 @@ uint8_t gateway_missing_types_in(const uint8_t *book, size_t book_len, const uin
 
 /* Completes our book (in `buffer`) for a save of the root: adds, from the controller's book in the first `theirs` bytes of `controller`,
  * every type that the root is made of and our book lacks, until none lacks; then decides. 8,192 numbers of scratch; the index may have any
- * length and hold anything, four elements for each type of both books serve well. `len` + `theirs` bytes of buffer are always enough.
+ * length and hold anything, eight elements for each type of both books serve well. `len` + `theirs` bytes of buffer are always enough.
  * 0: values: 1 where the memory must be read, changed and written back, else 0; the new length of our book.
  * Else 1 to 5 of our book and the root, 1 to 4 of the controller's book, 6; then 7 (a type that neither book has: values: the block of our
  * book, as it is then, whose type name is not found; the length), 8, 9, 15. Unlike in the other calls values[0] is the length of our book

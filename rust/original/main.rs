@@ -372,7 +372,7 @@ fn plan(what: &str, rounds: usize, ours: &[u8], controller: &[u8]) {
         TypeBook::new(controller, WIDTH).expect("valid"),
     );
     let types = mine.types().count() + whole.types().count();
-    let (mut scratch, mut index, mut values) = (vec![0; 8_192], vec![0; 4 * types], [0; 2]);
+    let (mut scratch, mut index, mut values) = (vec![0; 8_192], vec![0; 8 * types], [0; 2]);
     let (s, i, v) = (&mut scratch, &mut index, &mut values);
     pair(
         what,

@@ -1,6 +1,6 @@
 -- The exits and the loops of the decoder's functions, a law for each. Assumes nothing.
 use mathlib.Core.Path.{_≡_, refl, sym, ap, _∙_}
-use mathlib.Core.Bool.{Bool, true, false, cond}
+use mathlib.Core.Bool.{Bool, true, false, cond, _&&_}
 use mathlib.Core.List.{List, [], _∷_}
 use Prim.Native.Nat.{ℕ, _+_, _*_, _-_, _/_, _%_, _≤_, _<_}
 use native.Mathlib.Nat.{add-zero}
@@ -8,7 +8,9 @@ use native.Mathlib.Omega.{arith}
 use lib.ListN.{length, getD, take, drop, set, length-append, length-take, length-set}
 use lib.Seq.{set-set}
 use lib.Dec.{leb, ltb}
-use borrow.Author.Tests.{leb-true, leb-false, le-leb, lt-leb, ltb-true, ltb-false}
+use borrow.Author.Tests.{leb-true, leb-false, le-leb, lt-leb, ltb-true, ltb-false, le-ltb, lt-ltb}
+use mir.Syntax.{w8}
+use mir.Val.{Fits as Holds}
 use Rattle.enc_utf_8.specs.declared.Put.{Put}
 use Rattle.enc_utf_8.specs.declared.Put.the-variants.{Next, Full}
 use Rattle.enc_utf_8.specs.declared.Room.{Room}
@@ -20,7 +22,7 @@ use Rattle.enc_utf_8.proofs.Encodes.{utf8-two, utf8-three-low}
 use Rattle.enc_ascii.specs.Ascii.{isAscii}
 use Rattle.enc_windows_1252.specs.Index.{codePoint}
 use Rattle.enc_windows_1252.specs.Text.{decodeByte, decodeText}
-use Rattle.enc_windows_1252_decoder.proofs.Texts.{ascii-byte, high-byte, ascii-text, ascii-length, decode-next, decode-end, decode-cut, decode-some}
+use Rattle.enc_windows_1252_decoder.proofs.Texts.{ascii-byte, high-byte, ascii-text, ascii-length, decode-next, decode-end, decode-cut, decode-some, fits-short}
 use Rattle.enc_utf_8.proofs.Lays.{laid-one, laid-two, laid-as, Rest, rest-room, rest-next, rest-end, put-went, put-never, room-fits, room-over, count-part, count-over, count-all, count-fits, wrote-laid, wrote-over}
 
 -- ---- block_len, decoded_len
@@ -182,7 +184,48 @@ module _ (len room : ℕ) (r : Room) (e : r ≡ roomFor len room) where
   pub measured-over : r ≡ Over → false ≡ leb len room
   measured-over q = sym (lt-leb len room (room-over len room e q))
 
+-- ---- is_long_with_room
+
+module _ (len at end : ℕ) where
+  pub long-short : len ≤ 4096 → false ≡ ltb 4096 len && (leb at end && leb len ((end - at) / 3))
+  long-short l = rw (le-ltb 4096 len l)
+
+  pub long-past : 4096 < len → end < at → false ≡ ltb 4096 len && (leb at end && leb len ((end - at) / 3))
+  long-past l h = rw (lt-ltb 4096 len l, lt-leb at end h)
+
+  pub long-told : 4096 < len → at ≤ end → leb len ((end - at) / 3) ≡ ltb 4096 len && (leb at end && leb len ((end - at) / 3))
+  long-told l h = rw (lt-ltb 4096 len l, le-leb at end h)
+
+-- where it is so, any text fits
+module _ (len at end : ℕ) (q : ltb 4096 len && (leb at end && leb len ((end - at) / 3)) ≡ true) where
+  begins : at ≤ end
+  begins = leb-true at end (by (ltb 4096 len) (leb at end) (leb len ((end - at) / 3)) q)
+    where
+      by : (a b c : Bool) → a && (b && c) ≡ true → b ≡ true
+      by a true c z = refl
+      by true false c z = z
+      by false false c z = z
+
+  thrice : len ≤ (end - at) / 3
+  thrice = leb-true len ((end - at) / 3) (by (ltb 4096 len) (leb at end) (leb len ((end - at) / 3)) q)
+    where
+      by : (a b c : Bool) → a && (b && c) ≡ true → c ≡ true
+      by a b true z = refl
+      by true true false z = z
+      by true false false z = z
+      by false b false z = z
+
 -- ---- decode
+
+module _ (bytes out : List ℕ) (at : ℕ) (f : (i : ℕ) → Holds w8 (getD bytes i 0)) (t : Bool) (e : t ≡ ltb 4096 (length bytes) && (leb at (length out) && leb (length bytes) ((length out - at) / 3))) (q : t ≡ true) where
+  pub long-room : at + length (decodeText bytes) ≤ length out
+  long-room =
+      let z : ltb 4096 (length bytes) && (leb at (length out) && leb (length bytes) ((length out - at) / 3)) ≡ true = sym e ∙ q in
+      let s : leb (length (decodeText bytes)) (length out - at) ≡ true = sym (fits-short bytes (length out - at) f (thrice (length bytes) at (length out) z)) in
+      omega (arith, begins (length bytes) at (length out) z, leb-true (length (decodeText bytes)) (length out - at) s)
+
+  pub long-done : (k : ℕ) (out₁ : List ℕ) → Laid (decodeText bytes) out at k out₁ → Wrote (decodeText bytes) out at (Next k) out₁
+  long-done k out₁ l = wrote-laid (decodeText bytes) out at long-room l
 
 module _ (bytes out : List ℕ) (at : ℕ) where
   pub decode-none : length bytes ≡ 0 → Wrote (decodeText bytes) out at (Next at) out

@@ -1,7 +1,7 @@
 // The Windows-1252 decoder: bytes to UTF-8. It goes by blocks of at most 64 bytes, of which one that is ASCII throughout is only copied.
 ghost use mathlib.Core.Path.{_≡_};
-ghost use mathlib.Core.Bool.{true, cond};
-ghost use Prim.Native.Nat.{_+_, _/_, _≤_, _<_};
+ghost use mathlib.Core.Bool.{true, cond, _&&_};
+ghost use Prim.Native.Nat.{_+_, _-_, _/_, _≤_, _<_, min};
 ghost use lib.ListN.{length};
 ghost use lib.Dec.{leb, ltb};
 ghost use Rattle.enc_utf_8.specs.Buffer.{Wrote, Laid, roomFor};
@@ -13,6 +13,9 @@ use enc_ascii::is_ascii;
 use enc_utf_8::Put;
 use enc_utf_8::Room;
 use enc_windows_1252::code_point;
+
+// A text of more bytes is decoded by pieces of so many, where there is room for any text.
+const PIECE: usize = 4096;
 
 // 1 where a number is at least another, else 0: to be added, since a branch for each byte would be slow.
 fn at_least(number: u32, least: u32) -> u32
@@ -145,6 +148,47 @@ fn put_text(bytes: &[u8], out: &mut [u8], at: usize) -> usize
     next
 }
 
+// The end of the piece that starts at a place, in `len` bytes.
+fn piece_end(at: usize, len: usize) -> usize
+    requires { ⌜ at < len ⌝ }
+    ensures { λ r. ⌜ (r ≡ min (at + 4096) len) × (at < r) × (r ≤ len) ⌝ }
+{
+    if len - at < PIECE {
+        return len;
+    }
+    at + PIECE
+}
+
+// Writes the text of a piece.
+fn put_piece(piece: &[u8], out: &mut [u8], at: usize) -> usize
+    requires { ⌜ at + length (decodeText (now piece)) ≤ length (now out) ⌝ }
+    ensures { λ r. ⌜ Laid (decodeText (now (piece .entry))) (now (out .entry)) at r (now (out .exit)) ⌝ }
+{
+    if is_ascii(piece) {
+        return match copy(piece, out, at) {
+            Put::Next(next) => next,
+            // never: the text fits
+            Put::Full => at,
+        };
+    }
+    put_text(piece, out, at)
+}
+
+// Writes the text of some bytes, which fits, by pieces: each is still near when it is copied after its test.
+fn put_pieces(bytes: &[u8], out: &mut [u8], at: usize) -> usize
+    requires { ⌜ at + length (decodeText (now bytes)) ≤ length (now out) ⌝ }
+    ensures { λ r. ⌜ Laid (decodeText (now (bytes .entry))) (now (out .entry)) at r (now (out .exit)) ⌝ }
+{
+    let mut next = at;
+    let mut i = 0;
+    while i < bytes.len() {
+        let end = piece_end(i, bytes.len());
+        next = put_piece(&bytes[i..end], out, next);
+        i = end;
+    }
+    next
+}
+
 // How many bytes more than one a byte's text takes at most: none for ASCII, one from A0h on, two between.
 fn most_more(byte: u8) -> u8
     ensures { λ r. ⌜ (length (decodeByte byte) ≤ 1 + r) × (r ≤ 2) ⌝ }
@@ -206,12 +250,28 @@ fn fits_in(bytes: &[u8], room: usize) -> bool
     }
 }
 
+// Whether `len` bytes are more than a piece, and from `at` to `end` there is room for three bytes for each of them, so for any text.
+fn is_long_with_room(len: usize, at: usize, end: usize) -> bool
+    ensures { λ r. ⌜ r ≡ ltb 4096 len && (leb at end && leb len ((end - at) / 3)) ⌝ }
+{
+    if len <= PIECE {
+        return false;
+    }
+    if end < at {
+        return false;
+    }
+    len <= (end - at) / 3
+}
+
 // Writes the text of some bytes from `at` on, all of it or nothing. An empty text fits anywhere; ASCII is its own text.
 pub fn decode(bytes: &[u8], out: &mut [u8], at: usize) -> Put
     ensures { λ r. ⌜ Wrote (decodeText (now (bytes .entry))) (now (out .entry)) at r (now (out .exit)) ⌝ }
 {
     if bytes.len() == 0 {
         return Put::Next(at);
+    }
+    if is_long_with_room(bytes.len(), at, out.len()) {
+        return Put::Next(put_pieces(bytes, out, at));
     }
     if is_ascii(bytes) {
         return copy(bytes, out, at);

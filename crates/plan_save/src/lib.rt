@@ -362,7 +362,8 @@ pub fn plan_at(
 
 // Plans the save of the root: adds to our book, from the controller's, every type that the root is made of and our book lacks, and answers
 // whether the memory must be read before it is written. Our book fills the first `len` bytes of the buffer, the controller's the first
-// `theirs` bytes of its own. The index may have any length; four numbers for each type of both books serve well.
+// `theirs` bytes of its own. The index may have any length; eight numbers for each type of both books serve well: half of it is for the
+// controller's book, and half for ours, which may come to have the types of both.
 pub fn plan_save(
     buffer: &mut [u8],
     len: usize,

@@ -1,15 +1,15 @@
 -- The form of one block: one law for each way out of each function. Assumes nothing.
-use mathlib.Core.Path.{_≡_, refl, sym, ap, _∙_}
+use mathlib.Core.Path.{_≡_, sym, ap, _∙_}
 use mathlib.Core.Bool.{Bool, true, false, cond, _&&_, not}
 use mathlib.Core.List.{List}
 use Prim.Native.Nat.{ℕ, _*_, _-_, _≤_, _<_}
 use native.Mathlib.Omega.{arith}
 use lib.ListN.{length, getD, take, drop, length-drop}
-use lib.Seq.{length-take-le, take-all, take-take}
+use lib.Seq.{take-all, take-take}
 use lib.Dec.{eqb, ltb}
-use borrow.Author.Tests.{leb-true, ltb-true, lt-ltb, le-ltb, le-leb, lt-leb, eq-eqb, ne-eqb, not-true, not-false}
+use borrow.Author.Tests.{leb-true, ltb-true, le-leb, lt-leb, eq-eqb, ne-eqb, not-true, not-false}
 use Rattle.enc_number.specs.Le.{leValue}
-use Rattle.type_block_form.specs.Form.{every, isZero, isPrintable, unusedZero, part, nameForm, namesForm, flagsForm, typeForm, fieldForm, entryForm}
+use Rattle.type_block_form.specs.Form.{every, isZero, unusedZero, part, namesForm, flagsForm, typeForm, fieldForm, entryForm}
 use Rattle.type_block_form.proofs.Bytes.{and-left}
 
 module _ (used : ℕ) (part : List ℕ) where
@@ -26,33 +26,6 @@ module _ (used : ℕ) (part : List ℕ) where
   pub unused-room : unusedZero used part ≡ true → used ≤ length part
   unfolding unusedZero
   unused-room e = leb-true used (length part) (and-left _ _ e)
-
-  module _ (t : Bool) (e : t ≡ unusedZero used part) where
-    pub name-long : not t ≡ true → false ≡ nameForm used part
-    unfolding nameForm
-    name-long h = rw (← e, not-true t h)
-
-    pub name-room : not t ≡ false → used ≡ length (take used part)
-    name-room h = sym (length-take-le used part (unused-room (sym e ∙ not-false t h)))
-
-    pub name-rest : not t ≡ false → (r : Bool) → r ≡ every isPrintable (take used part) → r ≡ nameForm used part
-    unfolding nameForm
-    name-rest h r q = rw (← e, not-false t h) q
-
-module _ (b : List ℕ) where
-  module _ (m : ℕ) (e : m ≡ getD b 52 0) (t : Bool) (q : t ≡ nameForm m (part 54 254 b)) where
-    pub names-first : not t ≡ true → false ≡ namesForm b
-    unfolding namesForm
-    names-first h = rw (← e, ← q, not-true t h)
-
-    module _ (n : ℕ) (f : n ≡ getD b 53 0) (u : Bool) (o : u ≡ nameForm n (part 254 454 b)) (g : not t ≡ false) where
-      pub names-second : not u ≡ true → false ≡ namesForm b
-      unfolding namesForm
-      names-second h = rw (← e, ← q, not-false t g, ← f, ← o, not-true u h)
-
-      pub names-rest : not u ≡ false → (r : Bool) → r ≡ every isZero (part 454 508 b) → r ≡ namesForm b
-      unfolding namesForm
-      names-rest h r s = rw (← e, ← q, not-false t g, ← f, ← o, not-false u h) s
 
 -- the flags of a type block, and the one place that opens their form
 pub flags-string : (flags id : ℕ) → id ≡ 30 → ltb flags 64 ≡ flagsForm flags id

@@ -2,3 +2,4 @@
 pub mod Bytes
 pub mod Forms
 mod Sums
+mod NameSums

@@ -9,14 +9,15 @@ use lib.Dec.{eqb, lit≤}
 use Rattle.enc_number.specs.Le.{leValue}
 use Rattle.type_block_form.specs.Form.{sumOf, sumRight}
 
-module _ (b : List ℕ) (h : length b ≡ 512) where
-  pub sum-head : 254 ≡ length (take 254 b)
-  sum-head = sym (length-take-le 254 b (omega arith))
+-- a head of at most half a block, as the code cuts it
+module _ (b : List ℕ) (h : length b ≡ 512) (n : ℕ) (l : n ≤ 254) where
+  pub sum-head : n ≡ length (take n b)
+  sum-head = sym (length-take-le n b (omega arith))
 
-  pub sum-short : length (take 254 b) ≤ 254
+  pub sum-short : length (take n b) ≤ 254
   sum-short = omega (arith, sum-head)
 
-sum-append : (xs ys : List ℕ) → sumOf (xs ++ ys) ≡ sumOf xs + sumOf ys
+pub sum-append : (xs ys : List ℕ) → sumOf (xs ++ ys) ≡ sumOf xs + sumOf ys
 unfolding sumOf
 sum-append [] ys = omega arith
 sum-append (x ∷ xs) ys = omega (arith, sum-append xs ys)

@@ -1,9 +1,11 @@
 // One block of a type book: its sum (refusal 2) and the bytes that its kind allows (refusal 3). These functions are for the check of a
-// whole book, which knows that a block has 512 bytes.
+// whole book, which knows that a block has 512 bytes, and asks for the form of those alone that hold their sum.
 ghost use mathlib.Core.Path.{_≡_};
+ghost use mathlib.Core.Bool.{true};
 ghost use Prim.Native.Nat.{_≤_, _<_};
 ghost use lib.ListN.{length};
-ghost use Rattle.type_block_form.specs.Form.{sumOf, sumRight, every, isZero, isPrintable, unusedZero, nameForm, namesForm, flagsForm, typeForm, fieldForm, entryForm};
+ghost use Rattle.type_block_form.specs.Form.{sumOf, sumRight, every, isZero, isPrintable, unusedZero, namesForm, flagsForm, typeForm, fieldForm, entryForm};
+ghost use Rattle.type_block_form.specs.Names.{nameSumOf};
 use enc_ascii::higher;
 use enc_number::le::le_u32;
 
@@ -85,28 +87,50 @@ fn unused_zero(part: &[u8], used: usize) -> bool
     all_zero(&part[used..])
 }
 
-// A name fills the first `len` bytes of its part, and zeros the rest.
-fn name_form(part: &[u8], len: usize) -> bool
-    ensures { λ r. ⌜ r ≡ nameForm len (now (part .entry)) ⌝ }
-{
-    if !unused_zero(part, len) {
-        return false;
-    }
-    all_printable(&part[..len])
+// What the bytes of a name add up to, if each of them may stand in a name.
+enum NameSum {
+    Of(usize),
+    Wrong,
 }
 
-// Bytes 52 to 507, which the three kinds share.
+// The bytes of a name are tested and added up in one pass.
+fn name_sum(name: &[u8]) -> NameSum
+    requires { ⌜ length (now name) ≤ 200 ⌝ }
+    ensures { λ r. ⌜ r ≡ nameSumOf (now (name .entry)) ⌝ }
+{
+    let mut total = 0;
+    let mut i = 0;
+    while i < name.len() {
+        if !is_printable(name[i]) {
+            return NameSum::Wrong;
+        }
+        total += wide(name[i]);
+        i += 1;
+    }
+    NameSum::Of(total)
+}
+
+// Bytes 52 to 507, which the three kinds share, of a block that holds its sum: what the head and the two names leave of the sum is 0, so
+// every byte past them is. That spares a look at the zeros, which are most of a block.
 fn names_form(block: &[u8]) -> bool
-    requires { ⌜ length (now block) ≡ 512 ⌝ }
+    requires { ⌜ (length (now block) ≡ 512) × (sumRight (now block) ≡ true) ⌝ }
     ensures { λ r. ⌜ r ≡ namesForm (now (block .entry)) ⌝ }
 {
-    if !name_form(&block[54..254], wide(block[52])) {
+    let n = wide(block[52]);
+    if n > 200 {
         return false;
     }
-    if !name_form(&block[254..454], wide(block[53])) {
+    let NameSum::Of(of_name) = name_sum(&block[54..54 + n]) else {
+        return false;
+    };
+    let t = wide(block[53]);
+    if t > 200 {
         return false;
     }
-    all_zero(&block[454..508])
+    let NameSum::Of(of_type_name) = name_sum(&block[254..254 + t]) else {
+        return false;
+    };
+    le_u32(&block[508..512]) as usize == sum(&block[..54]) as usize + of_name + of_type_name
 }
 
 // The flags of a type block: five bits, and a sixth that marks a STRING (id 30) as UTF-8.
@@ -120,7 +144,7 @@ fn flags_form(flags: u8, id: u32) -> bool
 }
 
 pub fn type_form(block: &[u8]) -> bool
-    requires { ⌜ length (now block) ≡ 512 ⌝ }
+    requires { ⌜ (length (now block) ≡ 512) × (sumRight (now block) ≡ true) ⌝ }
     ensures { λ r. ⌜ r ≡ typeForm (now (block .entry)) ⌝ }
 {
     if block[0] != 1 {
@@ -142,7 +166,7 @@ pub fn type_form(block: &[u8]) -> bool
 }
 
 pub fn field_form(block: &[u8]) -> bool
-    requires { ⌜ length (now block) ≡ 512 ⌝ }
+    requires { ⌜ (length (now block) ≡ 512) × (sumRight (now block) ≡ true) ⌝ }
     ensures { λ r. ⌜ r ≡ fieldForm (now (block .entry)) ⌝ }
 {
     if block[0] != 2 {
@@ -158,7 +182,7 @@ pub fn field_form(block: &[u8]) -> bool
 }
 
 pub fn entry_form(block: &[u8]) -> bool
-    requires { ⌜ length (now block) ≡ 512 ⌝ }
+    requires { ⌜ (length (now block) ≡ 512) × (sumRight (now block) ≡ true) ⌝ }
     ensures { λ r. ⌜ r ≡ entryForm (now (block .entry)) ⌝ }
 {
     if block[0] != 3 {

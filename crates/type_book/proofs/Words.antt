@@ -14,7 +14,6 @@ use Rattle.enc_number.specs.Le.{Bytes, leValue, leBytes}
 use Rattle.enc_number.proofs.ByteOrder.{leBytes-leValue, bytes-of, bytes-drop}
 use Rattle.type_book.specs.Book.{sameName}
 use Rattle.type_book.proofs.Names.{same-refl, same-eq, eq-same, other-name}
-use Rattle.type_book.proofs.Parts.{after-in}
 
 -- ---- eight bytes
 
@@ -38,15 +37,15 @@ module _ (a b : List ℕ) (i : ℕ) (h : (i + 8 ≤ length a) × (i + 8 ≤ leng
   number-same q = sym (word-bytes a i (h .0) (bytes-of a fa)) ∙ ap (leBytes 8) q ∙ word-bytes b i (h .1) (bytes-of b fb)
 
   -- they are the same exactly if their numbers are
-  pub same-number : (x y : ℕ) → x ≡ leValue (take 8 (take (length a - i) (drop i a))) → y ≡ leValue (take 8 (take (length b - i) (drop i b)))
+  pub same-number : (x y : ℕ) → x ≡ leValue (take 8 (take (i + 8 - i) (drop i a))) → y ≡ leValue (take 8 (take (i + 8 - i) (drop i b)))
       → eqb x y ≡ sameName (take 8 (drop i a)) (take 8 (drop i b))
   same-number x y ex ey = by (eqb x y) refl
     where
       p : x ≡ leValue (take 8 (drop i a))
-      p = ex ∙ rw (after-in a i (omega arith))
+      p = ex ∙ rw (take-take 8 (i + 8 - i) (drop i a) (omega arith))
 
       q : y ≡ leValue (take 8 (drop i b))
-      q = ey ∙ rw (after-in b i (omega arith))
+      q = ey ∙ rw (take-take 8 (i + 8 - i) (drop i b) (omega arith))
 
       by : (t : Bool) → eqb x y ≡ t → t ≡ sameName (take 8 (drop i a)) (take 8 (drop i b))
       by true e = sym (eq-same _ _ (number-same (sym p ∙ eqb-true x y e ∙ q)))

@@ -206,12 +206,13 @@ fn same_bytes(a: &[u8], b: &[u8]) -> bool
     true
 }
 
-// Whether the eight bytes from place i on are the same, compared as one number.
+// Whether the eight bytes from place i on are the same, compared as one number. The parts have eight bytes and no more, so that each is one
+// load.
 fn same_word(a: &[u8], b: &[u8], i: usize) -> bool
     requires { ⌜ (i + 8 ≤ length (now a)) × (i + 8 ≤ length (now b)) ⌝ }
     ensures { λ r. ⌜ r ≡ sameName (take 8 (drop i (now (a .entry)))) (take 8 (drop i (now (b .entry)))) ⌝ }
 {
-    le_value(&a[i..]) == le_value(&b[i..])
+    le_value(&a[i..i + 8]) == le_value(&b[i..i + 8])
 }
 
 // Whether two names are the same bytes. Longer ones are compared by eight bytes; the last eight may overlap those before.

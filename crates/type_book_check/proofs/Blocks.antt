@@ -39,6 +39,11 @@ module _ (book : List ℕ) (i : ℕ) (s : List ℕ) (e : s ≡ blockOf book i) (
   unfolding sumAt
   sum-holds h = rw (← e, ← q) (not-false t h)
 
+-- the block of a place, as the code cuts it, holds its sum
+pub sum-there : (book : List ℕ) (i : ℕ) (s : List ℕ) → s ≡ blockOf book i → sumAt book i ≡ true → sumRight s ≡ true
+unfolding sumAt
+sum-there book i s e h = rw e h
+
 -- refusal 3
 module _ (book : List ℕ) (n f e : ℕ) (s : List ℕ) (q : s ≡ blockOf book n) (t : Bool) where
   module _ (l : 0 < f) (o : t ≡ fieldForm s) where

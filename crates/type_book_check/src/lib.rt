@@ -1,11 +1,12 @@
 // The check of a type book: refusals 1 to 5 of document 01 and 23, for all bytes. All of a refusal's tests come before all of the
 // next one's, over the whole book.
 ghost use mathlib.Core.Path.{_≡_};
+ghost use mathlib.Core.Bool.{true};
 ghost use Prim.Native.Nat.{_≤_, _<_};
 ghost use lib.ListN.{length};
 ghost use Rattle.enc_number.specs.Answer.{refusalOf};
 ghost use Rattle.type_book.specs.Book.{blocks as blocksOf, blockOf};
-ghost use Rattle.type_book_check.specs.Check.{sizeRight, sums, placeOf, misplacedScan, scanOf, checkBook, bookNumbers, rootNumbers, rootOf, checkRoot};
+ghost use Rattle.type_book_check.specs.Check.{sizeRight, sumAt, sums, placeOf, misplacedScan, scanOf, checkBook, bookNumbers, rootNumbers, rootOf, checkRoot};
 ghost use Rattle.type_book_check.specs.Given.{name as byName, isRootName, givenRoot, givenNumbers, checkGiven};
 use type_block_form::all_printable;
 use type_block_form::entry_form;
@@ -89,9 +90,9 @@ fn sums_right(book: &[u8]) -> bool
     true
 }
 
-// Holds block n against its place. The two counts may be any u32: they are counted down, and never added.
+// Holds block n, whose sum is right, against its place. The two counts may be any u32: they are counted down, and never added.
 fn due_after(book: &[u8], n: u32, fields: u32, entries: u32) -> Place
-    requires { ⌜ n < blocksOf (now book) ⌝ }
+    requires { ⌜ (n < blocksOf (now book)) × (sumAt (now book) n ≡ true) ⌝ }
     ensures { λ r. ⌜ r ≡ placeOf (now (book .entry)) n fields entries ⌝ }
 {
     let block = block_at(book, n);

@@ -6,8 +6,8 @@ use Prim.Native.Nat.{ℕ, zero, suc, _+_, _-_, _*_, _/_, _%_, _^_, _≤_, _<_}
 use native.Mathlib.Omega.{arith}
 use native.Mathlib.Nat.{div-self, zero-div, div-eq-of-lt, mul-div-cancel, mul-mod-left, mod-lt, mod-eq-of-lt, mul-le-mul-right, pow-suc}
 use borrow.Author.Tests.{eqb-true, eqb-false, ltb-true, ltb-false, not-true, not-false}
-use lib.ListN.{length, getD, set, take, drop, length-set, length-drop, List·getD-eq-default}
-use lib.Seq.{getD-set-same, getD-set-other, take-all}
+use lib.ListN.{length, getD, set, take, drop, length-set, List·getD-eq-default}
+use lib.Seq.{getD-set-same, getD-set-other, take-take}
 use lib.Bits.{bitOr, bitXor, or-shr, or-mod}
 use lib.Pow.{pow-pos, pow-lt, pow-add}
 use lib.Dec.{eqb, ltb}
@@ -29,9 +29,10 @@ pub joined-is : (h : ℕ) (part : List ℕ) (v : ℕ) → v ≡ leValue (take 8 
 unfolding joinedOf
 joined-is h part v ev m em = em ∙ rw ev
 
--- the part from place i on, as the code cuts it
-rest : (name : List ℕ) (i : ℕ) → take (length name - i) (drop i name) ≡ drop i name
-rest name i = take-all (length name - i) (drop i name) (simp length-drop (omega arith))
+-- a part of w bytes, as the code cuts it: more than eight are not joined
+cut : (h w : ℕ) (part : List ℕ) → 8 ≤ w → joinedOf h (take w part) ≡ joinedOf h part
+unfolding joinedOf
+cut h w part l = rw (take-take 8 w part l)
 
 module _ (name : List ℕ) (n : ℕ) (en : n ≡ length name) where
   pub hash-short : n < 8 → (m : ℕ) → m ≡ joinedOf n name → (r : ℕ) → r ≡ foldedOf m → r ≡ hashOf name
@@ -46,18 +47,18 @@ module _ (name : List ℕ) (n k : ℕ) where
   parts-start = let z : k - 0 ≡ k = omega arith in rw z
 
   module _ (i h : ℕ) (inv : withParts name h i (k - i) ≡ withParts name n 0 k) where
-    pub parts-again : i < k → (m : ℕ) → m ≡ joinedOf h (take (length name - 8 * i) (drop (8 * i) name)) → withParts name m (i + 1) (k - (i + 1)) ≡ withParts name n 0 k
+    pub parts-again : i < k → (at : ℕ) → at ≡ 8 * i → (m : ℕ) → m ≡ joinedOf h (take (at + 8 - at) (drop at name)) → withParts name m (i + 1) (k - (i + 1)) ≡ withParts name n 0 k
     unfolding withParts
-    parts-again l m em =
+    parts-again l at ea m em =
         let z : k - i ≡ suc (k - (i + 1)) = omega arith in
-        rw (em, rest name (8 * i)) (rw z at inv)
+        rw (em, cut h (at + 8 - at) (drop at name) (omega arith), ea) (rw z at inv)
 
-    pub hash-end : n ≡ length name → k ≡ n / 8 → k ≤ i → (m : ℕ) → m ≡ joinedOf h (take (length name - (n - 8)) (drop (n - 8) name)) → (r : ℕ) → r ≡ foldedOf m → r ≡ hashOf name
+    pub hash-end : n ≡ length name → k ≡ n / 8 → k ≤ i → 8 ≤ n → (m : ℕ) → m ≡ joinedOf h (take (n - (n - 8)) (drop (n - 8) name)) → (r : ℕ) → r ≡ foldedOf m → r ≡ hashOf name
     unfolding hashOf withParts
-    hash-end en ek l m em r er =
+    hash-end en ek l g m em r er =
         let z : k - i ≡ 0 = omega arith in
         let x : h ≡ withParts name n 0 k = (rw z at inv) in
-        er ∙ ap foldedOf (em ∙ rw (rest name (n - 8), x, ek, en))
+        er ∙ ap foldedOf (em ∙ cut h (n - (n - 8)) (drop (n - 8) name) (omega arith) ∙ rw (x, ek, en))
 
 -- ---- a bit
 

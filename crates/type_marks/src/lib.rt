@@ -29,7 +29,8 @@ fn joined(h: u64, part: &[u8]) -> u64
     mixed(h ^ le_value(part))
 }
 
-// The hash of a name, by eight bytes at a time; the last eight may overlap those before.
+// The hash of a name, by eight bytes at a time; the last eight may overlap those before. A part has eight bytes and no more, so that it is one
+// load.
 pub fn hash(name: &[u8]) -> u32
     ensures { λ r. ⌜ r ≡ hashOf (now (name .entry)) ⌝ }
 {
@@ -41,10 +42,11 @@ pub fn hash(name: &[u8]) -> u32
     let mut h = n as u64;
     let mut i = 0;
     while i < k {
-        h = joined(h, &name[8 * i..]);
+        let at = 8 * i;
+        h = joined(h, &name[at..at + 8]);
         i += 1;
     }
-    folded(joined(h, &name[n - 8..]))
+    folded(joined(h, &name[n - 8..n]))
 }
 
 // ---- bits

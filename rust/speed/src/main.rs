@@ -113,7 +113,7 @@ fn plan(what: &str, rounds: usize, ours: &[u8], controller: &[u8]) {
         TypeBook::new(controller, WIDTH).expect("valid"),
     );
     let types = mine.types().count() + whole.types().count();
-    let (mut scratch, mut index) = (vec![0; 8_192], vec![0; 4 * types]);
+    let (mut scratch, mut index) = (vec![0; 8_192], vec![0; 8 * types]);
     let (mut scratches, mut indexes, mut values, mut wanted) = (scratch.clone(), index.clone(), [0; 2], [1; 2]);
     let t = turns(
         rounds,

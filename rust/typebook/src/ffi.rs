@@ -792,7 +792,7 @@ pub mod total {
 
     /// Completes our book, in the first `len` bytes of the buffer, by types of the controller's, in the first `theirs` bytes of its own,
     /// and decides. Values: 1 if the memory must be read before it is written, else 0, and our book's new length; with 7 the block and that
-    /// length; with any other refusal that length alone. The index may have any length; four numbers for each type of both books
+    /// length; with any other refusal that length alone. The index may have any length; eight numbers for each type of both books
     /// serve well.
     #[allow(clippy::too_many_arguments)]
     pub fn plan_save(

@@ -109,7 +109,8 @@ impl TypeBook<'_> {
         // Each type of the controller's is added once at most.
         let mut buffer = vec![0; old + theirs.len()];
         buffer[..old].copy_from_slice(self.bytes());
-        let mut index = vec![0; self.slots() + controller.slots()];
+        // Half of it is for the controller's book, and half for ours, which may come to have the types of both.
+        let mut index = vec![0; 2 * (self.slots() + controller.slots())];
         let (mut scratch, mut values) = (vec![0; SCRATCH], [0; 2]);
         let (b, s, i, v) = (&mut buffer, &mut scratch, &mut index, &mut values);
         let (all, width) = (theirs.len(), self.width());

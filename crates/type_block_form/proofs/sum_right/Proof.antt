@@ -20,10 +20,10 @@ le-u32-requires : tie.Need-le-u32-requires
 le-u32-requires c κs = search needs
 
 slice-aggregate-sum : tie.Need-slice-aggregate-sum
-slice-aggregate-sum cNone = search sum-head
+slice-aggregate-sum cNone = search (sum-head, needs)
 
 sum-requires : tie.Need-sum-requires
-sum-requires c κs = search sum-short
+sum-requires c κs = search (sum-short, needs)
 
 sub-sum : tie.Need-sub-sum
 sub-sum c = search needs

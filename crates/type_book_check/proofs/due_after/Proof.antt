@@ -1,4 +1,4 @@
-use Rattle.type_book_check.proofs.Blocks.{place-field, place-no-field, place-entry, place-no-entry, place-type, place-no-type}
+use Rattle.type_book_check.proofs.Blocks.{sum-there, place-field, place-no-field, place-entry, place-no-entry, place-type, place-no-type}
 use borrow.Author.Needs.{needs}
 use Rattle.type_book_check.proofs.due_after.Statement.{statement}
 use Rattle.type_book_check.proofs.due_after.Tie as tie
@@ -7,7 +7,7 @@ block-at-requires : tie.Need-block-at-requires
 block-at-requires c κs = search needs
 
 field-form-requires : tie.Need-field-form-requires
-field-form-requires c κs = search needs
+field-form-requires c κs = search (sum-there, needs)
 
 sub-t8 : tie.Need-sub-t8
 sub-t8 c = search needs
@@ -19,7 +19,7 @@ returns-2 : tie.Need-returns-2
 returns-2 c = search place-no-field
 
 entry-form-requires : tie.Need-entry-form-requires
-entry-form-requires c κs = search needs
+entry-form-requires c κs = search (sum-there, needs)
 
 sub-t10 : tie.Need-sub-t10
 sub-t10 c = search needs
@@ -31,7 +31,7 @@ returns-4 : tie.Need-returns-4
 returns-4 c = search place-no-entry
 
 type-form-requires : tie.Need-type-form-requires
-type-form-requires c κs = search needs
+type-form-requires c κs = search (sum-there, needs)
 
 fields-requires : tie.Need-fields-requires
 fields-requires c κs = search needs

@@ -33,7 +33,7 @@ returns : tie.Need-returns Inv-loop μ-loop
 returns c = search (scan-sum, all-stop, sum-fails)
 
 due-after-requires : tie.Need-due-after-requires Inv-loop μ-loop
-due-after-requires c κs = search needs
+due-after-requires c κs = search (sum-holds, needs)
 
 enum-known-f : tie.Need-enum-known-f Inv-loop μ-loop
 enum-known-f c = search needs
