@@ -104,51 +104,45 @@ module _ (n : ℕ) (bytes : List ℕ) (h : length bytes ≡ 200) where
 -- ---- the two names of a block
 
 module _ (b : List ℕ) (h : length b ≡ 512) where
-  name-room : length (part 54 254 b) ≡ 200
-  name-room = length-take-le 200 (drop 54 b) (simp length-drop (omega arith))
+  -- the 200 bytes from byte f on that a name may fill, and a name in them as the code cuts it
+  room : (f : ℕ) → f ≤ 312 → length (take 200 (drop f b)) ≡ 200
+  room f l = length-take-le 200 (drop f b) (simp length-drop (omega arith))
 
-  type-name-room : length (part 254 454 b) ≡ 200
-  type-name-room = length-take-le 200 (drop 254 b) (simp length-drop (omega arith))
-
-  -- a name as the code cuts it
-  name-cut : (n : ℕ) → n ≤ 200 → take (54 + n - 54) (drop 54 b) ≡ take n (part 54 254 b)
-  name-cut n l = let z : 54 + n - 54 ≡ n = omega arith in rw z (sym (take-take n 200 (drop 54 b) l))
-
-  type-name-cut : (n : ℕ) → n ≤ 200 → take (254 + n - 254) (drop 254 b) ≡ take n (part 254 454 b)
-  type-name-cut n l = let z : 254 + n - 254 ≡ n = omega arith in rw z (sym (take-take n 200 (drop 254 b) l))
+  name-cut : (f n : ℕ) → n ≤ 200 → take (f + n - f) (drop f b) ≡ take n (take 200 (drop f b))
+  name-cut f n l = let z : f + n - f ≡ n = omega arith in rw z (sym (take-take n 200 (drop f b) l))
 
   module _ (n : ℕ) (en : n ≡ getD b 52 0) where
     pub name-long : 200 < n → false ≡ namesForm b
     unfolding namesForm
-    name-long l = rw (← en, form-long n (part 54 254 b) name-room l)
+    name-long l = rw (← en, form-long n (part 54 254 b) (room 54 (omega arith)) l)
 
     module _ (l : n ≤ 200) (r : NameSum) (er : r ≡ nameSumOf (take (54 + n - 54) (drop 54 b))) where
       pub name-wrong : r ≡ Wrong → false ≡ namesForm b
       unfolding namesForm
-      name-wrong q = rw (← en, form-wrong n (part 54 254 b) name-room (said-wrong _ (ap nameSumOf (sym (name-cut n l)) ∙ sym er ∙ q)))
+      name-wrong q = rw (← en, form-wrong n (part 54 254 b) (room 54 (omega arith)) (said-wrong _ (ap nameSumOf (sym (name-cut 54 n l)) ∙ sym er ∙ q)))
 
       module _ (a : ℕ) (q : r ≡ Of a) (t : ℕ) (et : t ≡ getD b 53 0) where
         first : nameForm n (part 54 254 b) ≡ eqb (sumOf (drop n (part 54 254 b))) 0
-        first = form-right n (part 54 254 b) name-room l (said-letters _ a (ap nameSumOf (sym (name-cut n l)) ∙ sym er ∙ q))
+        first = form-right n (part 54 254 b) (room 54 (omega arith)) l (said-letters _ a (ap nameSumOf (sym (name-cut 54 n l)) ∙ sym er ∙ q))
 
         pub type-name-long : 200 < t → false ≡ namesForm b
         unfolding namesForm
-        type-name-long k = rw (← en, ← et, form-long t (part 254 454 b) type-name-room k) (sym (and-no (nameForm n (part 54 254 b))))
+        type-name-long k = rw (← en, ← et, form-long t (part 254 454 b) (room 254 (omega arith)) k) (sym (and-no (nameForm n (part 54 254 b))))
 
         module _ (k : t ≤ 200) (u : NameSum) (eu : u ≡ nameSumOf (take (254 + t - 254) (drop 254 b))) where
           pub type-name-wrong : u ≡ Wrong → false ≡ namesForm b
           unfolding namesForm
-          type-name-wrong p = rw (← en, ← et, form-wrong t (part 254 454 b) type-name-room (said-wrong _ (ap nameSumOf (sym (type-name-cut t k)) ∙ sym eu ∙ p))) (sym (and-no (nameForm n (part 54 254 b))))
+          type-name-wrong p = rw (← en, ← et, form-wrong t (part 254 454 b) (room 254 (omega arith)) (said-wrong _ (ap nameSumOf (sym (name-cut 254 t k)) ∙ sym eu ∙ p))) (sym (and-no (nameForm n (part 54 254 b))))
 
           module _ (c : ℕ) (p : u ≡ Of c) (right : sumRight b ≡ true) (s f : ℕ) (es : s ≡ leValue (take 4 (take 4 (drop 508 b)))) (ef : f ≡ sumOf (take 54 b)) where
             second : nameForm t (part 254 454 b) ≡ eqb (sumOf (drop t (part 254 454 b))) 0
-            second = form-right t (part 254 454 b) type-name-room k (said-letters _ c (ap nameSumOf (sym (type-name-cut t k)) ∙ sym eu ∙ p))
+            second = form-right t (part 254 454 b) (room 254 (omega arith)) k (said-letters _ c (ap nameSumOf (sym (name-cut 254 t k)) ∙ sym eu ∙ p))
 
             of-name : a ≡ sumOf (take n (part 54 254 b))
-            of-name = said-sum _ a (ap nameSumOf (sym (name-cut n l)) ∙ sym er ∙ q)
+            of-name = said-sum _ a (ap nameSumOf (sym (name-cut 54 n l)) ∙ sym er ∙ q)
 
             of-type-name : c ≡ sumOf (take t (part 254 454 b))
-            of-type-name = said-sum _ c (ap nameSumOf (sym (type-name-cut t k)) ∙ sym eu ∙ p)
+            of-type-name = said-sum _ c (ap nameSumOf (sym (name-cut 254 t k)) ∙ sym eu ∙ p)
 
             held : s ≡ sumOf (take 508 b)
             unfolding sumRight
