@@ -1,6 +1,8 @@
 // Reads `book.bin` and `mem.bin` of the current folder and prints the values of the memory, or the number of the refusal
 // (document 01, "Program `adswalk`"). `printout::print` makes the lines. By its contract the buffer is never too short for them, so the
 // early return never runs.
+#![tactic(auto)]
+
 mod files;
 
 use enc_utf_8::Put;

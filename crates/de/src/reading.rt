@@ -2,7 +2,7 @@
 use de_leaf_output::Typed;
 
 // A value of a type, the pointer width, and the levels left.
-#[derive(Drop)]
+#[derive(Clone, Copy)]
 pub struct Reading {
     pub typed: Typed,
     pub width: u8,
@@ -10,7 +10,7 @@ pub struct Reading {
 }
 
 // A field's block, and its entry of a plan.
-#[derive(Drop)]
+#[derive(Clone, Copy)]
 pub struct Member {
     pub f: u32,
     pub entry: u64,
@@ -19,7 +19,7 @@ pub struct Member {
 }
 
 // Dimension d of array t, the block that its record declares, and the type of the array's elements.
-#[derive(Drop)]
+#[derive(Clone, Copy)]
 pub struct Place {
     pub named: u32,
     pub d: u8,
@@ -31,7 +31,7 @@ pub struct Place {
 
 // What a field is in the bytes of its struct: its type, and the bytes from the first number up to the second; or the refusal, document
 // 01's number and the block that 7 carries (else 0).
-#[derive(Drop)]
+#[derive(Clone, Copy)]
 pub enum Part {
     Value(Typed, usize, usize),
     Stop(u8, u32),

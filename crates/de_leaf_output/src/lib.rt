@@ -1,4 +1,6 @@
 // What a leaf puts on the tape: one record, one text, or a refusal.
+#![tactic(auto)]
+
 ghost use Rattle.std.specs.Prelude.{◌≡◌, cond, ◌+◌, ◌<◌, take};
 ghost use Rattle.type_book.specs.Book.{fields_of, entries_of};
 ghost use Rattle.type_category.specs.Category.{category_of};
@@ -17,7 +19,7 @@ use type_category::type_category::AdsTypeCategory;
 pub mod number;
 
 // A type: its block as it was named, the block that its aliases resolve to, and the category of that.
-#[derive(Drop)]
+#[derive(Clone, Copy)]
 pub struct Typed {
     pub named: u32,
     pub resolved: u32,
@@ -64,7 +66,7 @@ fn end_byte(end: TextEnd) -> u8
 }
 
 // How a leaf's value goes on the tape: as one record, as a text (byte 1 of its record, its decoder, the number of its bytes), or not at all.
-#[derive(Drop)]
+#[derive(Clone, Copy)]
 pub enum LeafForm {
     Record(Record),
     Text(u8, Decoder, usize),

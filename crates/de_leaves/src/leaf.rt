@@ -15,7 +15,7 @@ use type_provider::Found;
 use validators::{Validity, validate_exact_size};
 
 // A real has cases of its own; a NaN's keeps its bits.
-#[derive(Drop)]
+#[derive(Clone, Copy)]
 pub enum LeafValue {
     // Width in bytes, and the two's complement of 64 bits.
     Signed(u8, u64),
@@ -35,7 +35,7 @@ pub enum LeafValue {
 }
 
 // How a leaf is read.
-#[derive(Drop)]
+#[derive(Clone, Copy)]
 pub enum LeafKind {
     Number,
     Text,

@@ -1,4 +1,6 @@
 // The steps of a read: where the next record and the next text byte go, or the refusal that ended it.
+#![tactic(auto)]
+
 ghost use Rattle.std.specs.Prelude.{◌≡◌, ◌+◌, ◌-◌, ◌≤◌, leb, length};
 ghost use Rattle.enc_utf_8.specs.Buffer.{Wrote};
 ghost use Rattle.tape.specs.Record.{new_record, declaring, record_bytes};
@@ -11,7 +13,7 @@ use enc_utf_8::Put;
 use enc_zeros::clear_bytes;
 use tape::record::{LENGTH, Record, TEXT};
 
-#[derive(Drop)]
+#[derive(Clone, Copy)]
 pub enum Step {
     // The next place on the tape, and in the text.
     Next(usize, usize),
@@ -20,7 +22,7 @@ pub enum Step {
 }
 
 // What a read answers: the number of records and of text bytes; or document 01's number, with the block that 7 carries.
-#[derive(Drop)]
+#[derive(Clone, Copy)]
 pub enum ReadAnswer {
     Done(usize, usize),
     NotFound(u32),

@@ -1,5 +1,7 @@
 // ASCII, which is the same in UTF-8 and Windows-1252: told without a branch for each byte, and copied. The decoders go by blocks of at most 64 bytes, of
 // which one that is ASCII throughout is only copied.
+#![tactic(auto)]
+
 ghost use Rattle.std.specs.Prelude.{◌≡◌, cond, ◌+◌, ◌<◌, ◌≤◌, ltb};
 ghost use Rattle.enc_utf_8.specs.Buffer.{Wrote};
 ghost use Rattle.enc_ascii.specs.Ascii.{is_ascii, block_end};

@@ -1,4 +1,6 @@
 // Reals in memory (IEEE 754): little-endian, of 4 or 8 bytes.
+#![tactic(auto)]
+
 ghost use Rattle.std.specs.Prelude.{◌≡◌};
 ghost use Rattle.enc_float.specs.Float.{real_width, single_of, double_of, real_of, real_bits, real_size, real_read_numbers, read_real, RealWritten};
 
@@ -6,7 +8,7 @@ use enc_number::le::{le_store, le_value};
 use type_id::AdsTypeId;
 
 // A real of 4 or 8 bytes. A float doesn't keep the bits of a NaN, so they have a case of their own.
-#[derive(Drop)]
+#[derive(Clone, Copy)]
 pub enum Real {
     Single(f32),
     Double(f64),
@@ -14,7 +16,7 @@ pub enum Real {
     NanDouble(u64),
 }
 
-#[derive(Drop)]
+#[derive(Clone, Copy)]
 pub enum RealRead {
     Value(Real),
     // The slice isn't as long as the id's width.
@@ -23,7 +25,7 @@ pub enum RealRead {
     Unsupported,
 }
 
-#[derive(Drop)]
+#[derive(Clone, Copy)]
 pub enum RealWrite {
     Done,
     // The buffer isn't as long as the real.

@@ -1,4 +1,6 @@
 // Integers in memory (IEC 61131-3): little-endian, the signed ones in two's complement.
+#![tactic(auto)]
+
 ghost use Rattle.std.specs.Prelude.{◌≡◌, ◌+◌, ◌*◌, ◌^◌, ◌≤◌, ◌<◌};
 ghost use Rattle.type_id.specs.TypeId.{id_width, id_signed};
 ghost use Rattle.enc_integer.specs.Integer.{twos_complement, twos_bits, integer_value, fits_signed, fits_unsigned, fits_id, pattern_of, integer_read_numbers, read_integer, IntegerWritten};
@@ -10,13 +12,13 @@ use type_id::AdsTypeId;
 const MAX: u64 = 0xFFFF_FFFF_FFFF_FFFF;
 
 // An integer with its width in bytes. A signed one holds its two's complement of 64 bits.
-#[derive(Drop)]
+#[derive(Clone, Copy)]
 pub enum Integer {
     Signed(u8, u64),
     Unsigned(u8, u64),
 }
 
-#[derive(Drop)]
+#[derive(Clone, Copy)]
 pub enum IntegerRead {
     Value(Integer),
     // The slice isn't as long as the id's width.
@@ -25,7 +27,7 @@ pub enum IntegerRead {
     Unsupported,
 }
 
-#[derive(Drop)]
+#[derive(Clone, Copy)]
 pub enum IntegerWrite {
     Done,
     // The value is outside the id's range.

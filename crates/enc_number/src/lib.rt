@@ -1,2 +1,4 @@
 // Numbers in memory: their byte order.
+#![tactic(auto)]
+
 pub mod le;

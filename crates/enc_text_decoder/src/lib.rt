@@ -1,11 +1,13 @@
 // The decoders of texts: where a text ends, and its bytes in UTF-8.
+#![tactic(auto)]
+
 ghost use Rattle.std.specs.Prelude.{◌≡◌};
 ghost use Rattle.enc_utf_8.specs.Buffer.{Wrote};
 ghost use Rattle.enc_text_decoder.specs.Text.{end_by, decoded_by};
 
 use enc_utf_8::{Put, TextEnd};
 
-#[derive(Drop)]
+#[derive(Clone, Copy)]
 pub enum Decoder {
     Windows1252,
     Utf16,

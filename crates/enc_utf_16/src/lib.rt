@@ -1,5 +1,7 @@
 // UTF-16LE, the encoding of a WSTRING: its definitions, and where its text ends. The decoder and the encoder stand in crates of
 // their own.
+#![tactic(auto)]
+
 ghost use Rattle.std.specs.Prelude.{◌≡◌, ◌&&◌, eqb};
 ghost use Rattle.enc_utf_16.specs.WString.{wstring_end};
 

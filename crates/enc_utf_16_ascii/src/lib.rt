@@ -1,5 +1,7 @@
 // ASCII in UTF-16LE: most text is ASCII, and blocks of 32 code units of it are told and copied at once.
 // These functions are for the decoder alone, which knows that their `requires` hold.
+#![tactic(auto)]
+
 ghost use Rattle.std.specs.Prelude.{◌≡◌, true, ◌+◌, ◌<◌, ◌≤◌, length};
 ghost use Rattle.enc_utf_8.specs.Buffer.{Wrote};
 ghost use Rattle.enc_utf_16_ascii.specs.Ascii16.{AsciiUnits, lows};

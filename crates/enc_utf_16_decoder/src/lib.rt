@@ -1,4 +1,6 @@
 // The UTF-16LE decoder: the text of a WSTRING to UTF-8.
+#![tactic(auto)]
+
 ghost use Rattle.std.specs.Prelude.{◌≡◌, ◌+◌, ◌≤◌, ◌<◌, length, drop, leb};
 ghost use Rattle.enc_utf_8.specs.Utf8.{utf8_of};
 ghost use Rattle.enc_utf_8.specs.Buffer.{Wrote, room_for};
@@ -12,14 +14,14 @@ use enc_utf_16_ascii::{ascii_block, copy_units};
 use enc_utf_16_scalar::scalar_16;
 
 // A place in the bytes that are read, and the one in the buffer that belongs to it.
-#[derive(Drop)]
+#[derive(Clone, Copy)]
 struct Places {
     from: usize,
     to: usize,
 }
 
 // How many bytes something takes, and the place after it.
-#[derive(Drop)]
+#[derive(Clone, Copy)]
 struct Measured {
     size: usize,
     next: usize,

@@ -1,4 +1,6 @@
 // The UTF-16LE encoder: UTF-8 to the text of a WSTRING.
+#![tactic(auto)]
+
 ghost use Rattle.std.specs.Prelude.{◌≡◌, ◌++◌, ◌≤◌, ◌<◌, length, leb};
 ghost use Rattle.enc_utf_8.specs.Utf8.{scalars};
 ghost use Rattle.enc_utf_8.specs.Buffer.{Wrote, room_for};
@@ -12,7 +14,7 @@ use enc_utf_8_decoder::next;
 const REPLACEMENT: u32 = 0xfffd;
 
 // A scalar value, and the place after it.
-#[derive(Drop)]
+#[derive(Clone, Copy)]
 struct Scalar {
     code: u32,
     next: usize,

@@ -1,5 +1,7 @@
 // The scalar value at a place of UTF-16LE bytes, one at a time: what the decoder measures and writes.
 // `scalar_16` is for the decoder alone, which knows that its `requires` holds.
+#![tactic(auto)]
+
 ghost use Rattle.std.specs.Prelude.{◌≡◌, ◌+◌, ◌≤◌, ◌<◌, length};
 ghost use Rattle.enc_utf_16_scalar.specs.Units.{UnitAt, SurrogateAt, FirstScalar};
 
@@ -7,7 +9,7 @@ ghost use Rattle.enc_utf_16_scalar.specs.Units.{UnitAt, SurrogateAt, FirstScalar
 const REPLACEMENT: u32 = 0xfffd;
 
 // A scalar value, and the place after it.
-#[derive(Drop)]
+#[derive(Clone, Copy)]
 pub struct Scalar {
     pub code: u32,
     pub next: usize,

@@ -1,4 +1,6 @@
 // The UTF-8 decoder, one code point at a time, and whether a text is UTF-8.
+#![tactic(auto)]
+
 ghost use Rattle.std.specs.Prelude.{◌≡◌, true, ◌&&◌, ◌+◌, ◌-◌, ◌<◌, ◌≤◌, length, get_or, take, drop, eqb, leb};
 ghost use Rattle.enc_ascii.specs.Ascii.{is_ascii};
 ghost use Rattle.enc_utf_8_decoder.specs.After.{place_after, four_fit, AsciiHere, PassedTo};

@@ -1,4 +1,6 @@
 // The UTF-8 encoder: one code point's bytes, written where they fit.
+#![tactic(auto)]
+
 ghost use Rattle.std.specs.Prelude.{◌≡◌, [], ◌∷◌, ◌<◌, length};
 ghost use Rattle.enc_utf_8.specs.Buffer.{Wrote};
 ghost use Rattle.enc_utf_8.specs.Utf8.{utf8_of, three, four};

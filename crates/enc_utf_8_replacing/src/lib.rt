@@ -1,4 +1,6 @@
 // The UTF-8 decoder over any bytes: what is well-formed is its own text and only copied, each ill_formed part becomes U+FFFD.
+#![tactic(auto)]
+
 ghost use Rattle.std.specs.Prelude.{◌≡◌, ◌+◌, ◌≤◌, ◌<◌, length, leb};
 ghost use Rattle.enc_utf_8.specs.Buffer.{Wrote, Laid, room_for};
 ghost use Rattle.enc_utf_8.specs.Utf8.{utf8_of, ValidTo, Stretch};
@@ -11,14 +13,14 @@ use enc_utf_8_decoder::{next, valid_carefully, valid_up_to};
 use enc_utf_8_encoder::{put, utf8_len};
 
 // A scalar value, and the place after its bytes.
-#[derive(Drop)]
+#[derive(Clone, Copy)]
 struct Here {
     code: u32,
     next: usize,
 }
 
 // How many bytes something takes, and the place after it.
-#[derive(Drop)]
+#[derive(Clone, Copy)]
 struct Measured {
     size: usize,
     next: usize,

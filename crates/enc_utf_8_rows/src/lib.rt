@@ -1,4 +1,6 @@
 // Whether bytes are UTF-8, told by an automaton without a branch for each byte.
+#![tactic(auto)]
+
 mod row;
 
 ghost use Rattle.std.specs.Prelude.{◌≡◌, true};

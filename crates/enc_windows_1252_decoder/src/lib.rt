@@ -1,4 +1,6 @@
 // The Windows-1252 decoder: bytes to UTF-8. It goes by blocks of at most 64 bytes, of which one that is ASCII throughout is only copied.
+#![tactic(auto)]
+
 ghost use Rattle.std.specs.Prelude.{◌≡◌, true, cond, ◌&&◌, ◌+◌, ◌-◌, ◌/◌, ◌≤◌, ◌<◌, min, length, leb, ltb};
 ghost use Rattle.enc_utf_8.specs.Buffer.{Wrote, Laid, room_for};
 ghost use Rattle.enc_utf_8.specs.Utf8.{utf8_of};

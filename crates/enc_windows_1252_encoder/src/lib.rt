@@ -1,4 +1,6 @@
 // The Windows-1252 encoder: UTF-8 to bytes. A code point that has no byte becomes a decimal character reference, as `&#1046;`.
+#![tactic(auto)]
+
 ghost use Rattle.std.specs.Prelude.{◌≡◌, ◌+◌, ◌<◌, ◌≤◌, length, drop};
 ghost use Rattle.enc_utf_8.specs.Buffer.{Wrote, Laid, room_for};
 ghost use Rattle.enc_windows_1252.specs.Text.{decimal, reference, encode_code, encode_text};
@@ -28,7 +30,7 @@ fn ascii_prefix(text: &[u8]) -> usize
 }
 
 // A code point of a text, and the place after it.
-#[derive(Drop)]
+#[derive(Clone, Copy)]
 struct Scalar {
     code: u32,
     next: usize,

@@ -1,4 +1,6 @@
 // A lent buffer that is to hold nothing: every element is set to 0.
+#![tactic(auto)]
+
 ghost use Rattle.std.specs.Prelude.{◌≡◌, length, replicate};
 
 // Sets all bytes to 0.

@@ -1,5 +1,7 @@
 // The static library for the Rust gateway: each call of the crates below, by numbers and slices alone.
 // Nothing checks a caller's declarations against this file: rust/ has the ones that match it.
+#![tactic(auto)]
+
 ghost use Rattle.std.specs.Prelude.{◌≡◌, length};
 ghost use Rattle.enc_windows_1252.specs.Text as windows1252;
 ghost use Rattle.enc_utf_8_replacing.specs.Text as utf8;

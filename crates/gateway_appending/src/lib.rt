@@ -1,5 +1,7 @@
 // Appending where the book was checked once, as while a book is completed type by type: the book is not checked again, the name is looked up
 // by an index of the book's names, and the new type goes into the index, so that it is the longer book's.
+#![tactic(auto)]
+
 ghost use Rattle.std.specs.Prelude.{◌≡◌, ◌<◌, take};
 ghost use Rattle.type_provider.specs.Find.{searched};
 ghost use Rattle.type_index.specs.Trust.{Trusted};
@@ -18,7 +20,7 @@ use type_index_grow::enter_last;
 use type_provider::Found;
 
 // The book's new length, where the index leads to every type of the longer book and where it may not; or document 01's number of the refusal.
-#[derive(Drop)]
+#[derive(Clone, Copy)]
 pub enum Growth {
     Entered(usize),
     Loose(usize),

@@ -1,4 +1,6 @@
 // What is said of a book, as a number and values: the places of a block's names, and the new length after appending.
+#![tactic(auto)]
+
 ghost use Rattle.std.specs.Prelude.{◌≡◌, ◌+◌, ◌*◌, ◌≤◌};
 ghost use Rattle.type_cache.specs.Append.{appended_numbers};
 ghost use Rattle.gateway_lent_values.specs.Values.{Gives};

@@ -1,4 +1,6 @@
 // An answer as one number, for callers that know no enum.
+#![tactic(auto)]
+
 ghost use Rattle.std.specs.Prelude.{◌≡◌};
 ghost use Rattle.enc_number.specs.Answer.{truth_number};
 ghost use Rattle.type_provider.specs.Find.{found_numbers};

@@ -1,5 +1,7 @@
 // An answer as a number and values, for callers that know no enum: what is returned is document 01's number, and the values go over
 // the first numbers of a lent array, as many as fit.
+#![tactic(auto)]
+
 ghost use Rattle.std.specs.Prelude.{◌≡◌, [], ◌∷◌, ◌+◌, ◌<◌, set};
 ghost use Rattle.gateway_lent_values.specs.Values.{Gives};
 

@@ -1,4 +1,6 @@
 // The two walks for a book that was checked once, where scratch and list are lent: 6 is answered, not required.
+#![tactic(auto)]
+
 ghost use Rattle.std.specs.Prelude.{◌≡◌, true, ◌&&◌};
 ghost use Rattle.type_book.specs.Book.{is_type};
 ghost use Rattle.type_book_check.specs.Check.{ValidBook};

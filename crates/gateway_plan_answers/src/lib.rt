@@ -1,4 +1,6 @@
 // What the plan of a save answers, as a number and values.
+#![tactic(auto)]
+
 ghost use Rattle.plan_save.specs.Call.{plan_numbers};
 ghost use Rattle.gateway_lent_values.specs.Values.{Gives};
 

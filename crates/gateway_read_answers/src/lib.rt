@@ -1,4 +1,6 @@
 // What a read answers, as a number and values.
+#![tactic(auto)]
+
 ghost use Rattle.de_output.specs.Answer.{read_numbers};
 ghost use Rattle.gateway_lent_values.specs.Values.{Gives};
 

@@ -1,4 +1,6 @@
 // What the resolvers answer, as a number and values.
+#![tactic(auto)]
+
 ghost use Rattle.resolvers.specs.Resolve.{resolved_numbers};
 ghost use Rattle.resolvers.specs.Calls.{resolution_numbers};
 ghost use Rattle.resolve_field_types.specs.Calls.{fields_numbers};

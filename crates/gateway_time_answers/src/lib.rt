@@ -1,4 +1,6 @@
 // The parts of a count of time, and a count, as a number and values.
+#![tactic(auto)]
+
 ghost use Rattle.std.specs.Prelude.{◌≡◌, get_or};
 ghost use Rattle.time_parts.specs.Parts.{parts_numbers, count_numbers};
 ghost use Rattle.gateway_lent_values.specs.Values.{Gives};

@@ -1,4 +1,6 @@
 // What the walks answer, as a number and values.
+#![tactic(auto)]
+
 ghost use Rattle.resolve_read_modify_write.specs.Calls.{rmw_numbers};
 ghost use Rattle.resolve_missing_types.specs.Calls.{missing_numbers};
 ghost use Rattle.gateway_lent_values.specs.Values.{Gives};

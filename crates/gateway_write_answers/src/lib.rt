@@ -1,4 +1,6 @@
 // What a write answers, as a number and values.
+#![tactic(auto)]
+
 ghost use Rattle.ser.specs.Call.{write_numbers};
 ghost use Rattle.gateway_lent_values.specs.Values.{Gives};
 

@@ -1,5 +1,7 @@
 // The adds of a plan: the types that an ask listed are added to our book from the controller's, and then what types of our book are made of,
 // so that few asks are needed. Both books were checked once.
+#![tactic(auto)]
+
 ghost use Rattle.std.specs.Prelude.{◌≡◌, ◌≤◌, length, take};
 ghost use Rattle.type_book.specs.Book.{type_name_of};
 ghost use Rattle.type_provider.specs.Find.{find};
@@ -22,7 +24,7 @@ use type_provider::Found;
 const MAX_BLOCKS: u32 = 65536;
 
 // The length of our book with the type, if it was not known; or the controller's book lacks it, or there is no room for it.
-#[derive(Drop)]
+#[derive(Clone, Copy)]
 enum Fetched {
     More(usize),
     NotFound,
@@ -30,7 +32,7 @@ enum Fetched {
 }
 
 // The same of several types: the block whose type name was not found, and the length at which the adding ended.
-#[derive(Drop)]
+#[derive(Clone, Copy)]
 pub enum Added {
     More(usize),
     NotFound(u32, usize),
@@ -38,21 +40,21 @@ pub enum Added {
 }
 
 // Whether a block names a type that its own type is made of, and how many fields are due after it.
-#[derive(Drop)]
+#[derive(Clone, Copy)]
 pub enum Due {
     Names(u32),
     Rest(u32),
 }
 
 // After a block was swept: the length of our book, and how many fields are due.
-#[derive(Drop)]
+#[derive(Clone, Copy)]
 struct Swept {
     len: usize,
     due: u32,
 }
 
 // How the adds of a round are done: the width, the block from which types are swept, and what is known of the index of the controller's book.
-#[derive(Drop)]
+#[derive(Clone, Copy)]
 pub struct AddBy {
     pub width: u8,
     pub from: u32,

@@ -1,5 +1,7 @@
 // The plan of a save whose root is given by its name, from nothing too: where our book lacks the root, as an empty book does, the root's own
 // definition is the first that is added from the controller's book.
+#![tactic(auto)]
+
 ghost use Rattle.std.specs.Prelude.{◌≡◌, ◌≤◌, length, take};
 ghost use Rattle.type_provider.specs.Find.{find as find_in};
 ghost use Rattle.type_provider.specs.declared.Found.TheVariants.{Nothing};

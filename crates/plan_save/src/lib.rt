@@ -1,5 +1,7 @@
 // The plan of a save: which types our book lacks is asked, they are added from the controller's book, and it is asked again, until none
 // lacks; then read-modify-write is decided. One call makes the whole list of asks and adds, so none can be left out.
+#![tactic(auto)]
+
 ghost use Rattle.std.specs.Prelude.{◌≡◌, true, ◌≤◌, ◌<◌, ◌-◌, length, take};
 ghost use Rattle.type_book.specs.Book.{is_type};
 ghost use Rattle.enc_number.specs.Answer.{refusal_of};
@@ -33,7 +35,7 @@ const ROUNDS: u32 = 18;
 const SWEEP_ALL: u32 = 2;
 
 // What `plan_save` answers, always with the length of our book then.
-#[derive(Drop)]
+#[derive(Clone, Copy)]
 pub enum Plan {
     // Read the bytes, alter, and write them back.
     Yes(usize),
@@ -47,7 +49,7 @@ pub enum Plan {
 
 // What an ask says: that nothing is missing and no type keeps state; how many blocks are listed, where some type may keep it; or that it is not
 // whole, with 9 or 8.
-#[derive(Drop)]
+#[derive(Clone, Copy)]
 enum Asked {
     Complete,
     Lists(usize),
@@ -55,7 +57,7 @@ enum Asked {
 }
 
 // After a round: another one, with the length of our book, or the answer.
-#[derive(Drop)]
+#[derive(Clone, Copy)]
 enum Round {
     Again(usize),
     Is(Plan),

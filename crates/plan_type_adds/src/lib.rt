@@ -1,5 +1,7 @@
 // Adding the types of one checked book to another: appending where both books were checked once. Which of the controller's types our book
 // knows by name is kept in one mark for each of its blocks, so neither book is searched or checked again.
+#![tactic(auto)]
+
 ghost use Rattle.std.specs.Prelude.{◌≡◌, true, ◌<◌, length, take, replicate};
 ghost use Rattle.type_book.specs.Book.{is_type};
 ghost use Rattle.type_provider.specs.Find.{searched as searched_of};

@@ -1,4 +1,6 @@
 // The lines that a walk prints: a head, a line for each record of the tape, or the number of a refusal.
+#![tactic(auto)]
+
 ghost use Rattle.enc_utf_8.specs.declared.Put.TheVariants.{Next};
 ghost use Rattle.print_figures.specs.Puts.{Puts, Printed};
 ghost use Rattle.print_lines.specs.Lines.{records_at, lines_of, head_line, walk_lines, refused_line};

@@ -1,4 +1,6 @@
 // The line of each kind of record.
+#![tactic(auto)]
+
 ghost use Rattle.print_figures.specs.Puts.{Puts};
 ghost use Rattle.print_record_line.specs.Line.{counted_line, named_line, sized_start, int_line, nat_line, real_line, text_word, text_line, number_line, line_of};
 

@@ -1,5 +1,7 @@
 // The fields of a type, resolved once: a plan keeps one number for each field, the block of its type as named and as resolved, and that
 // type's category, so that a type that is read many times is looked up once. A type that several fields have is resolved once, too.
+#![tactic(auto)]
+
 ghost use Rattle.std.specs.Prelude.{◌≡◌, true, ◌<◌, get_or, set};
 ghost use Rattle.type_book.specs.Book.{is_type, type_name_of};
 ghost use Rattle.type_provider.specs.Find.{find};
@@ -15,7 +17,7 @@ use type_provider::Found;
 
 // A field whose type is resolved: offset and size as its block says, its type's block as named and with aliases resolved, the
 // category of that.
-#[derive(Drop)]
+#[derive(Clone, Copy)]
 pub struct PlannedField {
     pub offset: u32,
     pub size: u32,
@@ -24,7 +26,7 @@ pub struct PlannedField {
     pub category: AdsTypeCategory,
 }
 
-#[derive(Drop)]
+#[derive(Clone, Copy)]
 pub enum Planned {
     Field(PlannedField),
     // The block whose type name is not in the book.

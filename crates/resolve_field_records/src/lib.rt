@@ -1,6 +1,8 @@
 // The fields of a type as the Rust's `resolve_fields` gives them: a lent slice of structs, one for each field of the root block. No function
 // that holds the slice decides anything: `resolve_field_types::check_fields`, or `checked_fields` of a root by its name, answers every refusal
 // without the records, and then each record is stored.
+#![tactic(auto)]
+
 ghost use Rattle.std.specs.Prelude.{◌≡◌, ◌≤◌, length};
 ghost use Rattle.type_book_check.specs.Given.{name as by_name};
 ghost use Rattle.resolve_field_records.specs.Stored.{Resolvable, AllResolvable, stored_count, resolved_record, record_at, filled_at, StoredIs};
@@ -13,7 +15,7 @@ use type_book_check::{GivenRoot, LACKING_ROOT, check_root_named};
 
 // A field whose type is resolved: offset and size as its block says, the block of its type with its aliases resolved, and its own block.
 #[repr(C)]
-#[derive(Drop)]
+#[derive(Clone, Copy)]
 pub struct FieldRecord {
     pub offset: u32,
     pub size: u32,

@@ -1,5 +1,7 @@
 // Fields, whose types are resolved by look-ups in the type book (the Rust's resolvers.rs). The functions whose names end in `_in` take
 // a book that was checked once; `resolve_fields` checks it.
+#![tactic(auto)]
+
 ghost use Rattle.std.specs.Prelude.{◌≡◌, true, ◌+◌, ◌*◌, ◌≤◌, length};
 ghost use Rattle.std.proofs.lemmas.List.Edits.{sets};
 ghost use Rattle.type_book.specs.Book.{is_type, fields_of};
@@ -18,7 +20,7 @@ const RECORD: usize = 4;
 
 // A field whose type is resolved: offset and size as its block says, the block that its type name finds, that block with its
 // aliases resolved, and its own block.
-#[derive(Drop)]
+#[derive(Clone, Copy)]
 pub struct ResolvedField {
     pub offset: u32,
     pub size: u32,
@@ -27,14 +29,14 @@ pub struct ResolvedField {
     pub field: u32,
 }
 
-#[derive(Drop)]
+#[derive(Clone, Copy)]
 pub enum FieldAnswer {
     Field(ResolvedField),
     NotFound(u32),
     TooLong,
 }
 
-#[derive(Drop)]
+#[derive(Clone, Copy)]
 pub enum FieldsCheck {
     Fine,
     NotFound(u32),
@@ -42,7 +44,7 @@ pub enum FieldsCheck {
 }
 
 // What `resolve_fields` answers.
-#[derive(Drop)]
+#[derive(Clone, Copy)]
 pub enum FieldsAnswer {
     // The number of fields, each of whose records is stored.
     Done(usize),

@@ -1,5 +1,7 @@
 // Which types the book lacks, of those that a type is made of (the Rust's resolvers.rs): the walk of crate `resolve_walk`, read to its end.
 // `missing_types_in` takes a book that was checked once; `missing_types` checks it.
+#![tactic(auto)]
+
 ghost use Rattle.std.specs.Prelude.{◌≡◌, true, ◌≤◌, ◌<◌, ◌+◌, length, replicate};
 ghost use Rattle.type_book.specs.Book.{is_type};
 ghost use Rattle.type_book_check.specs.Check.{ValidBook};
@@ -17,7 +19,7 @@ use type_book_check::{GivenRoot, LACKING_ROOT, RootCheck};
 use type_index::{Trust, hold_against, index_fits};
 
 // What `missing_types` answers.
-#[derive(Drop)]
+#[derive(Clone, Copy)]
 pub enum Missing {
     // How many blocks are listed; whether the walk is whole: no chain was too long, and no name was one too many; how many distinct
     // names were met.
@@ -27,7 +29,7 @@ pub enum Missing {
 }
 
 // The state of `missing_walk` after an event: names left, entries on the stack, blocks listed, whether still whole.
-#[derive(Drop)]
+#[derive(Clone, Copy)]
 enum Turn {
     More(usize, usize, usize, bool),
     Full,

@@ -1,6 +1,8 @@
 // Whether the memory of a value must be read before it is written (the Rust's resolvers.rs): the walk of crate `resolve_walk`, read up to the
 // first event that answers. `requires_read_modify_write_in` takes a book that was checked once; `requires_read_modify_write` checks
 // it.
+#![tactic(auto)]
+
 ghost use Rattle.std.specs.Prelude.{◌≡◌, true, ◌≤◌, length, replicate};
 ghost use Rattle.type_book.specs.Book.{is_type};
 ghost use Rattle.type_book_check.specs.Check.{ValidBook};
@@ -19,7 +21,7 @@ use type_category::type_category::AdsTypeCategory;
 use type_index::{Trust, index_fits};
 
 // What `requires_read_modify_write` answers.
-#[derive(Drop)]
+#[derive(Clone, Copy)]
 pub enum Rmw {
     Yes,
     No,
@@ -30,7 +32,7 @@ pub enum Rmw {
 }
 
 // The state of `rmw_walk` after an event: names left and entries on the stack, or the answer.
-#[derive(Drop)]
+#[derive(Clone, Copy)]
 enum Turn {
     More(usize, usize),
     Is(Rmw),

@@ -1,6 +1,8 @@
 // The walk of the types that a type is made of (the Rust's resolvers.rs), event by event. Whether the memory of a value must be read
 // before it is written, and which types the book lacks, are two readings of this one walk: crates `resolve_read_modify_write` and
 // `resolve_missing_types`. These functions are for the two alone, which show what their `requires` ask for.
+#![tactic(auto)]
+
 ghost use Rattle.std.specs.Prelude.{◌≡◌, true, ◌≤◌, ◌<◌, ◌+◌, length, take as first, replicate};
 ghost use Rattle.type_book.specs.Book.{is_type};
 ghost use Rattle.type_index.specs.Trust.{Trusted};
@@ -38,7 +40,7 @@ pub fn list_fits(list: &[u32]) -> bool
 }
 
 // What a walk has left: how many further names it may visit, and how many entries its stack has.
-#[derive(Drop)]
+#[derive(Clone, Copy)]
 pub struct Rest {
     pub left: usize,
     pub depth: usize,

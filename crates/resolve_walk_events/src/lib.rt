@@ -1,5 +1,7 @@
 // What one turn of a walk finds, and the event of a new name: the type that it comes to is marked visited and its parts are laid on the
 // stack. These functions are for the walks alone, which show what their `requires` ask for.
+#![tactic(auto)]
+
 ghost use Rattle.std.specs.Prelude.{◌≡◌, true, ◌≤◌, ◌<◌, length};
 ghost use Rattle.type_book.specs.Book.{is_type};
 ghost use Rattle.type_index.specs.Trust.{Trusted};
@@ -12,7 +14,7 @@ use type_category::type_category::AdsTypeCategory;
 use type_index::Trust;
 
 // What one turn of a walk finds; the last number is the entries on the stack after it.
-#[derive(Drop)]
+#[derive(Clone, Copy)]
 pub enum Event {
     // The name was visited before.
     Old(usize),

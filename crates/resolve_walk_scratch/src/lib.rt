@@ -2,6 +2,8 @@
 // for each of 65,536 blocks in 4,096 to 6,143. A name that the book lacks has no block: it was visited if a listed block names it. In 6,144
 // to 8,191 its hash has a bit, so that the list is searched only for a name that may stand in it.
 // These functions are for the walks alone, which show what their `requires` ask for.
+#![tactic(auto)]
+
 ghost use Rattle.std.specs.Prelude.{◌≡◌, true, ◌≤◌, ◌<◌, length, take as first};
 ghost use Rattle.type_book.specs.Book.{is_type};
 ghost use Rattle.type_book_check.specs.Check.{ValidBook};
@@ -19,7 +21,7 @@ const MARKS: usize = 4096;
 const LACKING: u32 = 65536;
 
 // What a type is made of: the type that an array names, the types of fields, or nothing that is walked.
-#[derive(Drop)]
+#[derive(Clone, Copy)]
 pub enum ScratchParts {
     Element,
     Fields,
@@ -27,7 +29,7 @@ pub enum ScratchParts {
 }
 
 // A block that was taken off the stack, and the entries that are left.
-#[derive(Drop)]
+#[derive(Clone, Copy)]
 pub struct Taken {
     pub block: u32,
     pub depth: usize,

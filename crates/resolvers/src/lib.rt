@@ -1,5 +1,7 @@
 // Aliases and references, resolved by look-ups in the type book (the Rust's resolvers.rs). The functions whose names end in `_in` take
 // a book that was checked once; the others check it.
+#![tactic(auto)]
+
 ghost use Rattle.std.specs.Prelude.{◌≡◌, true, false};
 ghost use Rattle.type_book.specs.Book.{is_type, type_name_of};
 ghost use Rattle.type_provider.specs.Find.{find, found_numbers};
@@ -19,7 +21,7 @@ use type_provider::Found;
 const MAX_ALIAS_DEPTH: usize = 32;
 
 // What a chain comes to.
-#[derive(Drop)]
+#[derive(Clone, Copy)]
 pub enum Resolved {
     // The block at which it ends.
     Base(u32),
@@ -30,7 +32,7 @@ pub enum Resolved {
 }
 
 // What `resolve_alias` and `resolve_indirection` answer.
-#[derive(Drop)]
+#[derive(Clone, Copy)]
 pub enum Resolution {
     Block(u32),
     // 7, with the block whose type name is not in the book.

@@ -3,7 +3,7 @@ use tape::cursor::Cursor;
 use type_category::type_category::AdsTypeCategory;
 
 // A value of resolved type t, with the cursor at its record, the pointer width, and the levels left.
-#[derive(Drop)]
+#[derive(Clone, Copy)]
 pub struct Writing {
     pub t: u32,
     pub category: AdsTypeCategory,
@@ -13,7 +13,7 @@ pub struct Writing {
 }
 
 // A map of n keys for type t, with the cursor after its record.
-#[derive(Drop)]
+#[derive(Clone, Copy)]
 pub struct Mapping {
     pub t: u32,
     pub category: AdsTypeCategory,
@@ -24,7 +24,7 @@ pub struct Mapping {
 }
 
 // Dimension d of array t, whose elements are of resolved type e, with the cursor at its record; the category is that of e.
-#[derive(Drop)]
+#[derive(Clone, Copy)]
 pub struct WritePlace {
     pub d: u8,
     pub t: u32,
@@ -37,7 +37,7 @@ pub struct WritePlace {
 
 // The k elements that the tape has for such a dimension, with the cursor at the next of them: n is the dimension's count in the type, and
 // it is known whether it is the last one.
-#[derive(Drop)]
+#[derive(Clone, Copy)]
 pub struct WriteRow {
     pub d: u8,
     pub t: u32,

@@ -1,5 +1,7 @@
 // Which fields of a type are the first of their name: found once for all fields of a type, in a set of bits, so that a field's own block
 // leads to it without a search among the names. A bit says so much and no more: where none is set, the names are searched.
+#![tactic(auto)]
+
 ghost use Rattle.std.specs.Prelude.{◌≡◌, ◌+◌, ◌*◌, ◌≤◌, ◌<◌, length};
 ghost use Rattle.type_book.specs.Book.{fields_of, entries_of, name_of};
 ghost use Rattle.ser_named_blocks.specs.Named.{field_named};

@@ -1,1 +1,2 @@
 // Laws of the writer: specs/ states them, proofs/ proves them.
+#![tactic(auto)]

@@ -1,4 +1,6 @@
 // The fields and the entries of a type by their names: the first of a name.
+#![tactic(auto)]
+
 ghost use Rattle.std.specs.Prelude.{◌≡◌, ◌+◌, ◌<◌};
 ghost use Rattle.type_book.specs.Book.{fields_of, entries_of};
 ghost use Rattle.ser_named_blocks.specs.Named.{named_from, field_named, entry_named};

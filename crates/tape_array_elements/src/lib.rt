@@ -1,4 +1,6 @@
 // The elements of an array: the test of their fields, for reader and writer alike.
+#![tactic(auto)]
+
 ghost use Rattle.std.specs.Prelude.{◌≡◌, true};
 ghost use Rattle.type_book_check.specs.Check.{ValidBook};
 ghost use Rattle.type_book.specs.Book.{is_type};

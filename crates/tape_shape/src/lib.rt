@@ -1,4 +1,6 @@
 // The shape of a value, by its category, and of an array, by its dimensions.
+#![tactic(auto)]
+
 ghost use Rattle.std.specs.Prelude.{◌≡◌};
 ghost use Rattle.tape_shape.specs.Value.{shape_of};
 
@@ -7,7 +9,7 @@ pub mod array;
 use type_category::type_category::AdsTypeCategory;
 
 // How a value is read: by its fields, by its elements, or as a whole.
-#[derive(Drop)]
+#[derive(Clone, Copy)]
 pub enum Shape {
     Map,
     Array,

@@ -1,10 +1,12 @@
 // The Gregorian calendar: the date of a day since 1970-01-01 and back, by the cycles of 400, 100 and 4 years.
+#![tactic(auto)]
+
 ghost use Rattle.std.specs.Prelude.{◌≡◌, true, ◌+◌, ◌-◌, ◌≤◌, ◌<◌, min};
 ghost use Rattle.time_calendar.specs.Calendar.{is_leap, years_days, months_days, names_date, day_number, date_of, month_days};
 ghost use Rattle.time_calendar.specs.Places.{InYear, InMonth, even_day};
 
 // A month counts from 1, and so does a day.
-#[derive(Drop)]
+#[derive(Clone, Copy)]
 pub struct Date {
     pub year: u32,
     pub month: u32,

@@ -1,4 +1,6 @@
 // A count of time as year, month, day, hour, minute, second and nanosecond, and back.
+#![tactic(auto)]
+
 ghost use Rattle.std.specs.Prelude.{◌≡◌, true, ◌<◌};
 ghost use Rattle.time_parts.specs.Parts.{parts_numbers, count_numbers, day_length, parts_at, clock_parts, moment_parts, time_parts, parts_named, names_clock, clock_of, dateless, count_in, time_count, count_named};
 ghost use Rattle.time_parts.specs.Nanoseconds.{clock_nanoseconds, moment_nanoseconds, sum_in, in_units};
@@ -7,7 +9,7 @@ use time_calendar::{Date, date_of, day_of, names_date};
 use time_types::{TimeType, time_type};
 
 // A time of day has 0 for year, month and day.
-#[derive(Drop)]
+#[derive(Clone, Copy)]
 pub struct Parts {
     pub year: u32,
     pub month: u32,
@@ -18,14 +20,14 @@ pub struct Parts {
     pub nanosecond: u32,
 }
 
-#[derive(Drop)]
+#[derive(Clone, Copy)]
 pub enum PartsAnswer {
     Told(Parts),
     // 24.
     Refused,
 }
 
-#[derive(Drop)]
+#[derive(Clone, Copy)]
 pub enum CountAnswer {
     Told(u64),
     // 24.

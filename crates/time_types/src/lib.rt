@@ -1,4 +1,6 @@
 // The types of IEC 61131-3 that count time, by their names.
+#![tactic(auto)]
+
 ghost use Rattle.std.specs.Prelude.{◌≡◌, get_or};
 ghost use Rattle.time_types.specs.Types.{time_type_of, time_width};
 ghost use Rattle.time_types.specs.Counts.{name_counts, count_width};
@@ -6,7 +8,7 @@ ghost use Rattle.time_types.specs.Counts.{name_counts, count_width};
 use type_book::block::same_name;
 use type_category::type_category::AdsTypeCategory;
 
-#[derive(Drop)]
+#[derive(Clone, Copy)]
 pub enum TimeType {
     // Milliseconds, and nanoseconds.
     Time,

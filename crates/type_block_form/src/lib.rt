@@ -1,5 +1,7 @@
 // One block of a type book: its sum (refusal 2) and the bytes that its kind allows (refusal 3). These functions are for the check of a
 // whole book, which knows that a block has 512 bytes, and asks for the form of those alone that hold their sum.
+#![tactic(auto)]
+
 ghost use Rattle.std.specs.Prelude.{◌≡◌, true, ◌≤◌, ◌<◌, length};
 ghost use Rattle.type_block_form.specs.Form.{sum_of, sum_right, every, is_zero, is_printable, unused_zero, names_form, flags_form, type_form, field_form, entry_form};
 ghost use Rattle.type_block_form.specs.Names.{name_sum_of};
@@ -86,7 +88,7 @@ fn unused_zero(part: &[u8], used: usize) -> bool
 }
 
 // What the bytes of a name add up to, if each of them may stand in a name.
-#[derive(Drop)]
+#[derive(Clone, Copy)]
 enum NameSum {
     Of(usize),
     Wrong,

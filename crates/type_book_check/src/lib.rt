@@ -1,5 +1,7 @@
 // The check of a type book: refusals 1 to 5 of document 01 and 23, for all bytes. All of a refusal's tests come before all of the
 // next one's, over the whole book.
+#![tactic(auto)]
+
 ghost use Rattle.std.specs.Prelude.{◌≡◌, true, ◌≤◌, ◌<◌, length};
 ghost use Rattle.enc_number.specs.Answer.{refusal_of};
 ghost use Rattle.type_book.specs.Book.{blocks as blocks_of, block_of};
@@ -12,7 +14,7 @@ use type_doubles::distinct;
 use type_provider::{Found, find};
 
 // A valid book, or what it is refused for: 1 to 4 of document 01, in this order.
-#[derive(Drop)]
+#[derive(Clone, Copy)]
 pub enum BookCheck {
     Valid,
     Size,
@@ -22,14 +24,14 @@ pub enum BookCheck {
 }
 
 // A root that is a type block of a valid book, or document 01's number of the refusal.
-#[derive(Drop)]
+#[derive(Clone, Copy)]
 pub enum RootCheck {
     Root(u32),
     Refused(u8),
 }
 
 // What a root that is given by its name stands for: its block, a name that the book lacks, or the number of the refusal.
-#[derive(Drop)]
+#[derive(Clone, Copy)]
 pub enum GivenRoot {
     Block(u32),
     Lacking,
@@ -40,14 +42,14 @@ pub enum GivenRoot {
 pub const LACKING_ROOT: u32 = 4294967295;
 
 // What is due after a block: fields, then entries.
-#[derive(Drop)]
+#[derive(Clone, Copy)]
 enum Place {
     Next(u32, u32),
     Wrong,
 }
 
 // What one pass over all blocks finds: nothing wrong, or the refusal that comes first of 2 and 3.
-#[derive(Drop)]
+#[derive(Clone, Copy)]
 enum Scan {
     Right,
     Sum,

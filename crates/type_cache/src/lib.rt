@@ -1,5 +1,7 @@
 // Appending one type's blocks to a type book in a lent buffer (the Rust's `insert` of type_cache.rs). The book and the
 // addition are tested before the first byte is written, so a refusal leaves the buffer as it was.
+#![tactic(auto)]
+
 ghost use Rattle.std.specs.Prelude.{◌≡◌, ◌+◌, ◌≤◌, length};
 ghost use Rattle.type_cache.specs.Append.{is_one_type, addition_refusal, is_known, has_room, append_refusal, CopyIs, AppendIs};
 
@@ -9,7 +11,7 @@ use type_book_check::{BookCheck, check_book, refusal_of};
 use type_provider::{Found, find};
 
 // The book's new length, or document 01's number of the refusal.
-#[derive(Drop)]
+#[derive(Clone, Copy)]
 pub enum Appended {
     Done(usize),
     Refused(u8),

@@ -1,2 +1,4 @@
 // The category of a type in the book.
+#![tactic(auto)]
+
 pub mod type_category;

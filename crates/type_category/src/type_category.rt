@@ -10,7 +10,7 @@ use type_id::AdsTypeId;
 use type_names::text::starts_with;
 use type_names::{is_pointer_name, is_primitive_name, is_sub_range_name};
 
-#[derive(Drop)]
+#[derive(Clone, Copy)]
 pub enum AdsTypeCategory {
     // Uninitialized or unknown data type.
     None,
@@ -47,7 +47,7 @@ pub enum AdsTypeCategory {
 }
 
 // What the type id alone gives: the category, or that what follows decides.
-#[derive(Drop)]
+#[derive(Clone, Copy)]
 pub enum ById {
     Is(AdsTypeCategory),
     Next,

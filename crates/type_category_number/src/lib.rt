@@ -1,4 +1,6 @@
 // The number of a category: its place in the Rust's declaration, from 0 on.
+#![tactic(auto)]
+
 ghost use Rattle.std.specs.Prelude.{◌≡◌};
 ghost use Rattle.type_category.specs.Number.{category_number, category_at};
 

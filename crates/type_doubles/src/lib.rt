@@ -1,4 +1,6 @@
 // Two types of one name in a type book (refusal 4): the hashes of the names met are marked, so that most names are compared with none.
+#![tactic(auto)]
+
 ghost use Rattle.std.specs.Prelude.{◌≡◌, ◌≤◌, length};
 ghost use Rattle.type_book.specs.Book.{blocks as blocks_of};
 ghost use Rattle.type_doubles.specs.Doubles.{all_from, is_other, is_first, distinct as distinct_in};

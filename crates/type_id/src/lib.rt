@@ -1,11 +1,13 @@
 // ADS data type identifiers.
+#![tactic(auto)]
+
 ghost use Rattle.std.specs.Prelude.{◌≡◌};
 ghost use Rattle.type_id.specs.TypeId.{id_of, number_of};
 
 // Identifies the machine type of a symbol or the base or element type of a composite. For structs, pointers and
 // references this is typically BigType; for arrays it identifies the element type; for aliases and enums it identifies
 // the underlying primitive.
-#[derive(Drop)]
+#[derive(Clone, Copy)]
 pub enum AdsTypeId {
     // Void or empty (0).
     Void,

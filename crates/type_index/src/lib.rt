@@ -2,6 +2,8 @@
 // slots for the names of types and, where it is long enough, a hint for each block: the type that the block's type name finds. Both say
 // only where to look first: nothing is believed before the names are compared, so an index may hold any numbers. Its "not there" is
 // believed only once it was held against the book.
+#![tactic(auto)]
+
 ghost use Rattle.std.specs.Prelude.{◌≡◌, ◌<◌, length};
 ghost use Rattle.type_book.specs.Book.{type_name_of};
 ghost use Rattle.type_provider.specs.Find.{searched as searched_of};
@@ -22,7 +24,7 @@ const INDEX: usize = 16384;
 
 // What a call knows of its index: nothing yet; that it leads to each type of the book, so that its "not there" is the book's; or that it
 // does not, as one of another book, or of one with more types than there are slots.
-#[derive(Drop)]
+#[derive(Clone, Copy)]
 pub enum Trust {
     Unknown,
     Held,

@@ -1,5 +1,7 @@
 // The call that builds an index of the names of a book's types into a lent buffer, once the book has passed its checks. The two type walks
 // take such an index, so that they look names up without a search of the book.
+#![tactic(auto)]
+
 ghost use Rattle.std.specs.Prelude.{◌≡◌};
 ghost use Rattle.enc_number.specs.Answer.{refusal_of};
 ghost use Rattle.type_index_build.specs.Build.{built_numbers, BuiltIs, BuiltIn};
@@ -8,7 +10,7 @@ use type_book_check::{check_book, refusal_of};
 use type_index::{fill_names, index_fits};
 
 // What `build_index` answers.
-#[derive(Drop)]
+#[derive(Clone, Copy)]
 pub enum Built {
     Done,
     // A refusal, by document 01's number.

@@ -1,4 +1,6 @@
 // One type more in an index of a book's names: the index is not made anew, and leads to the new type and to all that it led to before.
+#![tactic(auto)]
+
 ghost use Rattle.std.specs.Prelude.{◌<◌};
 ghost use Rattle.type_provider.specs.Find.{searched};
 ghost use Rattle.type_index_grow.specs.Grow.{LastIs};

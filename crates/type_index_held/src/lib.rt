@@ -1,5 +1,7 @@
 // The making of an index of a book's names that says of itself whether each type found a slot: then it leads to every type, and need not be held
 // against the book, which is as long a pass again.
+#![tactic(auto)]
+
 ghost use Rattle.std.specs.Prelude.{◌<◌, length};
 ghost use Rattle.type_provider.specs.Find.{searched as searched_of};
 ghost use Rattle.type_index_held.specs.Held.{HeldNext, FilledIs};

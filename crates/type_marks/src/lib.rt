@@ -1,5 +1,7 @@
 // A set of bits in a lent slice of numbers, and marks for the names that were met: three bits for each name's hash, so that a name whose
 // hash is not marked was not met. A mark too many only costs a comparison.
+#![tactic(auto)]
+
 ghost use Rattle.std.specs.Prelude.{◌≡◌, ◌/◌, ◌≤◌, ◌<◌, length};
 ghost use Rattle.type_marks.specs.Marks.{mixed_of, folded_of, joined_of, hash_of, slot_of, SlotIs, bit_of, BitSet, is_marked, Marked};
 

@@ -1,4 +1,6 @@
 // What a type's name alone tells of it.
+#![tactic(auto)]
+
 ghost use Rattle.std.specs.Prelude.{◌≡◌};
 ghost use Rattle.type_names.specs.Text.{is_one_of};
 ghost use Rattle.type_names.specs.Names.{is_pointer_name, is_sub_range_name, time_names, pointer_sized_names, is_primitive_name};

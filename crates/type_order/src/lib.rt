@@ -1,5 +1,7 @@
 // Whether the types of a book have different names, by an order of the names: time n log n for any names, where hashes decide nothing if
 // the names were made to have one hash. The sorting promises nothing. What it leaves is held against the book, and only that is believed.
+#![tactic(auto)]
+
 ghost use Rattle.std.specs.Prelude.{◌≡◌, ◌≤◌, ◌<◌};
 ghost use Rattle.type_book.specs.Book.{blocks as blocks_of};
 ghost use Rattle.type_order.specs.Names.{word_at, LessIs, LessAt, OrderDecided};
@@ -10,7 +12,7 @@ use type_book::block;
 
 // What is known of the names: they are all different, two types have one name, or neither was found. The last does not happen, and the
 // proof does not need to know.
-#[derive(Drop)]
+#[derive(Clone, Copy)]
 pub enum Order {
     Distinct,
     Doubled,

@@ -1,4 +1,6 @@
 // The look-up of a type by its name (the Rust's `TypeProvider::get_type_info`): a search of the whole book.
+#![tactic(auto)]
+
 ghost use Rattle.std.specs.Prelude.{◌≡◌};
 ghost use Rattle.type_book.specs.Book.{is_named};
 ghost use Rattle.type_provider.specs.Find.{searched as searched_of, find as find_in, found_numbers};
@@ -6,7 +8,7 @@ ghost use Rattle.type_provider.specs.Find.{searched as searched_of, find as find
 use type_book::block;
 
 // A type block's number, or that the book has no type of that name.
-#[derive(Drop)]
+#[derive(Clone, Copy)]
 pub enum Found {
     At(u32),
     Nothing,

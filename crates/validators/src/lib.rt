@@ -1,4 +1,6 @@
 // Tests on a type before its bytes are read or written.
+#![tactic(auto)]
+
 ghost use Rattle.std.specs.Prelude.{◌≡◌};
 ghost use Rattle.validators.specs.Validate.{validity_refusal, unknown_of, same_id, is_in, type_id_refusal, integer_refusal, category_refusal, size_refusal};
 
@@ -10,7 +12,7 @@ use type_id::AdsTypeId;
 // Pointers, references and interfaces, as a set of categories.
 const INDIRECT: u16 = 0xd000;
 
-#[derive(Drop)]
+#[derive(Clone, Copy)]
 pub enum Validity {
     Valid,
     // The type is not one of those expected.

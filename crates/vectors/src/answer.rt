@@ -3,7 +3,7 @@
 use cases_file::input::first;
 
 // At most two numbers, each in as many bytes as its length says, low byte first.
-#[derive(Drop)]
+#[derive(Clone, Copy)]
 pub struct Answered {
     pub head: u64,
     pub head_len: usize,

@@ -70,7 +70,7 @@ pub(crate) fn run_utf_8(operation: u8, input: &[u8], out: &mut [u8]) -> Answered
 }
 
 // Where the next code point of a text begins, and where its answer goes.
-#[derive(Drop)]
+#[derive(Clone, Copy)]
 struct Place {
     at: usize,
     to: usize,

@@ -229,7 +229,7 @@ fn draw(bytes: &mut [u8], n: usize, plain: bool, start: u64) -> u64 {
     state
 }
 
-#[derive(Drop)]
+#[derive(Clone, Copy)]
 struct Summed {
     sum: u64,
     state: u64,

@@ -1,5 +1,7 @@
 // Replays recorded answers against the port: for each file of data/ one line with the number of its cases and of those
 // that differ. tools/case_file.py has the form of the files, docs/DIFFERENCES.md says how each was made.
+#![tactic(auto)]
+
 mod answer;
 mod books;
 mod encodings;

@@ -12,7 +12,7 @@ const BLOCK: usize = 512;
 const RUN: usize = 255;
 
 // A place in packed bytes, and the place of the byte that it stands for.
-#[derive(Drop)]
+#[derive(Clone, Copy)]
 struct Place {
     at: usize,
     to: usize,

@@ -3,7 +3,7 @@ use cases_file::input::{byte_at, first, from};
 use libc::STDOUT_FILENO;
 
 // How many cases were replayed and how many of them differ.
-#[derive(Drop)]
+#[derive(Clone, Copy)]
 pub struct Tally {
     pub cases: u64,
     pub differences: u64,
