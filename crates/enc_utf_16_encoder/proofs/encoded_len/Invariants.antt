@@ -1,0 +1,12 @@
+-- `enc_utf_16_encoder::encoded_len` meets its contract. The loop's invariant: `used` and the length of the text from `at` on are the length of the whole text. Assumes nothing.
+use mathlib.Core.Path.{◌≡◌}
+use Prim.Native.Nat.{◌+◌, ◌-◌, ◌≤◌}
+use lib.ListN.{length, drop}
+use Rattle.enc_utf_16.specs.Encode.{encode16_text}
+use Rattle.enc_utf_16_encoder.proofs.encoded_len.Given as goal
+
+abbrev pub invariant-loop-at : goal.invariant-loop-at
+invariant-loop-at l = (l.at ≤ length l.text) × (l.used ≤ l.room) × (l.used + length (encode16_text (drop l.at l.text)) ≡ length (encode16_text l.text))
+
+abbrev pub decreases-loop-at : goal.decreases-loop-at
+decreases-loop-at l = length l.text - l.at

@@ -1,0 +1,6 @@
+-- `enc_utf_16_scalar::unit` meets its contract. Assumes nothing.
+use Rattle.enc_utf_16_scalar.proofs.Decodes.{unit-here}
+use Rattle.enc_utf_16_scalar.proofs.unit.Goals as goal
+
+pub returns : goal.returns
+returns c = search unit-here

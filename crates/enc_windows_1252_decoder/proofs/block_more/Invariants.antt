@@ -1,0 +1,11 @@
+-- `block_more` meets its contract. The loop keeps: the whole is at most the most so far and what is left. Assumes nothing.
+use Prim.Native.Nat.{◌+◌, ◌*◌, ◌≤◌, ◌-◌}
+use lib.ListN.{length, drop}
+use Rattle.enc_windows_1252.specs.Text.{decode_text}
+use Rattle.enc_windows_1252_decoder.proofs.block_more.Given as goal
+
+abbrev pub invariant-loop-i : goal.invariant-loop-i
+invariant-loop-i l = (l.i ≤ length l.block) × (l.more ≤ 2 * l.i) × (length (decode_text l.block) ≤ l.i + l.more + length (decode_text (drop l.i l.block)))
+
+abbrev pub decreases-loop-i : goal.decreases-loop-i
+decreases-loop-i l = length l.block - l.i

@@ -1,0 +1,17 @@
+use Rattle.plan_save.proofs.Ends.{save_refused, save_checked, save_root}
+use Rattle.type_book_check.proofs.Numbers.{root_is}
+use Rattle.plan_save.proofs.plan_save.Goals as goal
+
+ruleset exits = (save_refused, save_root, root_is)
+
+-- src/lib.rt:279:31
+pub plan_at-requires : goal.plan_at-requires
+plan_at-requires c = search (save_checked, root_is)
+
+-- src/lib.rt:265:1
+pub returns-in-Root : goal.returns-in-Root
+returns-in-Root c = search exits
+
+-- src/lib.rt:265:1
+pub returns-in-Refused : goal.returns-in-Refused
+returns-in-Refused c = search exits

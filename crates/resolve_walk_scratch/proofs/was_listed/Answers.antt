@@ -1,0 +1,12 @@
+-- `was_listed` meets its contract. Assumes nothing.
+use Rattle.resolve_walk_scratch.proofs.Places.{bit_in, listed_maybe, listed-not}
+use Rattle.resolve_walk_scratch.proofs.was_listed.Goals as goal
+
+pub marked-requires : goal.marked-requires
+marked-requires c = search bit_in
+
+pub returns-then-marked : goal.returns-then-marked
+returns-then-marked c = search (listed_maybe, listed-not)
+
+pub returns : goal.returns
+returns c = search (listed_maybe, listed-not)

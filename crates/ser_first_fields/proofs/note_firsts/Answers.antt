@@ -1,0 +1,15 @@
+use Rattle.ser_first_fields.proofs.Laws.{firsts_none, enough-bits}
+use borrow.Author.Rules.{rules}
+use Rattle.ser_first_fields.proofs.note_firsts.Goals as goal
+
+-- src/lib.rt:91:9
+pub returns-then-firsts-n : goal.returns-then-firsts-n
+returns-then-firsts-n c = search firsts_none
+
+-- src/lib.rt:94:9
+pub note_few-requires : goal.note_few-requires
+note_few-requires c = (search rules, search enough-bits, search firsts_none)
+
+-- src/lib.rt:97:5
+pub note_many-requires : goal.note_many-requires
+note_many-requires c = (search rules, search enough-bits, search firsts_none)

@@ -1,0 +1,16 @@
+use Rattle.time_types.proofs.Names.{is-time, is-tod, is-time_of_day, no-time-name}
+use Rattle.time_types.proofs.time_name.Goals as goal
+
+ruleset exits = (is-time, is-tod, is-time_of_day, no-time-name)
+
+pub returns-then-same_name : goal.returns-then-same_name
+returns-then-same_name c = search exits
+
+pub returns-then-same_name-2 : goal.returns-then-same_name-2
+returns-then-same_name-2 c = search exits
+
+pub returns-then-same_name-3 : goal.returns-then-same_name-3
+returns-then-same_name-3 c = search exits
+
+pub returns : goal.returns
+returns c = search exits

@@ -1,0 +1,14 @@
+-- `all_zero` meets its contract. The loop keeps: all is 0 where the highest byte so far and what is left are. Assumes nothing.
+use mathlib.Core.Path.{◌≡◌}
+use mathlib.Core.Bool.{◌&&◌}
+use Prim.Native.Nat.{◌≤◌, ◌-◌}
+use lib.ListN.{length, drop}
+use lib.Dec.{eqb}
+use Rattle.type_block_form.specs.Form.{every, is_zero}
+use Rattle.type_block_form.proofs.all_zero.Given as goal
+
+abbrev pub invariant-loop-i : goal.invariant-loop-i
+invariant-loop-i l = (l.i ≤ length l.part) × (every is_zero l.part ≡ eqb l.highest 0 && every is_zero (drop l.i l.part))
+
+abbrev pub decreases-loop-i : goal.decreases-loop-i
+decreases-loop-i l = length l.part - l.i

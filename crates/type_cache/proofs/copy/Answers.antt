@@ -1,0 +1,13 @@
+use borrow.Author.Rules.{rules}
+use Prim.Native.Nat.{◌-◌}
+use Rattle.type_cache.proofs.Appends.{copy_start, copy_again, copy_end}
+use Rattle.type_cache.proofs.copy.Goals as goal
+
+pub loop-i-init : goal.loop-i-init
+loop-i-init c = (search copy_start, search rules, search rules)
+
+pub loop-i-preserved : goal.loop-i-preserved
+loop-i-preserved c = (search copy_again, search rules, search rules)
+
+pub returns : goal.returns
+returns c = search copy_end
