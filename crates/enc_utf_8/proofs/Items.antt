@@ -9,7 +9,7 @@ use lib.Seq.{drop-drop}
 use lib.Dec.{leb, ltb, eqb, eqb-suc-zero}
 use Rattle.enc_utf_8.specs.declared.Char.{Char}
 use Rattle.enc_utf_8.specs.declared.Char.TheVariants.{Code, Error, End}
-use Rattle.enc_utf_8.specs.Utf8.{Item, scalar, error, State, state, initial, DecoderReply, give, continue, leading, following, after_reply, decode_from, decode, no_error, well_formed, replaced, scalars, found, next_from, next_at}
+use Rattle.enc_utf_8.specs.Utf8.{Item, scalar, error, State, state, initial, DecoderReply, give, continue, leading, following, lower_of, upper_of, after_reply, decode_from, decode, no_error, well_formed, replaced, scalars, found, next_from, next_at}
 
 -- the item `i` took the bytes of `bs` up to the place `e`, where `at` is the place of the first, and the items are `is`
 record Took (i : Item) (e at : ℕ) (bs : List ℕ) (is : List Item) : Type 0 where
@@ -109,9 +109,9 @@ moves b bs at =
     let rest : State → Char = λ s. next_from s (at + 1) bs in
     moves_if (ltb b 0x80) _ _ at rest (moves-code (omega arith))
     (moves_if (ltb b 0xc2) _ _ at rest (moves-error (omega arith))
-    (moves_if (ltb b 0xe0) _ _ at rest (moves-later (needing bs _ _ _ _ _ (at + 1)) (tells bs _ (at + 1)))
-    (moves_if (ltb b 0xf0) _ _ at rest (moves-later (needing bs _ _ _ _ _ (at + 1)) (tells bs _ (at + 1)))
-    (moves_if (ltb b 0xf5) _ _ at rest (moves-later (needing bs _ _ _ _ _ (at + 1)) (tells bs _ (at + 1)))
+    (moves_if (ltb b 0xe0) _ _ at rest (moves-later (needing bs _ _ _ _ _ (at + 1)) (tells bs (state (b % 32) 0 1 128 191) (at + 1)))
+    (moves_if (ltb b 0xf0) _ _ at rest (moves-later (needing bs _ _ _ _ _ (at + 1)) (tells bs (state (b % 16) 0 2 (lower_of b) (upper_of b)) (at + 1)))
+    (moves_if (ltb b 0xf5) _ _ at rest (moves-later (needing bs _ _ _ _ _ (at + 1)) (tells bs (state (b % 8) 0 3 (lower_of b) (upper_of b)) (at + 1)))
     (moves-error (omega arith))))))
 
 -- ---- what a caller of `next` cites

@@ -5,7 +5,7 @@ use mathlib.Core.List.{List, [], ◌∷◌, ◌++◌, append_assoc, append-nil}
 use Prim.Native.Nat.{ℕ, suc, ◌+◌, ◌-◌, ◌≤◌, ◌<◌}
 use native.Mathlib.Omega.{arith}
 use lib.ListN.{length, take, drop, set, length-append, length-drop, take-append-drop}
-use lib.Seq.{take_at, take_all, drop-append-add, drop-drop, length-take-le, sets, sets_eq, paste}
+use lib.Seq.{take_at, take_all, drop-append-add, drop-drop, length-take-le, sets, sets-eq, paste}
 use borrow.Author.Tests.{leb-true, leb-false, le-leb, lt-leb}
 use Rattle.enc_utf_8.specs.declared.Put.{Put}
 use Rattle.enc_utf_8.specs.declared.Put.TheVariants.{Next, Full}
@@ -153,7 +153,7 @@ wrote_as e h = rw e h
 
 wrote-sets : (xs out : List ℕ) (at : ℕ) → at + length xs ≤ length out → Wrote xs out at (Next (at + length xs)) (sets out at xs)
 unfolding splice
-wrote-sets xs out at h = rw (sets_eq xs out at h) (wrote-splice xs out at h)
+wrote-sets xs out at h = rw (sets-eq xs out at h) (wrote-splice xs out at h)
 
 module _ (out : List ℕ) (at a : ℕ) where
   pub stored_1 : at + 1 ≤ length out → Wrote (a ∷ []) out at (Next (at + 1)) (set out at a)

@@ -7,7 +7,7 @@ use native.Mathlib.Nat.{zero-add, not-suc-le-zero}
 use native.Mathlib.Omega.{arith}
 use lib.Dec.{eqb, ltb}
 use lib.ListN.{length, take, drop}
-use lib.Seq.{sets, sets_eq}
+use lib.Seq.{sets, sets-eq}
 use Rattle.enc_number.specs.Answer.{refusal_of}
 use Rattle.type_book.specs.Book.{is_type, blocks, fields_of}
 use Rattle.type_book_check.specs.declared.RootCheck.{RootCheck}
@@ -52,7 +52,7 @@ module _ (buffer : List ℕ) (len width root : ℕ) where
   unfolding filled_at
   sets-filled n ys h =
       let e : length (resolved_records_at buffer len width root 0 n) ≡ n = length-records 0 n in
-      sets_eq (resolved_records_at buffer len width root 0 n) ys 0 (omega (arith, e)) ∙ ap (λ (k : ℕ). resolved_records_at buffer len width root 0 n ++ drop k ys) (zero-add (length (resolved_records_at buffer len width root 0 n)) ∙ e)
+      sets-eq (resolved_records_at buffer len width root 0 n) ys 0 (omega (arith, e)) ∙ ap (λ (k : ℕ). resolved_records_at buffer len width root 0 n ++ drop k ys) (zero-add (length (resolved_records_at buffer len width root 0 n)) ∙ e)
 
   -- a refusal stores no record
   pub filled_stored : (a : FieldsAnswer) (ys : List Rec) → filled_at buffer len width root (stored_count a) ys ≡ stored_at buffer len width root a ys

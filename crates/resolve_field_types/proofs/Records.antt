@@ -7,7 +7,7 @@ use native.Mathlib.Omega.{arith}
 use borrow.Author.Tests.{le-leb, lt-leb, leb-true}
 use lib.ListN.{length, take, set}
 use lib.Dec.{leb}
-use lib.Seq.{sets, length-sets, sets_eq}
+use lib.Seq.{sets, length-sets, sets-eq}
 use Rattle.type_book.specs.Book.{fields_of}
 use Rattle.type_book_check.specs.declared.RootCheck.{RootCheck}
 use Rattle.type_book_check.specs.declared.RootCheck.TheVariants as checked
@@ -193,7 +193,7 @@ module _ (book : List ℕ) (width t : ℕ) (before : List ℕ) (r : FieldsAnswer
         let b : fields_of book t * 4 ≤ length before = filled-room in
         let l : 0 + length (records_from book width (t + 1) (fields_of book t)) ≤ length before = omega arith in
         let z : 0 + length (records_from book width (t + 1) (fields_of book t)) ≡ length (records_from book width (t + 1) (fields_of book t)) = omega arith in
-        record { is = fields-says _ _ (sym h ∙ e); records = rw (← e, h) (q ∙ sets_eq (records_from book width (t + 1) (fields_of book t)) before 0 l ∙ rw z) }
+        record { is = fields-says _ _ (sym h ∙ e); records = rw (← e, h) (q ∙ sets-eq (records_from book width (t + 1) (fields_of book t)) before 0 l ∙ rw z) }
 
 -- ---- the root
 

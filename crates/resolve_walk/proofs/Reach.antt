@@ -1,7 +1,7 @@
 -- What a walk meets: (i) only what is reached, (ii) all of it where it ends whole, and then all is found where it lists nothing, (iii) no
 -- name twice. Each law is of the walk from a name, and then of a root's, which is that from its name. Assumes nothing.
 use mathlib.Core.Path.{◌≡◌, refl, sym, ap, ◌∙◌}
-use mathlib.Core.Bool.{Bool, true, false, ◌||◌, or_true}
+use mathlib.Core.Bool.{Bool, true, false, ◌||◌, or-true}
 use mathlib.Core.Logic.{◌⊎◌, inl, inr, ⊎_elim}
 use mathlib.Core.List.Memᴰ
 use mathlib.Core.List.{List, [], ◌∷◌, Memᴰ}
@@ -97,7 +97,7 @@ apart book width (fresh {left} {b} {v} {s} e g) x m h =
     (Memᴰ.cases_cons m)
   where
     more-has : (y x : List ℕ) (v : List (List ℕ)) → has v x ≡ true → has (y ∷ v) x ≡ true
-    more-has y x v h = rw h (or_true (same_name y x))
+    more-has y x v h = rw h (or-true (same_name y x))
 apart book width (stop {b} {v} e) x m h =
     ⊎_elim (λ q. true-false (sym h ∙ ap (has v) q ∙ e)) (λ n. Memᴰ.not-nil n) (Memᴰ.cases_cons m)
 

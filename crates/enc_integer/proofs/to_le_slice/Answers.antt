@@ -7,7 +7,7 @@ pub returns-then-width-eq0 : goal.returns-then-width-eq0
 returns-then-width-eq0 c = search write_unsupported
 
 pub fits_id-requires : goal.fits_id-requires
-fits_id-requires c = ((search rules, search width-most), search rules)
+fits_id-requires c = record { le_width = (search rules, search width-most); width_value = search rules }
 
 pub returns-then-out-width : goal.returns-then-out-width
 returns-then-out-width c = search write_size

@@ -11,7 +11,7 @@ pub returns-then-slice-width : goal.returns-then-slice-width
 returns-then-slice-width c = integer_read_says _ _ (search read_size)
 
 pub sign_extended-requires : goal.sign_extended-requires
-sign_extended-requires c = ((search rules, search width-most), search (value-small, rules))
+sign_extended-requires c = record { le_width = (search rules, search width-most); value_bound = search (value-small, rules) }
 
 pub returns-then-is_signed : goal.returns-then-is_signed
 returns-then-is_signed c = integer_read_says _ _ (search read_signed)

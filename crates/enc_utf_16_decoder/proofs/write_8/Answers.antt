@@ -13,7 +13,7 @@ pub loop-from-init : goal.loop-from-init
 loop-from-init c = (search rules, left-all _ _ _ (omega arith))
 
 pub write_block-done-requires : goal.write_block-done-requires
-write_block-done-requires c = (search rules, search part_room)
+write_block-done-requires c = record { from_in_bounds = search rules; bytes_in_bounds = search part_room }
 
 pub loop-from-preserved : goal.loop-from-preserved
 loop-from-preserved c = (search rules, search part-next)

@@ -4,7 +4,7 @@ use borrow.Author.Rules.{rules}
 use Rattle.enc_utf_16_decoder.proofs.write_block.Goals as goal
 
 pub copy_units-after-requires : goal.copy_units-after-requires
-copy_units-after-requires c = (search block-whole, search block_room)
+copy_units-after-requires c = record { at_in_bounds = search block-whole; to_in_bounds = search block_room }
 
 pub overflow_add-result : goal.overflow_add-result
 overflow_add-result c = search (rules, block-whole)

@@ -22,7 +22,7 @@ pub loop-at-preserved-then-goes_through : goal.loop-at-preserved-then-goes_throu
 loop-at-preserved-then-goes_through c = search (rules, passed-cut)
 
 pub codes_end-after-requires : goal.codes_end-after-requires
-codes_end-after-requires c = (search rules, search passed_out)
+codes_end-after-requires c = record { bound_in_bounds = search rules; passed_to = search passed_out }
 
 pub returns-then-after-bound : goal.returns-then-after-bound
 returns-then-after-bound c = search (passed_to, passed_in, stopped)

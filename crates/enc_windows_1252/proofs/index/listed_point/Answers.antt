@@ -132,4 +132,4 @@ returns-in-30 c = arm_is (c.args.byte % 32) 30 _ (search rules) refl
 
 pub returns-in_default : goal.returns-in_default
 unfolding listed_points
-returns-in_default c = last_arm c.args.byte _ c.in_default.rest refl
+returns-in_default c = last_arm c.args.byte _ c.in_default.in_default-own.rest refl

@@ -1,9 +1,12 @@
-use mathlib.Core.Logic.{⊎_elim}
 use Rattle.tape.proofs.Texts.{part-some, part-past, part-over}
+use Rattle.tape.proofs.text.part.Goals.{then-from-end+else-len-end, else-from-end}
 use Rattle.tape.proofs.text.part.Goals as goal
 
 pub returns-then-len-end : goal.returns-then-len-end
 returns-then-len-end c = search part-some
 
 pub returns : goal.returns
-returns c = ⊎_elim (λ w. part-over _ _ _ w.0.taken w.1.left) (λ w. part-past _ _ _ w.left) c.before.if1.branch
+returns c =
+    elim c.if-from-end.branch
+    [ then-from-end+else-len-end w ↦ part-over _ _ _ w.if-from-end.true w.if-len-end.false
+    | else-from-end w ↦ part-past _ _ _ w.if-from-end.false ]
