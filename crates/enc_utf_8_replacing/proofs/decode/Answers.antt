@@ -12,8 +12,7 @@ returns-then-out-at c = search decode-past
 
 -- src/lib.rt:162:26
 pub put_text-requires : goal.put_text-requires
-put_text-requires c = let told = c.before.before in
-    (search rules, decode-room _ _ _ _ told.before.if2.false told.fits_in.ensures c.if-fits_in.true)
+put_text-requires c = record { valid_to = search rules; bytes_in_bounds = decode-room _ _ _ _ c.if-out-at.false c.fits_in.ensures c.if-fits_in.true }
 
 -- src/lib.rt:162:9
 pub returns-then-fits_in : goal.returns-then-fits_in

@@ -17,9 +17,7 @@ pub returns-then-out-at : goal.returns-then-out-at
 returns-then-out-at c = search decode-past
 
 pub put_text-requires : goal.put_text-requires
-put_text-requires c = let told = c.before.before in
-    let entry = told.before.before.before.before.before.before.before.before.before in
-    decode-room entry.args.bytes.now entry.args.out.now entry.args.at _ told.before.if4.false told.fits_in.ensures c.if-fits_in.true
+put_text-requires c = decode-room c.args.bytes.now c.args.out.now c.args.at _ c.if-out-at.false c.fits_in.ensures c.if-fits_in.true
 
 pub returns-then-fits_in : goal.returns-then-fits_in
 returns-then-fits_in c = search decode-done

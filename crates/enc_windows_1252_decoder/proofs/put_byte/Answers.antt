@@ -19,7 +19,7 @@ pub returns-then-byte-ge160 : goal.returns-then-byte-ge160
 returns-then-byte-ge160 c = search byte_high
 
 pub put_wide-requires : goal.put_wide-requires
-put_wide-requires c = ((search point_from, search point_below, search point_third), search wide_room)
+put_wide-requires c = record { le_code = (search point_from, search point_below, search point_third); code_in_bounds = search wide_room }
 
 pub returns : goal.returns
 returns c = search byte-wide

@@ -16,8 +16,8 @@ pub returns-then-not-is_alone : goal.returns-then-not-is_alone
 returns-then-not-is_alone c = search (all-stop, said, not-true)
 
 pub loop-i-preserved : goal.loop-i-preserved
-loop-i-preserved c = let turn = c.before.before.before.before.before.before.before.before in
-    (search rules, search rules, search rules, alone-again _ _ turn.before.loop.invariant.3 _ (search rules) turn.loop-test.true _ c.is_alone.ensures c.if-not-is_alone.false)
+loop-i-preserved c =
+    (search rules, search rules, search rules, alone-again _ _ c.loop-i.invariant.3 _ (search rules) c.loop-i-test.true _ c.is_alone.ensures c.if-not-is_alone.false)
 
 pub returns : goal.returns
 returns c = search all_end
