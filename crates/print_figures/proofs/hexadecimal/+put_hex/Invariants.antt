@@ -1,0 +1,5 @@
+-- The number of digits falls with each call.
+use Rattle.print_figures.proofs.hexadecimal.+put_hex.Given as goal
+
+abbrev pub decreases-put_hex : goal.decreases-put_hex
+decreases-put_hex l = l.k
