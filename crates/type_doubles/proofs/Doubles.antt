@@ -89,8 +89,8 @@ module _ (book : List ℕ) (n : ℕ) (t : Bool) (e : t ≡ is_type book n) where
   unfolding is_first
   alone-field h = rw (← e, h)
 
-pub alone-again : (book : List ℕ) (i : ℕ) → distinct book ≡ all_from (is_first book) i (blocks book - i) → (m : ℕ) → m ≡ blocks book → i < m → (r : Bool) → r ≡ is_first book i → not r ≡ false → distinct book ≡ all_from (is_first book) (i + 1) (blocks book - (i + 1))
-alone-again book i inv m em l r e h = all-again (is_first book) (blocks book) i inv m em l (sym e ∙ not-false r h)
+pub alone-again : (book : List ℕ) (i : ℕ) → distinct book ≡ all_from (is_first book) i (blocks book - i) → (m : ℕ) → m ≡ blocks book → i < m → (r : Bool) → r ≡ is_first book i → r ≡ true → distinct book ≡ all_from (is_first book) (i + 1) (blocks book - (i + 1))
+alone-again book i inv m em l r e h = all-again (is_first book) (blocks book) i inv m em l (sym e ∙ h)
 
 -- ---- what an order of the names decides
 first-apart : (book : List ℕ) → Apart book → (n : ℕ) → n < blocks book → is_first book n ≡ true

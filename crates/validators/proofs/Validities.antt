@@ -86,13 +86,12 @@ module _ (r : Validity) (bytes : List ℕ) (expected : ℕ) (e : validity_refusa
   unfolding size_refusal
   size_is h = eqb-true (length bytes) expected (sized (eqb (length bytes) expected) (sym (ap validity_refusal h) ∙ e))
 
-  other : (r : Validity) → OneOf (1 ∷ 2 ∷ []) (tag_of the_type r) → validity_refusal r ≡ 0 → ⊥
-  other Valid (inl k) q = absurd (omega arith)
-  other Valid (inr k) q = absurd (omega arith)
+  other : (r : Validity) → (r ≡ Valid → ⊥) → validity_refusal r ≡ 0 → ⊥
+  other Valid k q = k refl
   other TypeMismatch k q = omega arith
   other SizeMismatch k q = omega arith
 
   -- any other answer: there are not
-  pub size-other : OneOf (1 ∷ 2 ∷ []) (tag_of the_type r) → length bytes ≡ expected → ⊥
+  pub size-other : (r ≡ Valid → ⊥) → length bytes ≡ expected → ⊥
   unfolding size_refusal
   size-other k h = other r k (e ∙ rw (eq-eqb (length bytes) expected h))
