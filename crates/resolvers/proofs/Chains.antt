@@ -166,18 +166,18 @@ module _ (references : Bool) (book : List ℕ) (width : ℕ) (whole : Resolved) 
         }
 
     module _ (h : not g ≡ false) (f : Found) (ef : f ≡ find book (type_name_of book at)) where
-      goes_on : is_followed references book width at ≡ true
-      goes_on = sym eg ∙ not-false g h
+      goes_on_lem : is_followed references book width at ≡ true
+      goes_on_lem = sym eg ∙ not-false g h
 
       pub chain-lacks : f ≡ Nothing → ResolvedIs book whole (NotFound at)
       chain-lacks n =
           record {
-            is = resolved-says _ _ (sym (turn ∙ follow-lacks (is_followed references book width) book (left - 1) at goes_on (sym ef ∙ n)));
+            is = resolved-says _ _ (sym (turn ∙ follow-lacks (is_followed references book width) book (left - 1) at goes_on_lem (sym ef ∙ n)));
             typed = λ u e. absurd (let z : ◌≡◌ {A = ℕ} 0 1 = cc in omega arith);
           }
 
       pub chain-again : (u : ℕ) → f ≡ At u → whole ≡ follow (is_followed references book width) book (left - 1) u
-      chain-again u n = turn ∙ follow-on (is_followed references book width) book (left - 1) at u goes_on (sym ef ∙ n)
+      chain-again u n = turn ∙ follow-on (is_followed references book width) book (left - 1) at u goes_on_lem (sym ef ∙ n)
 
 -- ---- the look-up of what a block names
 

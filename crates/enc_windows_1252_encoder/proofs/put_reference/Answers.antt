@@ -14,11 +14,11 @@ put_decimal-end-requires c = search reference-room
 pub bounds-out-end : goal.bounds-out-end
 bounds-out-end c = search semicolon_room
 
+pub returns : goal.returns
+returns c = search reference-laid
+
 pub overflow_add-result : goal.overflow_add-result
-overflow_add-result c = search reference-laid
+overflow_add-result c = omega (arith, (returns c).next)
 
 pub shape_of-out : goal.shape_of-out
-shape_of-out c = omega (arith, (overflow_add-result c).next)
-
-pub returns : goal.returns
-returns c = laid-long c.requires (overflow_add-result c)
+shape_of-out c = laid-long c.requires (returns c)

@@ -20,11 +20,11 @@ swept_from-from-requires c = (search ready-book, search rules)
 pub one_round-here-requires : goal.one_round-here-requires
 one_round-here-requires c = (search rules, search rounds-trusted, search rounds-ready, search rounds-holds, search rules, search rules)
 
-pub overflow_sub-left : goal.overflow_sub-left
-overflow_sub-left c = search exits
+pub returns-in-Is : goal.returns-in-Is
+returns-in-Is c = search exits
 
-pub shape_of-buffer : goal.shape_of-buffer
-shape_of-buffer c = (search rounds-again, search rules, search rules, search rules, search rules, search rules)
+pub loop-left-preserved : goal.loop-left-preserved
+loop-left-preserved c = (search rounds-again, search rules, search rules, search rules, search rules, search rules)
 
 pub returns : goal.returns
 returns c = search exits
