@@ -23,7 +23,7 @@ use validators::{Validity, validate_exact_size};
 
 // An array (`deserialize_seq`): its size is held against the bytes, then its element's name is looked up. A name that is not in the book
 // is 7 with the array's block.
-#[cycle(array_dimension_element_elements_value_field_map_member_members)]
+#[cycle(reader)]
 pub(crate) fn array(
     s: Step,
     book: &[u8],
@@ -74,7 +74,7 @@ pub(crate) fn array(
 }
 
 // One dimension of an array (`with_element_type`): in the last one its element's fields are resolved first, and kept in a plan.
-#[cycle(array_dimension_element_elements_value_field_map_member_members)]
+#[cycle(reader)]
 pub(crate) fn dimension(
     s: Step,
     book: &[u8],
@@ -108,7 +108,7 @@ pub(crate) fn dimension(
 }
 
 // The array record, the elements and the end record.
-#[cycle(array_dimension_element_elements_value_field_map_member_members)]
+#[cycle(reader)]
 pub(crate) fn elements(
     s: Step,
     book: &[u8],
@@ -140,7 +140,7 @@ pub(crate) fn elements(
 }
 
 // What one index of a dimension holds (`next_element_seed`): an element, or the next dimension one level deeper.
-#[cycle(array_dimension_element_elements_value_field_map_member_members)]
+#[cycle(reader)]
 pub(crate) fn element(
     s: Step,
     book: &[u8],

@@ -22,7 +22,7 @@ use type_book_check::{GivenRoot, LACKING_ROOT, RootCheck};
 use type_category::type_category::AdsTypeCategory;
 
 // A value of a type in `bytes` (`deserialize_any`). The plan is that of the type's fields, or empty.
-#[cycle(array_dimension_element_elements_value_field_map_member_members)]
+#[cycle(reader)]
 pub(crate) fn value(
     s: Step,
     book: &[u8],

@@ -19,7 +19,7 @@ use type_category_number::category_at;
 use validators::{Validity, validate_exact_size};
 
 // The fields of a type (`deserialize_map`), after all of them were resolved once: by whoever gave a plan, or here.
-#[cycle(array_dimension_element_elements_value_field_map_member_members)]
+#[cycle(reader)]
 pub(crate) fn map(
     s: Step,
     book: &[u8],
@@ -51,7 +51,7 @@ pub(crate) fn map(
 }
 
 // The map record, the fields and the end record.
-#[cycle(array_dimension_element_elements_value_field_map_member_members)]
+#[cycle(reader)]
 pub(crate) fn members(
     s: Step,
     book: &[u8],
@@ -138,7 +138,7 @@ fn number_of(book: &[u8], m: Member, bytes: &[u8]) -> Record
 }
 
 // A field's value (`next_value_seed`), of any type.
-#[cycle(array_dimension_element_elements_value_field_map_member_members)]
+#[cycle(reader)]
 pub(crate) fn field(
     s: Step,
     book: &[u8],
@@ -168,7 +168,7 @@ pub(crate) fn field(
 }
 
 // A field: its key (`next_key_seed`), then its value. Most are numbers, which go on the tape without a further call.
-#[cycle(array_dimension_element_elements_value_field_map_member_members)]
+#[cycle(reader)]
 pub(crate) fn member(
     s: Step,
     book: &[u8],
