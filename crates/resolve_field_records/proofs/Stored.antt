@@ -2,12 +2,13 @@
 use mathlib.Core.Path.{◌≡◌, refl, sym, ap, ◌∙◌}
 use mathlib.Core.Bool.{Bool, true, false, cond, ◌&&◌}
 use mathlib.Core.List.{List, [], ◌∷◌, ◌++◌}
-use Prim.Native.Nat.{ℕ, zero, suc, ◌+◌, ◌≤◌, ◌<◌}
+use Prim.Native.Nat.{ℕ, zero, suc, ◌+◌, ◌-◌, ◌≤◌, ◌<◌}
 use native.Mathlib.Nat.{zero-add, not-suc-le-zero}
 use native.Mathlib.Omega.{arith}
 use lib.Dec.{eqb, ltb}
-use lib.ListN.{length, take, drop}
+use lib.ListN.{length, take, drop, set}
 use lib.Seq.{sets, sets-eq}
+use Rattle.std.proofs.Math.Numerals.{add-one}
 use Rattle.enc_number.specs.Answer.{refusal_of}
 use Rattle.type_book.specs.Book.{is_type, blocks, fields_of}
 use Rattle.type_book_check.specs.declared.RootCheck.{RootCheck}
@@ -22,7 +23,7 @@ use Rattle.resolve_field_types.specs.declared.FieldAnswer.TheVariants as answer
 use Rattle.resolve_field_types.specs.declared.FieldsAnswer.{FieldsAnswer}
 use Rattle.resolve_field_types.specs.declared.FieldsAnswer.TheVariants as fields
 use Rattle.resolve_field_types.specs.Calls.{fields_answer, root_fields}
-use Rattle.resolve_field_records.specs.Stored.{no_record, resolved_record, resolved_records_at, Resolvable, AllResolvable, stored_count, filled_at, stored_at}
+use Rattle.resolve_field_records.specs.Stored.{no_record, resolved_record, record_at, resolved_records_at, Resolvable, AllResolvable, stored_count, filled_at, stored_at}
 use Rattle.resolve_field_types.proofs.Fields.{field-number}
 use Rattle.resolve_field_types.proofs.Records.{done-fit}
 
@@ -53,6 +54,21 @@ module _ (buffer : List ℕ) (len width root : ℕ) where
   sets-filled n ys h =
       let e : length (resolved_records_at buffer len width root 0 n) ≡ n = length-records 0 n in
       sets-eq (resolved_records_at buffer len width root 0 n) ys 0 (omega (arith, e)) ∙ ap (λ (k : ℕ). resolved_records_at buffer len width root 0 n ++ drop k ys) (zero-add (length (resolved_records_at buffer len width root 0 n)) ∙ e)
+
+  -- the loop's turns: the records that are left, stored from field i on, give the whole
+  pub stored_turn : (n i : ℕ) (zs whole : List Rec) → i < n → sets zs i (resolved_records_at buffer len width root i (n - i)) ≡ whole → (r : Rec) → r ≡ record_at buffer len width root i
+      → sets (set zs i r) (i + 1) (resolved_records_at buffer len width root (i + 1) (n - (i + 1))) ≡ whole
+  unfolding resolved_records_at
+  stored_turn n i zs whole l e r h =
+      let q : n - i ≡ suc (n - suc i) = omega arith in
+      rw (h, add-one i) (rw q at e)
+
+  pub stored_end : (n i : ℕ) (zs ys : List Rec) → i ≤ n → n ≤ i → n ≤ length ys → sets zs i (resolved_records_at buffer len width root i (n - i)) ≡ sets ys 0 (resolved_records_at buffer len width root 0 n)
+      → zs ≡ filled_at buffer len width root n ys
+  unfolding resolved_records_at
+  stored_end n i zs ys a b l e =
+      let q : n - i ≡ 0 = omega arith in
+      rw q at e ∙ sets-filled n ys l
 
   -- a refusal stores no record
   pub filled_stored : (a : FieldsAnswer) (ys : List Rec) → filled_at buffer len width root (stored_count a) ys ≡ stored_at buffer len width root a ys

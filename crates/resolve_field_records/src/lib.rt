@@ -68,7 +68,7 @@ fn record_of(answer: FieldAnswer) -> FieldRecord
     }
 }
 
-// The covered resolver of one field: the record of field i of the root.
+// The record of field i of the root.
 fn record_at(
     buffer: &[u8],
     len: usize,
@@ -85,7 +85,7 @@ fn record_at(
     record_of(answer)
 }
 
-// The first n records are those of the root's fields, the rest as before. Proved by a walk.
+// The first n records are those of the root's fields, the rest as before.
 fn fill_records(
     buffer: &[u8],
     len: usize,
@@ -105,7 +105,7 @@ fn fill_records(
     }
 }
 
-// Stores a record for each field of the root block, in order. A refusal leaves the records as they were. Proved by a walk.
+// Stores a record for each field of the root block, in order. A refusal leaves the records as they were.
 pub fn resolve_fields(
     buffer: &[u8],
     len: usize,
@@ -155,7 +155,7 @@ fn checked_fields(
     }
 }
 
-// `resolve_fields` of a root that is given by its name. Proved by a walk.
+// `resolve_fields` of a root that is given by its name.
 pub fn resolve_fields_named(
     buffer: &[u8],
     len: usize,

@@ -22,7 +22,7 @@ pub returns-then-d-eq0 : goal.returns-then-d-eq0
 returns-then-d-eq0 c = search exits
 
 pub step-e-requires : goal.step-e-requires
-step-e-requires c = let applied = c.before.before.before.before.before.before.before.before.before in (search rules, search rules, search rules, search (pending-list, applied.apply.ensures, applied.before.before.loop.invariant.0), search rules, search pending-room)
+step-e-requires c = (search rules, search rules, search rules, search (pending-list, c.apply-turn.ensures, c.loop-l.invariant.0), search rules, search pending-room)
 
 pub loop-l-smaller : goal.loop-l-smaller
 loop-l-smaller c = search pending-falls
