@@ -1,7 +1,7 @@
 #!/usr/bin/env python3
 """Holds the static library against the original: random books through both, line by line.
 
-    rt staticlib gateway
+    (cd crates/gateway && rt lib)
     (cd rust && cargo build --release --offline)
     python3 tools/compare_oracle.py ORACLE target/cargo/release/ask [--cases 100000] [--seed 0] [--only plan]
 

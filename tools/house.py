@@ -5,7 +5,7 @@
     python3 tools/house.py --check    says whether docs/house.svg is what crates.txt gives (exit status 1 if not)
 
 A room is what stands in crates.txt under one heading (a line '# NAME: what it has'). What a crate reaches through another crate of its
-line is left out of its box.
+line is left out of its box, and so is a library of the kit.
 """
 
 import sys
@@ -14,7 +14,6 @@ from pathlib import Path
 
 TOP = Path(__file__).resolve().parent.parent
 PICTURE = TOP / "docs" / "house.svg"
-KIT = {"io", "os", "libc", "check"}
 WIDTH, LEFT, GAP, LINE, LETTER = 1180, 16, 10, 13, 6.3
 
 
@@ -26,8 +25,10 @@ def rooms():
             found.append((line[2:], {}))
         elif ":" in line and not line.startswith("#"):
             name, _, below = line.partition(":")
-            found[-1][1][name.strip()] = [d for d in below.split() if d not in KIT]
-    return found
+            # a static library has that word after its name
+            found[-1][1][name.split()[0]] = below.split()
+    ours = {name for _, crates in found for name in crates}
+    return [(heading, {name: [d for d in below if d in ours] for name, below in crates.items()}) for heading, crates in found]
 
 
 def reaches(name, below, seen):

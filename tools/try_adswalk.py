@@ -4,7 +4,7 @@
     python3 tools/try_adswalk.py ORACLE [COUNT]
 
 ORACLE is the oracle's folder, built; COUNT (2,000) is the number of random books, each with two memories. The program is
-target/bin/adswalk, which `rt check adswalk` makes. Every seed is fixed. The lines that it must print are made here, from the
+crates/adswalk/out/adswalk, which `rt run` in crates/adswalk makes. Every seed is fixed. The lines that it must print are made here, from the
 events of the oracle's request `read` and the names in the book; refusals 1 to 4 are those of `check` of the oracle's book.py.
 """
 
@@ -18,7 +18,7 @@ from answers import check, oracle
 from document_02 import completed, has_times
 
 TOP = os.path.join(os.path.dirname(os.path.abspath(__file__)), "..")
-PROGRAM = os.path.join(TOP, "target", "bin", "adswalk")
+PROGRAM = os.path.join(TOP, "crates", "adswalk", "out", "adswalk")
 GLUE = os.path.join(TOP, "examples", "glue")
 BOOK, MEMORY, RECORDS, TEXT = 65536, 4096, 2730, 12288
 

@@ -1,17 +1,15 @@
 #!/usr/bin/env python3
-"""Tries the must-fail edits of some crates alone, those in must-fail/more too, which the gate leaves out.
+"""Tries the must-fail edits of some crates alone, those in must-fail-more/ too, which the gate leaves out.
 
     python3 tools/try_edits.py CRATE ...           # all edits of these crates
     python3 tools/try_edits.py --more [CRATE ...]  # only those that the gate leaves out, of these crates or of all
 
-The crates must be proved (`rt check CRATE`). For each edit one line: refused with the place of the first error, or NOT
-REFUSED; "shape too" says that the proof no longer fits the code, so that the edit would be refused whatever the facts. The last line
-counts them. (`rt must-fail CRATE` tries the edits of every crate below as well.) An edit's form is rt's: lines
-`file:`, `old:`, `new:`.
+It puts the edits into must-fail/ of a copy of the repository among the temporary files, and runs `rt must-fail CRATE ...` there, which begins
+with what `rt check` kept of the crates in this one. Of each edit rt's line is printed: refused, with the place of the first error; NOT REFUSED; or
+BAD EDIT, where it can't be applied or read. The last line counts them. An edit's form is rt's: lines `file:`, `old:`, `new:`. (An edit is kept
+out of must-fail/ in a folder of its own, since rt takes each file below must-fail/ for an edit of the gate.)
 """
 
-import os
-import platform
 import re
 import shutil
 import subprocess
@@ -19,89 +17,61 @@ import sys
 import tempfile
 from pathlib import Path
 
-ROOT = Path(__file__).resolve().parent.parent
-KIT = Path(os.environ.get("RATTLE_HOME") or Path(shutil.which("rt")).resolve().parent.parent)
-OWN = KIT / "on" / platform.machine()
-# What the prover says where a proof's needs are no longer those of the code.
-SHAPE = re.compile(r"error: .*(has no `Need-|expected type `tie\.|components but its type|differ where one has `\S+\.Lts\.)")
+TOP = Path(__file__).resolve().parent.parent
+FOLDERS = ("must-fail", "must-fail-more")
+LINE = re.compile(r"^rt: (must-fail \S+/\S+?): (.*)")
 
 
-def needs(name):
-    """The crates that a crate's line in crates.txt names."""
-    for line in (ROOT / "crates.txt").read_text().splitlines():
-        head, _, rest = line.partition("#")[0].partition(":")
-        if head.strip() == name:
-            return rest.split()
-    sys.exit(f"crates.txt has no crate {name}")
-
-
-def flags(name, root):
-    """The words that rt gives to `rattle check`."""
-    words = ["--crate-name", name, str(root), "--extern", f"std={OWN}/rlib/std.rlib"]
-    for need in needs(name):
-        own = ROOT / "crates" / need / "src"
-        folder = ROOT / "target" if own.is_dir() else OWN
-        words += ["--extern", f"{need}={folder}/rlib/{need}.rlib"]
-    words += ["-L", f"dependency={ROOT}/target/rlib", "-L", f"dependency={OWN}/rlib"]
-    return words + ["--antt-project", f"{KIT}/logic/antt-project.json", "--logic-built", f"{OWN}/logic-built"]
-
-
-def apply(edit, folder):
-    """Makes the replacements of an edit in a copy of the crate; each old text occurs once. What does not fit, if anything."""
-    file = old = None
-    for line in edit.read_text().splitlines():
-        if line.startswith("file: "):
-            file = folder / line[6:]
-        elif line.startswith("old: "):
-            old = line[5:]
-        elif line.startswith("new:"):
-            text = file.read_text()
-            if text.count(old) != 1:
-                return f"does not fit: the old text occurs {text.count(old)} times"
-            file.write_text(text.replace(old, line[4:].removeprefix(" ")))
-    return None
-
-
-def tried(name, edit):
-    """Whether the prover refuses the crate with this edit, and where first."""
-    with tempfile.TemporaryDirectory() as place:
-        folder = Path(place) / "crate"
+def copied(folder, names, folders):
+    """Copies what rt reads of the repository, and the edits of these crates; how many edits there are."""
+    count = 0
+    for name in ("crates.txt", "HANDLES"):
+        if (TOP / name).exists():
+            shutil.copyfile(TOP / name, folder / name)
+    for crate in (TOP / "crates").iterdir():
+        to = folder / "crates" / crate.name
         for part in ("src", "specs", "proofs"):
-            if (ROOT / "crates" / name / part).is_dir():
-                shutil.copytree(ROOT / "crates" / name / part, folder / part)
-        unfit = apply(edit, folder)
-        if unfit:
-            return unfit
-        main = folder / "src" / "main.rt"
-        root = main if main.exists() else folder / "src" / "lib.rt"
-        run = subprocess.run([OWN / "bin" / "rattle", "check", *flags(name, root)], capture_output=True, text=True)
-        said = run.stdout + run.stderr
-        if run.returncode != 1 or "logic=not-proved" not in said:
-            return "NOT REFUSED" if run.returncode == 0 else f"did not reach the prover (exit {run.returncode})"
-        first = re.search(r"^(\S+): error", said, re.M) or re.search(r"^note: (\S+):", said, re.M)
-        place = f", first at {first[1].replace(str(folder) + '/', '')}" if first else ""
-        return f"refused{place}{' (shape too)' if SHAPE.search(said) else ''}"
+            if (crate / part).is_dir():
+                shutil.copytree(crate / part, to / part)
+        for part in folders if crate.name in names else ():
+            for edit in sorted((crate / part).glob("*.edit")):
+                (to / "must-fail").mkdir(exist_ok=True)
+                # an edit of each folder may have the same name
+                shutil.copyfile(edit, to / "must-fail" / (f"more-{edit.name}" if part != FOLDERS[0] else edit.name))
+                count += 1
+    return count
 
 
 def main():
     names = sys.argv[1:]
-    more = names[:1] == ["--more"]
-    if more:
-        names = names[1:] or sorted(folder.name for folder in (ROOT / "crates").iterdir())
+    folders = FOLDERS
+    if names[:1] == ["--more"]:
+        folders = FOLDERS[1:]
+        names = names[1:] or sorted(folder.parent.name for folder in (TOP / "crates").glob(f"*/{FOLDERS[1]}"))
     if not names:
         sys.exit(__doc__)
-    refused = left = 0
     for name in names:
-        folder = ROOT / "crates" / name / "must-fail"
-        for edit in sorted((folder / "more").glob("*.edit") if more else folder.rglob("*.edit")):
-            said = tried(name, edit)
-            if said.startswith("refused"):
-                refused += 1
-            else:
-                left += 1
-            print(f"{name}/{edit.stem}: {said}", flush=True)
-    print(f"{refused} refused, {left} not")
-    sys.exit(left > 0)
+        if not (TOP / "crates" / name / "src").is_dir():
+            sys.exit(f"tools/try_edits.py: there is no crate {name}")
+    refused = 0
+    with tempfile.TemporaryDirectory(prefix="try-edits-") as place:
+        count = copied(Path(place), names, folders)
+        if not count:
+            sys.exit(f"tools/try_edits.py: {' '.join(names)} has no such edits")
+        run = subprocess.Popen(["rt", "must-fail", *names], cwd=place, stdout=subprocess.PIPE, stderr=subprocess.STDOUT, text=True, errors="replace")
+        said = []
+        for line in run.stdout:
+            said.append(line.replace(place + "/", ""))
+            if found := LINE.match(said[-1]):
+                refused += found[2].startswith("refused")
+                name = found[1].removeprefix("must-fail ").removesuffix(".edit").replace("/more-", "/more/")
+                print(f"{name}: {found[2]}", flush=True)
+        status = run.wait()
+    if status and not any(LINE.match(line) for line in said):
+        # a library below isn't proved, say
+        print("".join(said[-40:]), end="")
+    print(f"{refused} refused, {count - refused} not")
+    sys.exit(status != 0 or refused < count)
 
 
 if __name__ == "__main__":

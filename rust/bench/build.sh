@@ -1,7 +1,7 @@
 #!/bin/sh
 # Builds the comparison of the port's encodings with encoding_rs, offline, with the crate of Debian's librust-encoding-rs-dev:
-#     rt staticlib gateway
-#     sh rust/bench/build.sh target/staticlib/libgateway.a FOLDER
+#     (cd crates/gateway && rt lib)
+#     sh rust/bench/build.sh crates/gateway/out/libgateway.a FOLDER
 #     FOLDER/release/bench
 # Nothing of the gate needs it.
 set -eu

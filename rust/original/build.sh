@@ -1,6 +1,6 @@
 #!/bin/sh
 # Builds the comparison of the port's speed with the original's, offline:
-#     rt staticlib gateway
+#     (cd crates/gateway && rt lib)
 #     sh rust/original/build.sh ORACLE FOLDER
 #     FOLDER/release/original
 # ORACLE is a folder with the crates tcads-core and tcads-serde as the oracle has them (the published Rust over stand-ins);

@@ -1,5 +1,5 @@
 //! Links the proved static library: `libgateway.a` in the folder that GATEWAY_LIB_DIR names, else in the repository's
-//! `target/staticlib`, where `rt staticlib gateway` puts it.
+//! `crates/gateway/out`, where `rt lib` puts it.
 
 use std::env;
 use std::path::PathBuf;
@@ -8,12 +8,12 @@ fn main() {
     println!("cargo:rerun-if-env-changed=GATEWAY_LIB_DIR");
     let folder = match env::var_os("GATEWAY_LIB_DIR") {
         Some(folder) => PathBuf::from(folder),
-        None => PathBuf::from(env!("CARGO_MANIFEST_DIR")).join("../../target/staticlib"),
+        None => PathBuf::from(env!("CARGO_MANIFEST_DIR")).join("../../crates/gateway/out"),
     };
     let library = folder.join("libgateway.a");
     if !library.is_file() {
         eprintln!(
-            "{} isn't there: run `rt staticlib gateway` in the repository's root, or let GATEWAY_LIB_DIR name its folder",
+            "{} isn't there: run `rt lib` in the repository's folder crates/gateway, or let GATEWAY_LIB_DIR name its folder",
             library.display()
         );
         std::process::exit(1);

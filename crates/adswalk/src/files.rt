@@ -1,19 +1,34 @@
 // The program's files and buffers. Each buffer's `ensures` gives its length, which lending it as a slice needs.
-ghost use Rattle.std.specs.Prelude.{◌≡◌, length};
-ghost use Rattle.io.specs.Counts.{IsPrefixLen};
+ghost use Rattle.std.specs.Prelude.{◌≡◌, ◌≤◌, length, IfOk};
+
+use std::io::Read;
+use std::rt::Files;
+use std::{fs, io};
 
 // The bytes of a file, from the start of `buffer` on, as far as they go there: their number. A file that is absent or
 // can't be opened is empty.
-pub(crate) fn read(name: &[u8], buffer: &mut [u8]) -> usize
-    ensures { IsPrefixLen result buffer.new }
+pub(crate) fn read(files: &impl Files, name: &str, buffer: &mut [u8]) -> io::Result<usize>
+    ensures { IfOk result (λ n. n ≤ length buffer.new) }
 {
-    let fd = os::open_read(name);
-    if fd < 0 {
-        return 0;
+    match fs::open(files, name) {
+        Ok(mut file) => read_full(&mut file, buffer),
+        Err(_) => Ok(0),
     }
-    let n = io::read_full(fd, buffer);
-    libc::close(fd);
-    n
+}
+
+// Reads until the buffer is full or the file ends.
+fn read_full<R: Read>(file: &mut R, buffer: &mut [u8]) -> io::Result<usize>
+    ensures { IfOk result (λ n. n ≤ length buffer.new) }
+{
+    let mut done = 0;
+    while done < buffer.len() {
+        let n = file.read(&mut buffer[done..])?;
+        if n == 0 {
+            break;
+        }
+        done += n;
+    }
+    Ok(done)
 }
 
 // One byte more than the longest book, so that a longer one is told.

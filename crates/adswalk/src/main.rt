@@ -6,16 +6,18 @@
 mod files;
 
 use enc_utf_8::Put;
+use std::io;
+use std::io::Write;
 
-fn main() {
+fn main(rt: HostRuntime) -> io::Result<()> {
     let mut book = files::book_buffer();
     let mut memory = files::memory_buffer();
     let mut out = files::line_buffer();
-    let n = files::read(b"book.bin", &mut book);
-    let m = files::read(b"mem.bin", &mut memory);
+    let n = files::read(&rt, "book.bin", &mut book)?;
+    let m = files::read(&rt, "mem.bin", &mut memory)?;
     let put = printout::print(&book[0..n], &memory[0..m], &mut out);
     let Put::Next(k) = put else {
-        return;
+        return Ok(());
     };
-    io::write_all(libc::STDOUT_FILENO, &out[0..k]);
+    io::writer(&rt).write_all(&out[0..k])
 }

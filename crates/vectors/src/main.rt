@@ -18,30 +18,33 @@ mod resolving;
 mod sums;
 mod writes;
 
-fn main() {
-    let mut book = replay::book_buffer();
-    texts_and_numbers(&mut book);
-    checks_and_walks(&mut book);
-    reads_and_writes(&mut book);
+use std::io;
+use std::rt::Files;
+
+fn main(rt: HostRuntime) -> io::Result<()> {
+    let mut book = replay::book_buffer(rt.alloc())?;
+    texts_and_numbers(&rt, &mut book)?;
+    checks_and_walks(&rt, &mut book)?;
+    reads_and_writes(&rt, &mut book)
 }
 
 // Each file has the buffer for the book that is kept from case to case.
-fn texts_and_numbers(book: &mut [u8]) {
-    replay::file(b"windows-1252", book);
-    replay::file(b"utf-16", book);
-    replay::file(b"utf-8", book);
-    replay::file(b"numbers", book);
+fn texts_and_numbers<R: Files + Print>(rt: &R, book: &mut [u8]) -> io::Result<()> {
+    replay::file(rt, "windows-1252", book)?;
+    replay::file(rt, "utf-16", book)?;
+    replay::file(rt, "utf-8", book)?;
+    replay::file(rt, "numbers", book)
 }
 
-fn checks_and_walks(book: &mut [u8]) {
-    replay::file(b"checks", book);
-    replay::file(b"categories", book);
-    replay::file(b"walks", book);
+fn checks_and_walks<R: Files + Print>(rt: &R, book: &mut [u8]) -> io::Result<()> {
+    replay::file(rt, "checks", book)?;
+    replay::file(rt, "categories", book)?;
+    replay::file(rt, "walks", book)
 }
 
-fn reads_and_writes(book: &mut [u8]) {
-    replay::file(b"reads", book);
-    replay::file(b"limits", book);
-    replay::file(b"writes", book);
-    replay::file(b"marked-strings", book);
+fn reads_and_writes<R: Files + Print>(rt: &R, book: &mut [u8]) -> io::Result<()> {
+    replay::file(rt, "reads", book)?;
+    replay::file(rt, "limits", book)?;
+    replay::file(rt, "writes", book)?;
+    replay::file(rt, "marked-strings", book)
 }

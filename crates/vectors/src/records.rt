@@ -70,7 +70,7 @@ fn same(answer: FieldsAnswer, records: [FieldRecord; 4096], code: u64, numbers: 
     1
 }
 
-// The same of what `resolve_field_records::resolve_fields` answers and stores. Proved by a walk.
+// The same of what `resolve_field_records::resolve_fields` answers and stores.
 fn compared(book: &[u8], len: usize, width: u8, root: u64, code: u64, numbers: &[u32]) -> u8
     ensures { result ≤ 1 }
 {

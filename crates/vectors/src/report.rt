@@ -1,6 +1,6 @@
 // What the program writes: a line for each file, and above it the file's first difference.
 use cases_file::input::{byte_at, first, from};
-use libc::STDOUT_FILENO;
+use std::io;
 
 // How many cases were replayed and how many of them differ.
 #[derive(Clone, Copy)]
@@ -48,48 +48,41 @@ impl Tally {
     }
 }
 
-// A byte as a number.
-fn wide(byte: u8) -> u64 {
-    byte as u64
-}
-
 // Writes bytes as hexadecimal digits.
-fn hex(bytes: &[u8]) {
-    let mut i = 0;
-    while i < bytes.len() {
-        io::print_hex(STDOUT_FILENO, wide(bytes[i]), 2);
-        i += 1;
+fn hex<R: Print>(rt: &R, bytes: &[u8]) -> io::Result<()> {
+    for byte in bytes {
+        print!(rt; "{byte:02x}")?;
     }
+    Ok(())
 }
 
 // Writes a label and a number.
-fn number(label: &[u8], n: u64) {
-    io::write_all(STDOUT_FILENO, label);
-    io::print_decimal(STDOUT_FILENO, n);
+fn number<R: Print>(rt: &R, label: &str, n: u64) -> io::Result<()> {
+    print!(rt; "{label}{n}")
 }
 
 // Writes a label and at most 64 bytes.
-fn part(label: &[u8], bytes: &[u8]) {
-    io::write_all(STDOUT_FILENO, label);
-    hex(first(bytes, 64));
+fn part<R: Print>(rt: &R, label: &str, bytes: &[u8]) -> io::Result<()> {
+    rt.print(label)?;
+    hex(rt, first(bytes, 64))
 }
 
 // Writes a file's first difference: the case's number, its operation, its input and what is recorded.
-pub(crate) fn difference(case: &[u8], recorded: &[u8], tally: Tally) {
+pub(crate) fn difference<R: Print>(rt: &R, case: &[u8], recorded: &[u8], tally: Tally) -> io::Result<()> {
     if tally.differences > 0 {
-        return;
+        return Ok(());
     }
-    number(b"first difference: case ", tally.cases);
-    number(b" operation ", byte_at(case, 0) as u64);
-    part(b" input ", from(case, 5));
-    part(b" recorded ", recorded);
-    io::write_all(STDOUT_FILENO, b"\n");
+    number(rt, "first difference: case ", tally.cases)?;
+    number(rt, " operation ", byte_at(case, 0) as u64)?;
+    part(rt, " input ", from(case, 5))?;
+    part(rt, " recorded ", recorded)?;
+    rt.println("")
 }
 
 // Writes how many cases a file has, and how many differ.
-pub(crate) fn total(name: &[u8], tally: Tally) {
-    io::write_all(STDOUT_FILENO, name);
-    number(b" cases ", tally.cases);
-    number(b" differences ", tally.differences);
-    io::write_all(STDOUT_FILENO, b"\n");
+pub(crate) fn total<R: Print>(rt: &R, name: &str, tally: Tally) -> io::Result<()> {
+    rt.print(name)?;
+    number(rt, " cases ", tally.cases)?;
+    number(rt, " differences ", tally.differences)?;
+    rt.println("")
 }

@@ -3,7 +3,7 @@ use Rattle.std.proofs.Common.{◌≡◌, length}
 use Rattle.vectors.proofs.replay.run_pages.Given as goal
 
 abbrev pub invariant-loop-turns : goal.invariant-loop-turns
-invariant-loop-turns l = (length l.page ≡ length l.initial.page) × (length l.book ≡ length l.initial.book) × (length l.work ≡ length l.initial.work) × (length l.answer ≡ length l.initial.answer)
+invariant-loop-turns g l = (length l.page ≡ length l.initial.page) × (length l.book ≡ length l.initial.book) × (length l.work ≡ length l.initial.work) × (length l.answer ≡ length l.initial.answer)
 
 abbrev pub decreases-loop-turns : goal.decreases-loop-turns
-decreases-loop-turns l = l.turns
+decreases-loop-turns g l = l.turns

@@ -1,0 +1,2 @@
+-- A law that the proofs of the buffers cite.
+mod Filled

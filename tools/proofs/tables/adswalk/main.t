@@ -1,2 +1,0 @@
-use Rattle·printout.proofs.Room.{print-room}
-part-write-all-end => search print-room

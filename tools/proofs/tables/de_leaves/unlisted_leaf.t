@@ -1,4 +1,0 @@
-use Rattle·de_leaves·proofs.proofs.Leaves.{unlisted-value, unlisted-size, unlisted-id}
-ruleset exits = (unlisted-value, unlisted-size, unlisted-id)
-returns.* => search exits
-.* => search needs

@@ -1,2 +1,0 @@
-use Rattle·de_output·proofs.proofs.Puts.{put-made}
-returns => search put-made

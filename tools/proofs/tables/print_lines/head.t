@@ -1,2 +1,0 @@
-use Rattle·print_lines·proofs.proofs.Prints.{head-put}
-returns => search head-put

@@ -1,2 +1,0 @@
-use Rattle·print_record_line·proofs.proofs.Prints.{named-put}
-returns => search named-put

@@ -1,2 +1,0 @@
-use Rattle·print_record_line·proofs.proofs.Prints.{sized-put}
-returns => search sized-put

@@ -1,2 +1,0 @@
-use Rattle·resolve_field_plan·proofs.proofs.Plans.{entry-past}
-returns-2 => search entry-past

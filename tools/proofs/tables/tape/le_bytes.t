@@ -1,2 +1,0 @@
-use Rattle·tape·proofs.proofs.Records.{eight-stored}
-returns.* => search eight-stored

@@ -1,2 +1,0 @@
-use Rattle·tape·proofs.proofs.Records.{record-made}
-returns.* => search record-made

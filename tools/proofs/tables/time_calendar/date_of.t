@@ -1,3 +1,0 @@
-use Rattle·time_calendar·proofs.proofs.Dates.{start-before, in-year-few, first-before, date-of-is}
-returns.* => search (date-of-is, needs)
-.* => search (start-before, in-year-few, first-before, needs)

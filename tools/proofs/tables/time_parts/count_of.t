@@ -1,2 +1,0 @@
-use Rattle·time_parts·proofs.proofs.Exits.{count-say}
-returns.* => search (count-say, needs)

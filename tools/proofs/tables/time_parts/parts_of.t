@@ -1,2 +1,0 @@
-use Rattle·time_parts·proofs.proofs.Exits.{parts-say}
-returns.* => search (parts-say, needs)

@@ -1,3 +1,0 @@
-use Rattle·time_types·proofs.proofs.Names.{no-byte, no-first}
-returns.* => search (no-byte, no-first, needs)
-.* => search needs
