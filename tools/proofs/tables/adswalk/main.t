@@ -1,0 +1,2 @@
+use Rattle·printout.proofs.Room.{print-room}
+part-write-all-end => search print-room

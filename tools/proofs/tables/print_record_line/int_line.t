@@ -1,0 +1,2 @@
+use Rattle·print_record_line·proofs.proofs.Prints.{int-put}
+returns => search int-put

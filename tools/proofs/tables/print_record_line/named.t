@@ -1,0 +1,2 @@
+use Rattle·print_record_line·proofs.proofs.Prints.{named-put}
+returns => search named-put

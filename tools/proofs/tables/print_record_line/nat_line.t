@@ -1,0 +1,2 @@
+use Rattle·print_record_line·proofs.proofs.Prints.{nat-put}
+returns => search nat-put

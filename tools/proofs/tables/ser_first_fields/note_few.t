@@ -1,0 +1,3 @@
+use borrow.Author.Needs.{needs}
+note-fields-requires => (search needs, search needs, search needs, search needs, search needs, search needs)
+.* => search needs

@@ -1,0 +1,3 @@
+use Rattle·ser_named_blocks·proofs.proofs.Names.{entry-is}
+returns => search entry-is
+.* => search needs

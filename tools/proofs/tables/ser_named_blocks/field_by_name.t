@@ -1,0 +1,3 @@
+use Rattle·ser_named_blocks·proofs.proofs.Names.{field-is}
+returns => search field-is
+.* => search needs

@@ -1,0 +1,2 @@
+use Rattle·tape·proofs.proofs.Records.{eight-stored}
+returns.* => search eight-stored

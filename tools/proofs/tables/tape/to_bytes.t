@@ -1,0 +1,2 @@
+use Rattle·tape·proofs.proofs.Records.{record-made}
+returns.* => search record-made

@@ -1,0 +1,3 @@
+use Rattle·time_parts·proofs.proofs.Exits.{clock-parts-is}
+returns.* => search (clock-parts-is, needs)
+.* => search needs

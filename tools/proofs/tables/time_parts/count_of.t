@@ -1,0 +1,2 @@
+use Rattle·time_parts·proofs.proofs.Exits.{count-say}
+returns.* => search (count-say, needs)

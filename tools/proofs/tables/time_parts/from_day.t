@@ -1,0 +1,3 @@
+use Rattle·time_parts·proofs.proofs.Exits.{day-late, sum-late, sum-told}
+returns.* => search (day-late, sum-late, sum-told, needs)
+.* => search needs

@@ -1,0 +1,3 @@
+use Rattle·time_parts·proofs.proofs.Exits.{moment-parts-is}
+returns.* => search (moment-parts-is, needs)
+.* => search needs

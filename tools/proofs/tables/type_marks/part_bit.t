@@ -1,0 +1,3 @@
+use Rattle·type_marks·proofs.proofs.Laws.{part-bit-is}
+returns => search part-bit-is
+.* => search needs
