@@ -86,7 +86,7 @@ module _ (image output : List ℕ) (r : WriteAnswer) (last : List ℕ) (d : r �
   by_outcome : (o : Outcome) → WriteIs o image output r last → Whole c n image o
       → ((at : Cursor) (new : List ℕ) → o ≡ went at new → eqb (length output) (length image) ≡ true) → OnlyIn (leaves_of c n (length image)) image last
   by_outcome (went at new) w x room =
-      let q : last ≡ new = (rw (room at new refl) at w.output-is) in
+      let q : last ≡ new = (rw (room at new refl) at w.output_is) in
       rw q (x.accepted at new refl)
   by_outcome (refused k b new) w x room = absurd (not_done (eqb k 7) k b (sym (write_is _ _ w.answer) ∙ d))
 
