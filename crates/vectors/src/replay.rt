@@ -120,7 +120,15 @@ fn run_page<R: Print>(
     let mut at = 0;
     while at < page.len() {
         let rest = from(page, at);
-        tally = run_case(rt, case_of(rest), recorded_of(rest), book, work, answer, tally)?;
+        tally = run_case(
+            rt,
+            case_of(rest),
+            recorded_of(rest),
+            book,
+            work,
+            answer,
+            tally,
+        )?;
         at += length_of(rest);
     }
     Ok(tally)

@@ -68,7 +68,12 @@ fn part<R: Print>(rt: &R, label: &str, bytes: &[u8]) -> io::Result<()> {
 }
 
 // Writes a file's first difference: the case's number, its operation, its input and what is recorded.
-pub(crate) fn difference<R: Print>(rt: &R, case: &[u8], recorded: &[u8], tally: Tally) -> io::Result<()> {
+pub(crate) fn difference<R: Print>(
+    rt: &R,
+    case: &[u8],
+    recorded: &[u8],
+    tally: Tally,
+) -> io::Result<()> {
     if tally.differences > 0 {
         return Ok(());
     }
