@@ -1,34 +1,44 @@
 // The program's files and buffers. Each buffer's `ensures` gives its length, which lending it as a slice needs.
-ghost use Rattle.std.specs.Prelude.{◌≡◌, ◌≤◌, length, IfOk};
+ghost use Rattle.std.specs.Prelude.{◌≡◌, ◌≤◌, length};
 
+use std::fs;
 use std::io::Read;
 use std::rt::Files;
-use std::{fs, io};
 
 // The bytes of a file, from the start of `buffer` on, as far as they go there: their number. A file that is absent or
-// can't be opened is empty.
-pub(crate) fn read(files: &impl Files, name: &str, buffer: &mut [u8]) -> io::Result<usize>
-    ensures { IfOk result (λ n. n ≤ length buffer.new) }
+// can't be opened is empty, and one of which a read fails ends there.
+pub(crate) fn read(files: &impl Files, name: &str, buffer: &mut [u8]) -> usize
+    ensures { result ≤ length buffer.new }
 {
     match fs::open(files, name) {
         Ok(mut file) => read_full(&mut file, buffer),
-        Err(_) => Ok(0),
+        Err(_) => 0,
     }
 }
 
-// Reads until the buffer is full or the file ends.
-fn read_full<R: Read>(file: &mut R, buffer: &mut [u8]) -> io::Result<usize>
-    ensures { IfOk result (λ n. n ≤ length buffer.new) }
+// Reads until the buffer is full, the file ends or a read fails.
+fn read_full<F: Read>(file: &mut F, buffer: &mut [u8]) -> usize
+    ensures { result ≤ length buffer.new }
 {
     let mut done = 0;
     while done < buffer.len() {
-        let n = file.read(&mut buffer[done..])?;
+        let n = read_part(file, &mut buffer[done..]);
         if n == 0 {
             break;
         }
         done += n;
     }
-    Ok(done)
+    done
+}
+
+// One read: how many bytes it gave, 0 where it fails.
+fn read_part<F: Read>(file: &mut F, part: &mut [u8]) -> usize
+    ensures { result ≤ length part.new }
+{
+    match file.read(part) {
+        Ok(n) => n,
+        Err(_) => 0,
+    }
 }
 
 // One byte more than the longest book, so that a longer one is told.

@@ -13,8 +13,8 @@ fn main(rt: HostRuntime) -> io::Result<()> {
     let mut book = files::book_buffer();
     let mut memory = files::memory_buffer();
     let mut out = files::line_buffer();
-    let n = files::read(&rt, "book.bin", &mut book)?;
-    let m = files::read(&rt, "mem.bin", &mut memory)?;
+    let n = files::read(&rt, "book.bin", &mut book);
+    let m = files::read(&rt, "mem.bin", &mut memory);
     let put = printout::print(&book[0..n], &memory[0..m], &mut out);
     let Put::Next(k) = put else {
         return Ok(());
