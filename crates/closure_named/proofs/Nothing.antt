@@ -131,6 +131,7 @@ module _ (c : List ℕ) (width : ℕ) (name : List ℕ) (w : Theirs c width name
   added-bound (bytes m ∷ is) (refused a) s g f o =
       earlier (bytes m) is s (each_first g) o refl
       (added-bound is a (next c (bytes m) s) (each-rest g) (each-rest f) (base-next c width name w formed (bytes m) is s (each_first g) o))
+  added-bound (ask _ _ _ ∷ is) a s g f o = elim a [ ]
 
   pub bound-is : (is : List Call) (s : Ours) → Each c (Lent c) s is → Each c (NamedFetched c width name) s is → Base c s → NamedBound c width name s is
   unfolding named_listing
