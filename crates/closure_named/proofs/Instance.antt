@@ -10,7 +10,7 @@ use Rattle.type_book_check.specs.declared.RootCheck.TheVariants.{Root}
 use Rattle.type_book_check.specs.declared.GivenRoot.TheVariants.{Block}
 use Rattle.type_book_check.specs.Check.{check_root}
 use Rattle.type_book_check.specs.Given.{is_root_name, check_given}
-use Rattle.type_book_check.specs.Given as goal
+use Rattle.type_book_check.specs.Given as given
 use Rattle.type_book_check.proofs.Roots.{at_block}
 use Rattle.type_book_check.proofs.Valid.{valid-own}
 use Rattle.type_book_check.proofs.Givens.{given-at-block}
@@ -30,7 +30,7 @@ use Rattle.closure_named.proofs.Lacks.{given-found}
 use Rattle.closure_named.proofs.Nothing.{listing-at, name-formed}
 
 -- what the call by a block promises is what the call by a root that stands for that block does
-missing_back : (buffer : List ℕ) (len : ℕ) (ix : List ℕ) (width : ℕ) (root : goal.Given) (sc ls : List ℕ) (r : Missing) (sc' ls' : List ℕ) (t : ℕ)
+missing_back : (buffer : List ℕ) (len : ℕ) (ix : List ℕ) (width : ℕ) (root : given.Given) (sc ls : List ℕ) (r : Missing) (sc' ls' : List ℕ) (t : ℕ)
     → check_given buffer len root ≡ Block t → check_root buffer len t ≡ Root t
     → MissingIs buffer len ix width t sc ls r sc' ls' → GivenMissingIs buffer len ix width root sc ls r sc' ls'
 unfolding given_missing missing_call
@@ -47,9 +47,9 @@ module _ (c : List ℕ) (width root : ℕ) (name : List ℕ) (w : Theirs c width
   call_back : (i : Call) (is : List Call) (s : Ours) → Sound c root name s → find (book_of s) name ≡ At root
       → NamedCallIs c width name s i is → CallIs c width root name s i is
   call_back (ask ix sc ls) is s o e h = λ r sc' ls' m.
-      let g : check_given s.buffer s.len (goal.name name) ≡ Block root = given-found c name formed s (base c w.valid root name s o) root e in
+      let g : check_given s.buffer s.len (given.name name) ≡ Block root = given-found c name formed s (base c w.valid root name s o) root e in
       let k : check_root s.buffer s.len root ≡ Root root = root-check c width root name w s o in
-      rw e at (h r sc' ls' (missing_back s.buffer s.len ix width (goal.name name) sc ls r sc' ls' root g k m))
+      rw e at (h r sc' ls' (missing_back s.buffer s.len ix width (given.name name) sc ls r sc' ls' root g k m))
   call_back (add n) is s o e h = h
   call_back (bytes b) is s o e h = h
 

@@ -14,7 +14,7 @@ use Rattle.type_book_check.specs.declared.RootCheck.TheVariants.{Root}
 use Rattle.type_book_check.specs.declared.GivenRoot.TheVariants.{Block, Lacking as NotThere}
 use Rattle.type_book_check.specs.Check.{check_book, check_root}
 use Rattle.type_book_check.specs.Given.{lacking_root, is_root_name, check_given}
-use Rattle.type_book_check.specs.Given as goal
+use Rattle.type_book_check.specs.Given as given
 use Rattle.type_book_check.proofs.Numbers.{valid-number}
 use Rattle.type_book_check.proofs.Roots.{at_block}
 use Rattle.type_book_check.proofs.Givens.{named-found, named-lacks, given-answer, given-at-lacking, given-at-block}
@@ -39,14 +39,14 @@ use Rattle.closure_named.specs.Named.{LackingAskIs, NamedAskIs, NamedCallIs}
 -- ---- what the root's name stands for in our book
 
 module _ (c : List ℕ) (name : List ℕ) (formed : is_root_name name ≡ true) (s : Ours) (o : Base c s) where
-  pub given-found : (t : ℕ) → find (book_of s) name ≡ At t → check_given s.buffer s.len (goal.name name) ≡ Block t
+  pub given-found : (t : ℕ) → find (book_of s) name ≡ At t → check_given s.buffer s.len (given.name name) ≡ Block t
   given-found t e =
-      sym (given-answer s.buffer s.len (check_book s.buffer s.len) refl 0 (valid-number _ o.valid) refl (goal.name name) (Block t)
+      sym (given-answer s.buffer s.len (check_book s.buffer s.len) refl 0 (valid-number _ o.valid) refl (given.name name) (Block t)
       (named-found (book_of s) name true (sym formed) refl (find (book_of s) name) refl t e))
 
-  pub given-lacks : find (book_of s) name ≡ Nothing → check_given s.buffer s.len (goal.name name) ≡ NotThere
+  pub given-lacks : find (book_of s) name ≡ Nothing → check_given s.buffer s.len (given.name name) ≡ NotThere
   given-lacks e =
-      sym (given-answer s.buffer s.len (check_book s.buffer s.len) refl 0 (valid-number _ o.valid) refl (goal.name name) NotThere
+      sym (given-answer s.buffer s.len (check_book s.buffer s.len) refl 0 (valid-number _ o.valid) refl (given.name name) NotThere
       (named-lacks (book_of s) name true (sym formed) refl (find (book_of s) name) refl e))
 
 -- a book that has the root's name is one of demand 3
@@ -61,7 +61,7 @@ sound-at c name s o t e =
     }
 
 -- the call by a name that stands for a block promises what the call by that block does
-pub missing_at : (buffer : List ℕ) (len : ℕ) (ix : List ℕ) (width : ℕ) (root : goal.Given) (sc ls : List ℕ) (r : Missing) (sc' ls' : List ℕ) (t : ℕ)
+pub missing_at : (buffer : List ℕ) (len : ℕ) (ix : List ℕ) (width : ℕ) (root : given.Given) (sc ls : List ℕ) (r : Missing) (sc' ls' : List ℕ) (t : ℕ)
     → check_given buffer len root ≡ Block t → check_root buffer len t ≡ Root t
     → GivenMissingIs buffer len ix width root sc ls r sc' ls' → MissingIs buffer len ix width t sc ls r sc' ls'
 unfolding given_missing missing_call
@@ -74,16 +74,16 @@ missing_at buffer len ix width root sc ls r sc' ls' t g e q =
 
 -- ---- an ask while our book lacks the root's name
 
-module _ (c : List ℕ) (width : ℕ) (name : List ℕ) (s : Ours) (e : find (book_of s) name ≡ Nothing) (g : check_given s.buffer s.len (goal.name name) ≡ NotThere)
+module _ (c : List ℕ) (width : ℕ) (name : List ℕ) (s : Ours) (e : find (book_of s) name ≡ Nothing) (g : check_given s.buffer s.len (given.name name) ≡ NotThere)
     (ix sc ls : List ℕ) (i : index_fits ix ≡ true) (p : scratch_fits sc ≡ true) (q : list_fits ls ≡ true) (r : Missing) (sc' ls' : List ℕ)
-    (m : GivenMissingIs s.buffer s.len ix width (goal.name name) sc ls r sc' ls') where
+    (m : GivenMissingIs s.buffer s.len ix width (given.name name) sc ls r sc' ls') where
   lent : missing_fits ix sc ls ≡ true
   lent = rw (i, p, q)
 
   answered : r ≡ Listed 1 true 1
   unfolding given_missing lacking_answer
   answered =
-      let z : lacking_answer (missing_fits ix sc ls) ≡ given_missing s.buffer s.len ix width (goal.name name) sc ls = given-at-lacking _ _ _ NotThere (sym g) refl in
+      let z : lacking_answer (missing_fits ix sc ls) ≡ given_missing s.buffer s.len ix width (given.name name) sc ls = given-at-lacking _ _ _ NotThere (sym g) refl in
       missing_is _ _ (rw (← z, lent) at m.answer)
 
   listing : ls' ≡ lacking_root ∷ drop 1 ls
@@ -114,13 +114,13 @@ module _ (c : List ℕ) (width : ℕ) (name : List ℕ) (w : Theirs c width name
   call_is : (i : Call) (is : List Call) (s : Ours) → Lent c s i is → Base c s → NamedCallIs c width name s i is
   call_is (ask ix sc ls) is s g o = λ r sc' ls' m. by r sc' ls' m (find (book_of s) name) refl
     where
-      by : (r : Missing) (sc' ls' : List ℕ) → GivenMissingIs s.buffer s.len ix width (goal.name name) sc ls r sc' ls'
+      by : (r : Missing) (sc' ls' : List ℕ) → GivenMissingIs s.buffer s.len ix width (given.name name) sc ls r sc' ls'
           → (f : Found) → find (book_of s) name ≡ f → NamedAskIs c width name s ls r ls' (find (book_of s) name)
       by r sc' ls' m (At t) e =
           let h : Sound c t name s = sound-at c name s o t e in
           let k : check_root s.buffer s.len t ≡ Root t = root-check c width t name w s h in
           rw e (ask-is c width t name w s h ix sc ls g.0 g.1 g.2 r sc' ls'
-          (missing_at s.buffer s.len ix width (goal.name name) sc ls r sc' ls' t (given-found c name formed s o t e) k m))
+          (missing_at s.buffer s.len ix width (given.name name) sc ls r sc' ls' t (given-found c name formed s o t e) k m))
       by r sc' ls' m Nothing e =
           rw e (lacking-ask c width name s e (given-lacks c name formed s o e) ix sc ls g.0 g.1 g.2 r sc' ls' m)
   call_is (add n) is s g o = λ r buffer m. add_is c w.valid s o n g r buffer m

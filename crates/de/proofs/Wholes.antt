@@ -11,7 +11,7 @@ use Rattle.type_book_check.specs.declared.RootCheck.TheVariants as root
 use Rattle.type_book_check.proofs.Roots.{at-refused, at_block}
 use Rattle.type_book_check.specs.Given.{Given, number, lacking_root, check_given}
 use Rattle.type_book_check.specs.declared.GivenRoot.{GivenRoot}
-use Rattle.type_book_check.specs.declared.GivenRoot.TheVariants as goal
+use Rattle.type_book_check.specs.declared.GivenRoot.TheVariants as given
 use Rattle.type_book_check.proofs.Givens.{given-at-refused, given-at-lacking, given-at-block, at-number}
 use Rattle.resolvers.specs.Resolve.{resolve_alias, ResolvedIs}
 use Rattle.resolvers.specs.declared.Resolved.{Resolved}
@@ -64,15 +64,15 @@ module _ (buffer : List ℕ) (len width n : ℕ) (mem : List ℕ) (k : RootCheck
 
 -- the same for a root however it is given
 module _ (buffer : List ℕ) (len width : ℕ) (root : Given) (mem : List ℕ) (k : GivenRoot) (q : k ≡ check_given buffer len root) {tape txt tape₂ txt₂ : List ℕ} {r : ReadAnswer} where
-  pub given_call_refused : (m : ℕ) → k ≡ goal.Refused m → Finished (Stop m 0) tape txt r tape₂ txt₂ → ReadIs (given_trace buffer len width root mem) tape txt r tape₂ txt₂
+  pub given_call_refused : (m : ℕ) → k ≡ given.Refused m → Finished (Stop m 0) tape txt r tape₂ txt₂ → ReadIs (given_trace buffer len width root mem) tape txt r tape₂ txt₂
   unfolding given_trace
   given_call_refused m e f = read_as (sym (given-at-refused _ _ _ k q m e)) (read_refused m 0 f)
 
-  pub given_call_lacking : k ≡ goal.Lacking → Finished (Stop 7 lacking_root) tape txt r tape₂ txt₂ → ReadIs (given_trace buffer len width root mem) tape txt r tape₂ txt₂
+  pub given_call_lacking : k ≡ given.Lacking → Finished (Stop 7 lacking_root) tape txt r tape₂ txt₂ → ReadIs (given_trace buffer len width root mem) tape txt r tape₂ txt₂
   unfolding given_trace
   given_call_lacking e f = read_as (sym (given-at-lacking _ _ _ k q e)) (read_refused 7 lacking_root f)
 
-  pub given_call_block : (m : ℕ) → k ≡ goal.Block m → ReadIs (root_trace (ctx (take len buffer) width) m mem) tape txt r tape₂ txt₂ → ReadIs (given_trace buffer len width root mem) tape txt r tape₂ txt₂
+  pub given_call_block : (m : ℕ) → k ≡ given.Block m → ReadIs (root_trace (ctx (take len buffer) width) m mem) tape txt r tape₂ txt₂ → ReadIs (given_trace buffer len width root mem) tape txt r tape₂ txt₂
   unfolding given_trace
   given_call_block m e f = read_as (sym (given-at-block _ _ _ k q m e)) f
 

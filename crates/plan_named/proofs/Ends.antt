@@ -20,7 +20,7 @@ use Rattle.type_book_check.specs.declared.GivenRoot.{GivenRoot}
 use Rattle.type_book_check.specs.declared.GivenRoot.TheVariants as root
 use Rattle.type_book_check.specs.Check.{check_book, book_numbers, check_root, root_of, root_numbers, ValidBook}
 use Rattle.type_book_check.specs.Given.{lacking_root, check_given, given_root, found_root, is_root_name, at_given}
-use Rattle.type_book_check.specs.Given as goal
+use Rattle.type_book_check.specs.Given as given
 use Rattle.type_book_check.proofs.Numbers.{zero-valid, valid-number}
 use Rattle.type_book_check.proofs.Valid.{valid-book, valid_in, valid-below, valid-size}
 use Rattle.type_book_check.proofs.Givens.{named-valid, lacking-valid}
@@ -191,7 +191,7 @@ refused_all n buffer len controller theirs width name sc hints h =
     record { answer = rw (ne_eqb n 0 h); bytes = rw (ne_eqb n 0 h); scratch = rw (ne_eqb n 0 h); index = rw (ne_eqb n 0 h) }
 
 -- a name that our book lacks
-module _ (buffer : List ℕ) (len : ℕ) (name : List ℕ) (g : check_given buffer len (goal.name name) ≡ root.Lacking) where
+module _ (buffer : List ℕ) (len : ℕ) (name : List ℕ) (g : check_given buffer len (given.name name) ≡ root.Lacking) where
   pub lacking-checked : check_book buffer len ≡ Valid
   lacking-checked = let l = lacking-valid buffer len name g in valid_in buffer len l.fits l.valid
 
@@ -237,8 +237,8 @@ module _ (buffer : List ℕ) (len : ℕ) (name : List ℕ) (g : check_given buff
           })
 
 -- ---- the call
-module _ (buffer : List ℕ) (len : ℕ) (name : List ℕ) (k : GivenRoot) (e : k ≡ check_given buffer len (goal.name name)) where
-  pub named-given : k ≡ root.Lacking → check_given buffer len (goal.name name) ≡ root.Lacking
+module _ (buffer : List ℕ) (len : ℕ) (name : List ℕ) (k : GivenRoot) (e : k ≡ check_given buffer len (given.name name)) where
+  pub named-given : k ≡ root.Lacking → check_given buffer len (given.name name) ≡ root.Lacking
   named-given h = sym e ∙ h
 
   some-refusal : (n : ℕ) → k ≡ root.Refused n → n ≡ 0 → ⊥

@@ -15,7 +15,7 @@ use Rattle.type_book_check.specs.declared.BookCheck.TheVariants.{Valid}
 use Rattle.type_book_check.specs.declared.GivenRoot.TheVariants.{Block}
 use Rattle.type_book_check.specs.Check.{check_book, book_numbers}
 use Rattle.type_book_check.specs.Given.{lacking_root, is_root_name, at_given}
-use Rattle.type_book_check.specs.Given as goal
+use Rattle.type_book_check.specs.Given as given
 use Rattle.type_book_check.proofs.Numbers.{valid-number}
 use Rattle.type_book_check.proofs.Valid.{valid-book}
 use Rattle.type_book_check.proofs.Givens.{named-found, given-answer}
@@ -81,7 +81,7 @@ module _ (c : List ℕ) (width : ℕ) (name : List ℕ) (formed : is_root_name n
       record {
         at = t;
         found = f;
-        goal = sym (given-answer z.buffer z.len (check_book z.buffer z.len) refl 0 (valid-number _ x.valid) refl (goal.name name) (Block t)
+        given = sym (given-answer z.buffer z.len (check_book z.buffer z.len) refl 0 (valid-number _ x.valid) refl (given.name name) (Block t)
             (named-found (book_of z) name true (sym formed) refl (find (book_of z) name) refl t f));
         closed = a.closed;
       }

@@ -15,7 +15,7 @@ use Rattle.type_book_check.specs.Check.{check_root}
 use Rattle.type_book_check.proofs.Roots.{at-refused, at_block}
 use Rattle.type_book_check.specs.Given.{Given, number, lacking_root, check_given}
 use Rattle.type_book_check.specs.declared.GivenRoot.{GivenRoot}
-use Rattle.type_book_check.specs.declared.GivenRoot.TheVariants as goal
+use Rattle.type_book_check.specs.declared.GivenRoot.TheVariants as given
 use Rattle.type_book_check.proofs.Givens.{given-at-refused, given-at-lacking, given-at-block, at-number}
 use Rattle.resolve_field_types.specs.declared.ResolvedField.{ResolvedField}
 use Rattle.resolve_field_types.specs.declared.FieldAnswer.{FieldAnswer}
@@ -226,21 +226,21 @@ module _ (buffer : List ℕ) (len root : ℕ) (k : RootCheck) (e : k ≡ check_r
 -- ---- the root however it is given
 
 module _ (buffer : List ℕ) (len : ℕ) (root : Given) (k : GivenRoot) (e : k ≡ check_given buffer len root) (width : ℕ) (before : List ℕ) where
-  pub given-fields-refused : (n : ℕ) → k ≡ goal.Refused n
+  pub given-fields-refused : (n : ℕ) → k ≡ given.Refused n
       → Filled (given_fields buffer len width root (length before / 4)) (given_records buffer len width root) before (fields.Refused n) before
   unfolding given_fields stored_in
   given-fields-refused n h =
       let z : fields.Refused n ≡ given_fields buffer len width root (length before / 4) = given-at-refused fields.Refused _ _ k e n h in
       record { is = fields-says _ _ z; records = rw (← z) }
 
-  pub given-fields-lacking : k ≡ goal.Lacking
+  pub given-fields-lacking : k ≡ given.Lacking
       → Filled (given_fields buffer len width root (length before / 4)) (given_records buffer len width root) before (fields.NotFound lacking_root) before
   unfolding given_fields stored_in
   given-fields-lacking h =
       let z : fields.NotFound lacking_root ≡ given_fields buffer len width root (length before / 4) = given-at-lacking fields.Refused _ _ k e h in
       record { is = fields-says _ _ z; records = rw (← z) }
 
-  pub given-fields-block : (t : ℕ) → k ≡ goal.Block t → (r : FieldsAnswer) (after : List ℕ)
+  pub given-fields-block : (t : ℕ) → k ≡ given.Block t → (r : FieldsAnswer) (after : List ℕ)
       → Filled (fields_answer (take len buffer) width t (length before / 4)) (field_records (take len buffer) width t) before r after
       → Filled (given_fields buffer len width root (length before / 4)) (given_records buffer len width root) before r after
   unfolding given_fields given_records

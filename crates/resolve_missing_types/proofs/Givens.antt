@@ -10,7 +10,7 @@ use Rattle.type_index.specs.Index.{index_fits}
 use Rattle.type_book_check.specs.Check.{check_root}
 use Rattle.type_book_check.specs.Given.{Given, number, lacking_root, check_given}
 use Rattle.type_book_check.specs.declared.GivenRoot.{GivenRoot}
-use Rattle.type_book_check.specs.declared.GivenRoot.TheVariants as goal
+use Rattle.type_book_check.specs.declared.GivenRoot.TheVariants as given
 use Rattle.type_book_check.proofs.Givens.{given-at-refused, given-at-lacking, given-at-block, at-number}
 use Rattle.resolve_walk.specs.Scratch.{scratch_fits, list_fits}
 use Rattle.resolve_missing_types.specs.declared.Missing.{Missing}
@@ -58,7 +58,7 @@ module _ (index sc list : List ℕ) where
 -- ---- 1 to 5, 23
 
 module _ (buffer : List ℕ) (len : ℕ) (root : Given) (k : GivenRoot) (e : k ≡ check_given buffer len root) (index : List ℕ) (width : ℕ) (sc list : List ℕ) where
-  pub given_missing_refused : (n : ℕ) → k ≡ goal.Refused n → GivenMissingIs buffer len index width root sc list (missing.Refused n) sc list
+  pub given_missing_refused : (n : ℕ) → k ≡ given.Refused n → GivenMissingIs buffer len index width root sc list (missing.Refused n) sc list
   unfolding given_missing
   given_missing_refused n h =
       record {
@@ -67,7 +67,7 @@ module _ (buffer : List ℕ) (len : ℕ) (root : Given) (k : GivenRoot) (e : k �
         blocks = given-at-refused (λ n. list) _ _ k e n h;
       }
 
-  pub given_missing_lacking : k ≡ goal.Lacking → {sc' list' : List ℕ} {r : Missing} → MissingLackingIn (missing_fits index sc list) sc list r sc' list'
+  pub given_missing_lacking : k ≡ given.Lacking → {sc' list' : List ℕ} {r : Missing} → MissingLackingIn (missing_fits index sc list) sc list r sc' list'
       → GivenMissingIs buffer len index width root sc list r sc' list'
   unfolding given_missing
   given_missing_lacking h q =
@@ -77,7 +77,7 @@ module _ (buffer : List ℕ) (len : ℕ) (root : Given) (k : GivenRoot) (e : k �
         blocks = q.blocks ∙ given-at-lacking _ _ _ k e h;
       }
 
-  pub given_missing_block : (t : ℕ) → k ≡ goal.Block t → {sc' list' : List ℕ} {r : Missing}
+  pub given_missing_block : (t : ℕ) → k ≡ given.Block t → {sc' list' : List ℕ} {r : Missing}
       → MissingIn (missing_fits index sc list) (take len buffer) width t sc list r sc' list'
       → GivenMissingIs buffer len index width root sc list r sc' list'
   unfolding given_missing

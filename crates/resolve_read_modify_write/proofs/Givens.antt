@@ -9,7 +9,7 @@ use Rattle.type_index.specs.Index.{index_fits}
 use Rattle.type_book_check.specs.Check.{check_root}
 use Rattle.type_book_check.specs.Given.{Given, number, lacking_root, check_given}
 use Rattle.type_book_check.specs.declared.GivenRoot.{GivenRoot}
-use Rattle.type_book_check.specs.declared.GivenRoot.TheVariants as goal
+use Rattle.type_book_check.specs.declared.GivenRoot.TheVariants as given
 use Rattle.type_book_check.proofs.Givens.{given-at-refused, given-at-lacking, given-at-block, at-number}
 use Rattle.resolve_walk.specs.Scratch.{scratch_fits}
 use Rattle.resolve_read_modify_write.specs.declared.Rmw.{Rmw}
@@ -40,17 +40,17 @@ module _ (index sc : List ℕ) where
 -- ---- 1 to 5, 23
 
 module _ (buffer : List ℕ) (len : ℕ) (root : Given) (k : GivenRoot) (e : k ≡ check_given buffer len root) (index : List ℕ) (width : ℕ) (sc : List ℕ) where
-  pub given_rmw_refused : (n : ℕ) → k ≡ goal.Refused n → GivenRmwIs buffer len index width root sc (rmw.Refused n) sc
+  pub given_rmw_refused : (n : ℕ) → k ≡ given.Refused n → GivenRmwIs buffer len index width root sc (rmw.Refused n) sc
   unfolding given_rmw
   given_rmw_refused n h =
       record { answer = rmw_says _ _ (given-at-refused _ _ _ k e n h); scratch = given-at-refused (λ n. sc) _ _ k e n h }
 
-  pub given_rmw_lacking : k ≡ goal.Lacking → {sc' : List ℕ} {r : Rmw} → RmwLackingIn (rmw_fits index sc) sc r sc' → GivenRmwIs buffer len index width root sc r sc'
+  pub given_rmw_lacking : k ≡ given.Lacking → {sc' : List ℕ} {r : Rmw} → RmwLackingIn (rmw_fits index sc) sc r sc' → GivenRmwIs buffer len index width root sc r sc'
   unfolding given_rmw
   given_rmw_lacking h q =
       record { answer = q.answer ∙ rmw_says _ _ (given-at-lacking _ _ _ k e h); scratch = q.scratch ∙ given-at-lacking _ _ _ k e h }
 
-  pub given_rmw_block : (t : ℕ) → k ≡ goal.Block t → {sc' : List ℕ} {r : Rmw} → RmwIn (rmw_fits index sc) (take len buffer) width t sc r sc'
+  pub given_rmw_block : (t : ℕ) → k ≡ given.Block t → {sc' : List ℕ} {r : Rmw} → RmwIn (rmw_fits index sc) (take len buffer) width t sc r sc'
       → GivenRmwIs buffer len index width root sc r sc'
   unfolding given_rmw
   given_rmw_block t h q =

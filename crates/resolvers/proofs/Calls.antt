@@ -14,7 +14,7 @@ use Rattle.type_book_check.proofs.Valid.{root-valid}
 use Rattle.type_book_check.proofs.Roots.{at-refused, at_block}
 use Rattle.type_book_check.specs.Given.{Given, number, lacking_root, check_given}
 use Rattle.type_book_check.specs.declared.GivenRoot.{GivenRoot}
-use Rattle.type_book_check.specs.declared.GivenRoot.TheVariants as goal
+use Rattle.type_book_check.specs.declared.GivenRoot.TheVariants as given
 use Rattle.type_book_check.proofs.Givens.{given-at-refused, given-at-lacking, given-at-block, at-number}
 use Rattle.resolvers.specs.declared.Resolved.{Resolved}
 use Rattle.resolvers.specs.declared.Resolved.TheVariants as resolved
@@ -72,17 +72,17 @@ module _ (buffer : List ℕ) (len root : ℕ) (k : RootCheck) (e : k ≡ check_r
 -- ---- the root however it is given
 
 module _ (buffer : List ℕ) (len : ℕ) (root : Given) (k : GivenRoot) (e : k ≡ check_given buffer len root) (references : Bool) (width : ℕ) where
-  pub given_call_refused : (n : ℕ) → k ≡ goal.Refused n → Refused n ≡ given_resolution references buffer len width root
+  pub given_call_refused : (n : ℕ) → k ≡ given.Refused n → Refused n ≡ given_resolution references buffer len width root
   unfolding given_resolution
   given_call_refused n h =
       given-at-refused Refused (NotFound lacking_root) (λ t. resolution (resolve_type references (take len buffer) width t)) k e n h
 
-  pub given_call_lacking : k ≡ goal.Lacking → NotFound lacking_root ≡ given_resolution references buffer len width root
+  pub given_call_lacking : k ≡ given.Lacking → NotFound lacking_root ≡ given_resolution references buffer len width root
   unfolding given_resolution
   given_call_lacking h =
       given-at-lacking Refused (NotFound lacking_root) (λ t. resolution (resolve_type references (take len buffer) width t)) k e h
 
-  pub given_call_block : (t : ℕ) → k ≡ goal.Block t → (r : Resolution) → r ≡ resolution (resolve_type references (take len buffer) width t)
+  pub given_call_block : (t : ℕ) → k ≡ given.Block t → (r : Resolution) → r ≡ resolution (resolve_type references (take len buffer) width t)
       → r ≡ given_resolution references buffer len width root
   unfolding given_resolution
   given_call_block t h r q =

@@ -5,8 +5,8 @@ use Rattle.cases_file.proofs.case.recorded_of.Goals as goal
 
 pub returns : goal.returns
 returns c = c.first.ensures ∙ rw (
-      c.u16_at-2.ensures.0,
-      c.from.ensures,
-      c.from-tail.ensures,
-      c.u16_at.ensures.0,
-    )
+  c.u16_at-2.ensures.0,
+  c.from.ensures,
+  c.from-tail.ensures,
+  c.u16_at.ensures.0,
+)

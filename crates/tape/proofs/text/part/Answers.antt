@@ -7,6 +7,7 @@ returns-then-len-end c = search part-some
 
 pub returns : goal.returns
 returns c =
-    elim c.if-from-end.branch
-    [ then-from-end+else-len-end w ↦ part-over _ _ _ w.if-from-end.true w.if-len-end.false
-    | else-from-end w ↦ part-past _ _ _ w.if-from-end.false ]
+    elim c.if-from-end.branch [
+      | then-from-end+else-len-end w ↦ part-over _ _ _ w.if-from-end.true w.if-len-end.false
+      | else-from-end w ↦ part-past _ _ _ w.if-from-end.false
+    ]
