@@ -4,20 +4,21 @@
  * is 0; then nothing is read or written through it. A slice that a call writes overlaps no other slice of that call. All slices are
  * lent for the call alone: nothing is kept.
  *
- * What is returned. Unless the comment says otherwise: 0, or the number of the refusal (document 01's table):
+ * What is returned. Unless the comment says otherwise: 0, or the number of the refusal (document 01's table; 23 and 24 are document 02's):
  *    1 the book is not whole blocks of 512 bytes, over 65,536 blocks, or longer than its buffer
  *    2 a block's sum differs               3 a block's form                     4 two type blocks of one name
- *    5 the root is no type block           6 scratch or list too short          7 a type name that is not in the book
- *    8 a chain of aliases of 32 hops       9 a 4,097th name (read-modify-write only)
+ *    5 the root is no type block           6 index, scratch or list too short   7 a type name that is not in the book
+ *    8 a chain of aliases of 32 hops       9 a 4,097th name (read-modify-write and plans)
  *   10 a size    11 an id that cannot be read    12 an enum value without entry    13 a pointer's width is not 2, 4 or 8
- *   14 level 65                           15 tape, text, records or book buffer too short
+ *   14 level 65                           15 tape, text, records or book buffer too short; a book that would pass 65,536 blocks
  *   16 the tape's form    17 a value that does not go with its type, or an array's count
  *   18 a field or entry name that the type does not have    19 an integer that does not fit
  *   23 a root's name that no type can have
+ *   24 another type, a count or parts that the type cannot hold, or parts that name no moment (the two calls on times only)
  *
  * Values. `values` takes a call's numbers over its first elements, as many as fit; its other elements stay as before. With refusal 7
  * values[0] is the block whose type name is not in the book; any other refusal leaves `values` as before (but see gateway_plan_save and gateway_plan_save_named).
- * Three elements are enough for every call.
+ * gateway_time_parts has seven numbers, no other call more than three: seven elements are enough for every call.
  *
  * The book. `buffer` holds a type book in its first `len` bytes; a `len` beyond the buffer is refused (1). `width` is the size of
  * the controller's pointers in bytes. `root` is a block's number, from 0 on; one that is no type block of the book is refused (5). A book
@@ -32,9 +33,10 @@
  * returned 1. With any other book or root nothing is known of what they do. `index` may hold anything and may be empty; one that
  * gateway_fill_index or gateway_fill_names made of the book makes look-ups quick. The other calls take any bytes and any numbers.
  *
- * A call takes up to 704 KiB of stack (measured: a read of 63 arrays in one another takes the most; 512 KiB of it is the index of names
- * that a read of a long book makes, for which the room is taken in any read that checks its book), and no other memory. A check of a
- * book and a plan take 257 KiB each (measured).
+ * A call takes no memory but its stack: lend a thread 2 MiB. Measured with an older compiler, the most is 1,228 KiB, a write at 64 structs in one another (1,217
+ * KiB at 63), and 829 KiB, a read at 64 arrays of one dimension in one another (826 KiB at 63). 512 KiB of each is the room for an index
+ * of names, taken whatever the book's length: gateway_write_in and gateway_read_in, which have none, take 716 and 317 KiB there. A check
+ * of a book and a plan take 257 KiB each.
  */
 #ifndef GATEWAY_H
 #define GATEWAY_H
@@ -235,7 +237,8 @@ uint8_t gateway_missing_types_in(const uint8_t *book, size_t book_len, const uin
 
 /* Completes our book (in `buffer`) for a save of the root: adds, from the controller's book in the first `theirs` bytes of `controller`,
  * every type that the root is made of and our book lacks, until none lacks; then decides. 8,192 numbers of scratch; the index may have any
- * length and hold anything, eight elements for each type of both books serve well. `len` + `theirs` bytes of buffer are always enough.
+ * length and hold anything, eight elements for each type of both books serve well. `len` + `theirs` bytes of buffer always have the room;
+ * 15 then comes only where our book would pass 65,536 blocks.
  * 0: values: 1 where the memory must be read, changed and written back, else 0; the new length of our book.
  * Else 1 to 5 of our book and the root, 1 to 4 of the controller's book, 6; then 7 (a type that neither book has: values: the block of our
  * book, as it is then, whose type name is not found; the length), 8, 9, 15. Unlike in the other calls values[0] is the length of our book
