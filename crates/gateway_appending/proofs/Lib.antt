@@ -1,5 +1,5 @@
--- Laws that the functions' proofs cite; `Next` is for callers.
+-- Laws that the functions' proofs cite; `Numbers` and `Next` are for callers too.
 mod Known
 mod Appending
-mod Numbers
+pub mod Numbers
 pub mod Next

@@ -2,3 +2,4 @@
 pub mod Clock
 mod Exits
 pub mod Laws
+pub mod Numbers
