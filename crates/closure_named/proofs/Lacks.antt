@@ -3,13 +3,11 @@ use mathlib.Core.Path.{◌≡◌, refl, sym, ◌∙◌, subst}
 use mathlib.Core.Bool.{true}
 use mathlib.Core.List.{List, [], ◌∷◌}
 use Prim.Native.Nat.{ℕ}
-use lib.ListN.{length, drop}
-use Rattle.enc_number.specs.Answer.{refusal_of}
+use lib.ListN.{drop}
 use Rattle.type_provider.specs.declared.Found.{Found}
 use Rattle.type_provider.specs.declared.Found.TheVariants.{At, Nothing}
 use Rattle.type_provider.specs.Find.{find}
 use Rattle.type_provider.proofs.Finds.{find-named, named-name}
-use Rattle.type_book_check.specs.declared.BookCheck.TheVariants.{Valid}
 use Rattle.type_book_check.specs.declared.RootCheck.TheVariants.{Root}
 use Rattle.type_book_check.specs.declared.GivenRoot.TheVariants.{Block, Lacking as NotThere}
 use Rattle.type_book_check.specs.Check.{check_book, check_root}
@@ -21,10 +19,9 @@ use Rattle.type_book_check.proofs.Givens.{named-found, named-lacks, given-answer
 use Rattle.type_index.specs.Index.{index_fits}
 use Rattle.resolvers.proofs.Chains.{found_type}
 use Rattle.resolve_walk.specs.Scratch.{scratch_fits, list_fits}
-use Rattle.resolve_walk.specs.Reached.{Needed, reached, start}
+use Rattle.resolve_walk.specs.Reached.{reached, start}
 use Rattle.resolve_missing_types.specs.declared.Missing.{Missing}
 use Rattle.resolve_missing_types.specs.declared.Missing.TheVariants.{Listed}
-use Rattle.resolve_missing_types.specs.declared.Missing.TheVariants as missing
 use Rattle.resolve_missing_types.specs.Calls.{missing_numbers, missing_fits, missing_call, MissingIs}
 use Rattle.resolve_missing_types.specs.Given.{lacking_answer, lacking_list, given_missing, GivenMissingIs}
 use Rattle.resolve_missing_types.proofs.Numbers.{missing_is, missing_says}

@@ -1,7 +1,7 @@
 -- Demand 3 from nothing: the bound on the asks, what holds after one that lists none, and the theorem. Assumes nothing.
 use mathlib.Core.Path.{◌≡◌, refl, sym, ◌∙◌, subst}
 use mathlib.Core.Bool.{true}
-use mathlib.Core.Logic.{◌⊎◌, ⊎_elim}
+use mathlib.Core.Logic.{⊎_elim}
 use mathlib.Core.List.Memᴰ
 use mathlib.Core.List.{List, [], ◌∷◌, Memᴰ}
 use Prim.Native.Nat.{ℕ, ◌+◌, ◌*◌, ◌≤◌}
@@ -29,7 +29,7 @@ use Rattle.closure.proofs.Steps.{Sound, base}
 use Rattle.closure.proofs.Asks.{Theirs}
 use Rattle.closure.proofs.Lists.{each_first, each-rest, sound-next, found-next, sound-after, found_after, bounded}
 use Rattle.closure.proofs.Demand.{demand3}
-use Rattle.closure_named.specs.Named.{NamedPremises, FetchedBy, NamedFetched, any_by, named_listing, NamedBound, NamedNone, here, later, NamedClosed, NamedClaim, FromNothing}
+use Rattle.closure_named.specs.Named.{FetchedBy, NamedFetched, named_listing, NamedBound, NamedNone, here, later, NamedClosed, FromNothing}
 use Rattle.closure_named.proofs.Lacks.{given-found, sound-at, base-next, calls_are}
 
 module _ (c : List ℕ) (width : ℕ) (name : List ℕ) (w : Theirs c width name) (formed : is_root_name name ≡ true) where

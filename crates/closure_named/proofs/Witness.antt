@@ -1,13 +1,11 @@
 -- The premises can be met from nothing: the controller's book is that of demand 3's own witness, ours has no bytes. The list asks for the root by its name, adds it
 -- and asks again. Assumes nothing.
-use mathlib.Core.Path.{◌≡◌}
-use mathlib.Core.Bool.{true}
-use mathlib.Core.List.{List, [], ◌∷◌}
-use Prim.Native.Nat.{ℕ, ◌<◌}
+use mathlib.Core.List.{[], ◌∷◌}
+use Prim.Native.Nat.{◌<◌}
 use native.Mathlib.Omega.{arith}
 use borrow.Author.Tests.{eqb-true}
 use lib.ListN.{replicate}
-use Rattle.type_book.specs.Book.{blocks, kind_of, is_type}
+use Rattle.type_book.specs.Book.{blocks, kind_of}
 use Rattle.type_book_check.proofs.Valid.{empty-valid, valid-below}
 use Rattle.closure_books.specs.Books.{Twin}
 use Rattle.closure.specs.Calls.{Ours, book_of, Call, ask, add, none, more}
