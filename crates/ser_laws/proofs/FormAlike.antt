@@ -2,7 +2,7 @@
 use mathlib.Core.Path.{◌≡◌, refl, sym, ap, ◌∙◌}
 use mathlib.Core.Bool.{Bool, true, false, cond}
 use mathlib.Core.List.{List}
-use Prim.Native.Nat.{ℕ, zero, suc, ◌+◌, ◌%◌, ◌≤◌}
+use Prim.Native.Nat.{ℕ, zero, suc, ◌+◌, ◌%◌}
 use native.Mathlib.Omega.{arith}
 use borrow.Author.Tests.{eqb-true, eqb-false, ne_eqb, leb-true, le-leb}
 use lib.ListN.{length, drop}
@@ -13,8 +13,8 @@ use Rattle.tape.specs.declared.cursor.Cursor.{Cursor}
 use Rattle.tape.specs.declared.cursor.NextRecord.TheVariants as step
 use Rattle.tape_form.specs.declared.form.FormPlace.{FormPlace}
 use Rattle.tape_form.specs.declared.form.FormPlace.TheVariants.{At, Broken}
-use Rattle.tape_form.specs.Ranges.{unused, undeclared, declares, block_is, text_in, only_a, empty, names_block, opens, closes, is_key, textual, leaf_ranges, leaf_fine}
-use Rattle.tape_form.specs.Form.{FormCtx, form_ctx, ChildForm, with_record, form_onward, closing_record, several, member_at, FormShape, elements, members, alone, wrong, record_shape, body_by, value_at, at_tape_end, formed}
+use Rattle.tape_form.specs.Ranges.{unused, undeclared, declares, block_is, only_a, empty, names_block, opens, closes, is_key, textual, leaf_ranges, leaf_fine}
+use Rattle.tape_form.specs.Form.{FormCtx, form_ctx, ChildForm, with_record, form_onward, closing_record, several, member_at, FormShape, elements, members, alone, wrong, record_shape, body_by, value_at, formed}
 use Rattle.ser_laws.specs.Alike.{Records, SameButEnd}
 
 -- ---- a record

@@ -5,6 +5,7 @@
 -- The round trip: UTF-16 (WideTrip), the ids of texts (TextId), a leaf (TripLeaf), along both walks (TripWalk), of two calls (RoundTrip), its premises
 -- (Needed). Books: the examples' books.
 -- Tapes that are written alike: along the walk (WriteAlike), along the form (FormAlike), of two calls (Alike).
+-- The laws of a call for a root however it is given (Given), and the block that such a root stands for (Roots).
 mod Plain
 mod Sizes
 mod Ranges
@@ -26,3 +27,5 @@ pub mod Alike
 mod Books
 mod Places
 mod Needed
+mod Roots
+pub mod Given

@@ -3,7 +3,7 @@ use mathlib.Core.Path.{◌≡◌, refl}
 use mathlib.Core.Bool.{Bool, true, false}
 use mathlib.Core.List.{List, [], ◌∷◌, flat_map}
 use Prim.Native.Nat.{ℕ}
-use lib.ListN.{length, replicate}
+use lib.ListN.{length}
 use Rattle.ser.specs.Write.{Outcome, went, refused}
 use Rattle.de.specs.Walk.{ctx}
 use Rattle.enc_number.specs.Le as enc-number-le

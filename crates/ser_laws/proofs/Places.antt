@@ -10,15 +10,11 @@ use Rattle.type_names.specs.Text as type-names-text
 use Rattle.type_names.specs.Names as type-names-names
 use Rattle.type_category.specs.Category as type-category-category
 use Rattle.type_provider.specs.Find as type-provider-find
-use Rattle.type_block_form.specs.Form as type-block-form-form
 use Rattle.resolvers.specs.Resolve as resolvers-resolve
 use Rattle.resolve_field_types.specs.Fields as resolve-field-types-fields
 use Rattle.ser_named_blocks.specs.Named as ser-named-blocks-named
 use Rattle.tape.specs.Record as tape-record
 use Rattle.tape.specs.Text as tape-text
-use Rattle.tape_shape.specs.Array as tape-shape-array
-use Rattle.ser.specs.Write as ser-write
-use Rattle.ser.specs.Call as ser-call
 use Rattle.ser_laws.specs.Touched as touched
 use Rattle.ser_laws.specs.Touched.{leaves_of}
 use Rattle.ser_laws.proofs.Books.{filled, made, bare, struct}

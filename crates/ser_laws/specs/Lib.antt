@@ -1,5 +1,6 @@
--- The ranges that a write touches, the premises of the round trip, tapes that are written alike, and the laws.
+-- The ranges that a write touches, the premises of the round trip, tapes that are written alike, the laws, and those for a root however it is given.
 pub mod Touched
 pub mod Trip
 pub mod Alike
 pub mod Laws
+pub mod Given
