@@ -1,5 +1,5 @@
 -- Blocks of a type book, made from what they say (document 01, "The type book"). Assumes nothing.
-use Rattle.std.specs.Prelude.{List, [], ◌∷◌, ◌++◌, ℕ, ◌-◌, length, replicate}
+use Rattle.std.specs.Prelude.{List, ◌∷◌, ◌++◌, ℕ, ◌-◌, length, replicate}
 use Rattle.enc_number.specs.Le.{le_bytes}
 use Rattle.type_block_form.specs.Form.{sum_of}
 
