@@ -6,3 +6,4 @@ pub mod Stuck
 pub mod Few
 pub mod Answers
 pub mod Items
+pub mod InBuffer

@@ -27,7 +27,7 @@ use Rattle.resolvers.proofs.Chains.{found_type}
 use Rattle.closure.specs.Calls.{Ours, book_of, add, next}
 use Rattle.plan_adds.specs.declared.Due.{Due}
 use Rattle.plan_adds.specs.declared.Due.TheVariants.{Names, Rest}
-use Rattle.plan_adds.specs.Adds.{lacks, room, append_of, fetch_by, fetch_of, passing, due_of, sweep_by, sweep_from, sweep}
+use Rattle.plan_adds.specs.Adds.{lacks, append_of, fetch_by, fetch_of, passing, due_of, sweep_by, sweep_from, sweep}
 use Rattle.plan_save.proofs.Turns.{book-cut}
 use Rattle.plan_decides.proofs.Taken.{rest_of, due_at, Taken, due-stays, next-due, first-due}
 

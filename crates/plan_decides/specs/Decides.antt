@@ -1,10 +1,9 @@
 -- Demand 3 of the call that makes the list itself: on the demand's premises `plan_save` is not refused, and answers "yes" exactly when a
 -- reached name resolves to a function block. Assumes nothing.
-use Rattle.std.specs.Prelude.{◌≡◌, Bool, true, ◌↔◌, List, [], ℕ, length, take}
+use Rattle.std.specs.Prelude.{◌≡◌, Bool, true, ◌↔◌, List, [], ℕ, length}
 use Rattle.resolve_walk.specs.Scratch.{scratch_fits}
 use Rattle.closure.specs.Calls.{Ours}
 use Rattle.closure.specs.Demand.{root_name, Premises, BlockReached, Closed}
-use Rattle.plan_adds.specs.Adds.{ours}
 use Rattle.plan_save.specs.Rounds.{decided}
 use Rattle.plan_save.specs.Call.{plan_refusal, plan_of}
 

@@ -1,3 +1,4 @@
 pub mod Decides
 pub mod Made
 pub mod Few
+pub mod InBuffer
