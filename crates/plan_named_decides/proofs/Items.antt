@@ -1,5 +1,5 @@
 -- A plan by a name is a list of asks and adds: the root's add, if our book lacks it, and then the rounds. Assumes nothing.
-use mathlib.Core.Path.{◌≡◌, refl, sym, ap, ◌∙◌, subst}
+use mathlib.Core.Path.{◌≡◌, refl, sym, subst}
 use mathlib.Core.Bool.{Bool, true, false}
 use mathlib.Core.List.{List, [], ◌∷◌}
 use Prim.Native.Nat.{ℕ}
@@ -23,11 +23,11 @@ use Rattle.type_cache.proofs.Adds.{definition_size, definition_name, definition_
 use Rattle.type_cache.proofs.Joins.{find-kept}
 use Rattle.resolvers.proofs.Chains.{found_type}
 use Rattle.resolve_walk.specs.Scratch.{scratch_fits, list_fits}
-use Rattle.closure.specs.Calls.{Ours, book_of, Call, add, next, after_calls, Each, none, more}
+use Rattle.closure.specs.Calls.{Ours, book_of, Call, add, next, after_calls, none, more}
 use Rattle.closure.specs.Demand.{Lent, ListedNone}
 use Rattle.closure.specs.Demand as demand
 use Rattle.closure_named.specs.Named.{NamedNone, here, later}
-use Rattle.plan_adds.specs.Adds.{on, room, append_of, fetch_by}
+use Rattle.plan_adds.specs.Adds.{append_of, fetch_by}
 use Rattle.plan_save.specs.Rounds.{Decision, decided, lacking, refused, next_round, plan_from}
 use Rattle.plan_save.specs.Call.{outcome_ours}
 use Rattle.plan_decides.specs.Made.{Made, PlanMade, Extends}
