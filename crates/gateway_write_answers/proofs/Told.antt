@@ -8,7 +8,7 @@ use native.Mathlib.Omega.{arith}
 use lib.ListN.{length, take}
 use lib.Dec.{eqb, leb, ltb}
 use Rattle.enc_number.specs.Answer.{refusal_of}
-use Rattle.type_book.specs.Book.{size_of, type_id_of, count_of, is_type, blocks}
+use Rattle.type_book.specs.Book.{size_of, count_of, is_type, blocks}
 use Rattle.type_provider.specs.declared.Found.{Found}
 use Rattle.type_provider.specs.declared.Found.TheVariants.{At, Nothing}
 use Rattle.type_category.specs.Category.{category_of}
@@ -30,7 +30,7 @@ use Rattle.tape_shape.specs.declared.Shape.{Shape}
 use Rattle.tape_shape.specs.declared.Shape.TheVariants as shape
 use Rattle.tape_shape.specs.Value.{shape_of}
 use Rattle.tape_shape.specs.Array.{stride_of, array_bytes}
-use Rattle.ser_named_blocks.specs.Named.{entry_named, field_named}
+use Rattle.ser_named_blocks.specs.Named.{field_named}
 use Rattle.tape.specs.Record.{step_at}
 use Rattle.tape.specs.Text.{record_text}
 use Rattle.tape.specs.declared.record.Record.{Record}
