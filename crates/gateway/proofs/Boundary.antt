@@ -10,6 +10,7 @@ use lib.Dec.{eqb}
 use borrow.Author.Tests.{ne_eqb}
 use Rattle.type_book.specs.Book.{is_type}
 use Rattle.type_book_check.specs.Check.{check_book, book_numbers, ValidBook}
+use Rattle.type_book_check.specs.Given.{Given}
 use Rattle.type_book_check.proofs.Numbers.{zero-valid}
 use Rattle.type_book_check.proofs.Valid.{valid-book}
 use Rattle.type_cache.specs.declared.Appended.TheVariants.{Done, Refused}
@@ -20,8 +21,9 @@ use Rattle.enc_number.specs.Answer.{refusal_of, truth_number}
 use Rattle.gateway_appending.specs.Growth.{trust_of}
 use Rattle.gateway_appending.proofs.Next.{Next, held-said, given-next}
 use Rattle.ser.specs.Write.{Outcome, went, refused}
-use Rattle.ser.specs.Call.{write_numbers}
+use Rattle.ser.specs.Call.{given_write, write_numbers}
 use Rattle.gateway_write_answers.specs.Answers.{is_written, Numbered}
+use Rattle.gateway_write_answers.proofs.Given.{given_numbered}
 use Rattle.gateway.specs.Calls.{AppendGiven, AppendInGiven, WriteGiven}
 
 -- `gateway_check_book` returned 0
@@ -61,6 +63,13 @@ append_in_next x y rest n h more a = given-next a.answer a.by x y rest n h more 
 -- `gateway_write` returned 0: something was written, and the output is that (`call_numbered` and `book-numbered` of `gateway_write_answers` give the premise)
 pub write_done : (o : Outcome) {image output before output' after : List ℕ} → Numbered o → WriteGiven o image output before 0 output' after → is_written o ≡ true
 write_done o n g = n.nought (sym (g.gives.is ∙ ap refusal_of g.by.answer))
+
+-- so of a write for a root however it is given, `gateway_write_named` too
+pub given_write_done : (buffer : List ℕ) (len width : ℕ) (root : Given) (image output tape text : List ℕ) {before output' after : List ℕ}
+    → WriteGiven (given_write buffer len width root image (length output) tape text) image output before 0 output' after
+    → is_written (given_write buffer len width root image (length output) tape text) ≡ true
+given_write_done buffer len width root image output tape text g =
+    (given_numbered buffer len width root image (length output) tape text).nought (sym (g.gives.is ∙ ap refusal_of g.by.answer))
 
 -- it returned another number: an output as long as the image is the image
 pub write_kept : (o : Outcome) {image output before output' after : List ℕ} {r : ℕ} → WriteGiven o image output before r output' after → (r ≡ 0 → ⊥)
