@@ -1,5 +1,5 @@
 -- Where a write goes: leaves keep their length (Sizes), what is kept outside ranges (Ranges), along the walk (Outside), of a whole write (Wholes;
--- examples: Places).
+-- examples: Places, Shown).
 -- The tape's form: the walk of a write follows it (LeafForm, Ends); a read's leaves are in their ranges (ReadLeaf), its records those of a tree
 -- (ReadTree), its tape well formed (ReadForm).
 -- The round trip: UTF-16 (WideTrip), the ids of texts (TextId), a leaf (TripLeaf), along both walks (TripWalk), of two calls (RoundTrip), its premises
@@ -26,6 +26,7 @@ mod FormAlike
 pub mod Alike
 mod Books
 mod Places
+mod Shown
 mod Needed
 mod Roots
 pub mod Given
