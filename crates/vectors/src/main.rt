@@ -22,7 +22,7 @@ use std::io;
 use std::rt::Files;
 
 fn main(rt: HostRuntime) -> io::Result<()> {
-    let mut book = replay::book_buffer(rt.alloc())?;
+    let mut book = replay::book_buffer();
     texts_and_numbers(&rt, &mut book)?;
     checks_and_walks(&rt, &mut book)?;
     reads_and_writes(&rt, &mut book)

@@ -1,12 +1,11 @@
 // Replays a file of recorded cases, page by page.
-ghost use Rattle.std.specs.Prelude.{◌≡◌, ◌≤◌, length, vec_len, IfOk};
+ghost use Rattle.std.specs.Prelude.{◌≡◌, ◌≤◌, length, IfOk};
 
 use crate::lent::FILL;
 use crate::report::Tally;
 use crate::{operation, report};
 use cases_file::case::{HEAD, case_of, length_of, recorded_of};
 use cases_file::input::{byte_at, first, from, u16_at};
-use std::alloc::{AllocError, Global};
 use std::io::Read;
 use std::rt::Files;
 use std::{fs, io};
@@ -48,11 +47,11 @@ fn read_page<F: Read>(file: &mut F, page: &mut [u8]) -> io::Result<usize> {
     Ok(0)
 }
 
-// Zeros for the book that is kept, too many for the stack.
-pub(crate) fn book_buffer(alloc: Global) -> Result<Vec<u8>, AllocError>
-    ensures { IfOk result (λ book. vec_len book ≡ 4718592) }
+// Zeros for the book that is kept. The length is what lending the array as a slice needs.
+pub(crate) fn book_buffer() -> [u8; BOOK]
+    ensures { 4718592 ≡ length result }
 {
-    Vec::from_elem(alloc, 0, BOOK)
+    [0; BOOK]
 }
 
 // The length is what lending the array as a slice needs.
