@@ -1,5 +1,5 @@
 // The program's files and buffers. Each buffer's `ensures` gives its length, which lending it as a slice needs.
-ghost use Rattle.std.specs.Prelude.{◌≡◌, ◌≤◌, length};
+ghost use Rattle.std.specs.Prelude.{◌≡◌, ◌≤◌, length, take};
 
 use std::fs;
 use std::io::Read;
@@ -8,7 +8,7 @@ use std::rt::Files;
 // The bytes of a file, from the start of `buffer` on, as far as they go there: their number. A file that is absent or
 // can't be opened is empty, and one of which a read fails ends there.
 pub(crate) fn read(files: &impl Files, name: &str, buffer: &mut [u8]) -> usize
-    ensures { result ≤ length buffer.new }
+    ensures { (result ≤ length buffer.new) × (result ≡ length (take result buffer.new)) }
 {
     match fs::open(files, name) {
         Ok(mut file) => read_full(&mut file, buffer),
