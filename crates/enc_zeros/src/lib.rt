@@ -7,20 +7,12 @@ ghost use Rattle.std.specs.Prelude.{◌≡◌, length, replicate};
 pub fn clear_bytes(buffer: &mut [u8])
     ensures { buffer.new ≡ replicate (length buffer.old) 0 }
 {
-    let mut i = 0;
-    while i < buffer.len() {
-        buffer[i] = 0;
-        i += 1;
-    }
+    buffer.fill(0);
 }
 
 // Sets all numbers to 0.
 pub fn clear_numbers(numbers: &mut [u32])
     ensures { numbers.new ≡ replicate (length numbers.old) 0 }
 {
-    let mut i = 0;
-    while i < numbers.len() {
-        numbers[i] = 0;
-        i += 1;
-    }
+    numbers.fill(0);
 }
