@@ -2,13 +2,13 @@
 use mathlib.Core.Path.{◌≡◌, refl, sym, ◌∙◌}
 use mathlib.Core.Bool.{Bool, true, false, cond}
 use mathlib.Core.List.{List, [], ◌∷◌, ◌++◌}
-use Prim.Native.Nat.{ℕ, zero, suc, ◌+◌, ◌-◌, ◌≤◌, ◌<◌}
+use Prim.Native.Nat.{ℕ, zero, suc, ◌+◌, ◌-◌, ◌≤◌, ◌<◌, min}
 use native.Mathlib.Omega.{arith}
 use native.Mathlib.Numerals.{add-one}
 use lib.ListN.{length, get_or, drop, drop_of_length-le}
 use lib.Seq.{drop-cons}
 use lib.Dec.{ltb}
-use borrow.Author.Tests.{lt-ltb, le-ltb, ltb-true, ltb-false}
+use borrow.Author.Tests.{ltb-true, ltb-false}
 use Rattle.enc_ascii.specs.Ascii.{is_ascii, block_end}
 
 -- ---- its bytes
@@ -44,22 +44,14 @@ ascii_append (x ∷ xs) ys h k = by (ltb x 0x80) h (λ q. ascii_append xs ys q k
     by true h rest = rest h
     by false h rest = h
 
--- ---- the exits of `block_end`
+-- ---- the end of a block
 
-module _ (at len : ℕ) where
-  pub end-last : len - at < 64 → len ≡ block_end at len
-  end-last h = rw (lt-ltb (len - at) 64 h)
-
-  pub end_whole : 64 ≤ len - at → at + 64 ≡ block_end at len
-  end_whole h = rw (le-ltb (len - at) 64 h)
-
--- ---- the exits of `higher`
-
-pub higher_second : (a b : ℕ) → a < b → b ≡ cond (ltb a b) b a
-higher_second a b h = rw (lt-ltb a b h)
-
-pub higher_first : (a b : ℕ) → b ≤ a → a ≡ cond (ltb a b) b a
-higher_first a b h = rw (le-ltb a b h)
+pub end-min : (at len n : ℕ) → at < len → n ≡ min (len - at) 64 → at + n ≡ block_end at len
+end-min at len n h e = by (ltb (len - at) 64) refl
+  where
+    by : (t : Bool) → ltb (len - at) 64 ≡ t → at + n ≡ cond t len (at + 64)
+    by true q = omega (arith, ltb-true (len - at) 64 q)
+    by false q = omega (arith, ltb-false (len - at) 64 q)
 
 -- ---- the loop of `is_ascii`: all is ASCII where the highest byte so far and what is left are
 

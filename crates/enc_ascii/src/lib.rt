@@ -13,20 +13,14 @@ pub fn block_end(at: usize, len: usize) -> usize
     requires { at < len }
     ensures { (result ≡ block_end at len) × (at < result) × (result ≤ len) × (result ≤ at + 64) }
 {
-    if len - at < 64 {
-        return len;
-    }
-    at + 64
+    at + (len - at).min(64)
 }
 
 // The higher of two bytes.
 pub fn higher(a: u8, b: u8) -> u8
     ensures { result ≡ cond (ltb a b) b a }
 {
-    if a < b {
-        return b;
-    }
-    a
+    a.max(b)
 }
 
 // Whether some bytes are ASCII: none is above 7Fh. It looks for the highest of them, which needs no branch.
@@ -34,10 +28,8 @@ pub fn is_ascii(bytes: &[u8]) -> bool
     ensures { result ≡ is_ascii bytes.now }
 {
     let mut highest: u8 = 0;
-    let mut i = 0;
-    while i < bytes.len() {
-        highest = higher(highest, bytes[i]);
-        i += 1;
+    for byte in bytes {
+        highest = higher(highest, *byte);
     }
     highest < 0x80
 }
@@ -46,19 +38,13 @@ pub fn is_ascii(bytes: &[u8]) -> bool
 pub fn copy(bytes: &[u8], out: &mut [u8], at: usize) -> Put
     ensures { Wrote bytes.now out.old at result out.new }
 {
-    if bytes.len() == 0 {
+    if bytes.is_empty() {
         return Put::Next(at);
     }
-    if out.len() < at {
+    if out.len() < at || out.len() - at < bytes.len() {
         return Put::Full;
     }
-    if out.len() - at < bytes.len() {
-        return Put::Full;
-    }
-    let mut i = 0;
-    while i < bytes.len() {
-        out[at + i] = bytes[i];
-        i += 1;
-    }
-    Put::Next(at + i)
+    let end = at + bytes.len();
+    out[at..end].copy_from_slice(bytes);
+    Put::Next(end)
 }
