@@ -1,16 +1,17 @@
 -- Laws of little-endian byte order, over the width; this module alone unfolds `le_value` and `le_bytes`. Assumes nothing.
 use mathlib.Core.Path.{◌≡◌, refl, sym, ap, ◌∙◌}
 use mathlib.Core.List.{List, [], ◌∷◌, ◌++◌, append_assoc}
-use Prim.Native.Nat.{ℕ, zero, suc, ◌+◌, ◌-◌, ◌*◌, ◌/◌, ◌%◌, ◌^◌, ◌≤◌, ◌<◌}
-use native.Mathlib.Nat.{mul_assoc, pow-suc, pow-succ', pow-le-pow_right, one-le-pow, lt_of_lt_of_le}
+use Prim.Native.Nat.{ℕ, zero, suc, ◌+◌, ◌-◌, ◌*◌, ◌/◌, ◌%◌, ◌^◌, ◌≤◌, ◌<◌, min}
+use native.Mathlib.Nat.{mul_assoc, div-one, div-div-eq-div-mul, pow-suc, pow-succ', pow-le-pow_right, one-le-pow, lt_of_lt_of_le}
 use lib.Arith.{mod-mul, digits_mod, digits_div}
 use lib.Pow.{pow-add}
 use native.Mathlib.Numerals.{add-one}
 use native.Mathlib.Omega.{arith}
 use lib.ListN.{length, get_or, take, drop, set, length-drop, take-append-drop}
 use lib.Seq.{take_all, take-add, drop-length, drop-cons, get_or-drop, length-take-le, take-suc-set, drop-set-lt}
-use mir.Syntax.{w8, w32}
+use mir.Syntax.{w8, w32, w64}
 use mir.Val.{Fits}
+use Rattle.std.specs.Int.{to_le_bytes, from_le_bytes, bytes_low_first}
 use Rattle.enc_number.specs.Le.{Bytes, le_value, le_bytes, le_stored}
 
 pub length-le_bytes : (w n : ℕ) → length (le_bytes w n) ≡ w
@@ -108,9 +109,6 @@ module _ (s : List ℕ) where
   fold_start = rw (drop-length s)
 
   module _ (i value : ℕ) (inv : value ≡ le_value (drop i s)) where
-    pub fold_end : i ≤ 0 → value ≡ le_value s
-    fold_end h = let e : i ≡ 0 = omega arith in inv ∙ rw e
-
     pub fold_more : 0 < i → i ≤ length s → (x : ℕ) → x ≡ get_or s (i - 1) 0 → x + 256 * value ≡ le_value (drop (i - 1) s)
     unfolding le_value
     fold_more h l x e =
@@ -126,45 +124,52 @@ module _ (s : List ℕ) where
       pub fold_mul : Fits w32 (256 * value)
       fold_mul = record { fits = omega (arith, fold_small) }
 
-      pub fold_add : (x : ℕ) → x < 256 → Fits w32 (x + 256 * value)
-      fold_add x q = record { fits = omega (arith, fold_small) }
+      pub fold_add : (x : ℕ) → x ≡ get_or s (i - 1) 0 → Fits w32 (x + 256 * value)
+      fold_add x e = record { fits = omega (arith, fold_small, bytes_of s b (i - 1)) }
 
 -- ---- four bytes at once, and eight as twice four
 
-pub four_bytes : (s : List ℕ) → 4 ≤ length s → (a b c d : ℕ) → a ≡ get_or s 0 0 → b ≡ get_or s 1 0 → c ≡ get_or s 2 0 → d ≡ get_or s 3 0 → a + 256 * b + 65536 * c + 16777216 * d ≡ le_value (take 4 s)
+pub four_bytes : (s : List ℕ) (n : ℕ) → 4 ≤ length s → n ≡ from_le_bytes w32 (get_or s 0 0 ∷ get_or s 1 0 ∷ get_or s 2 0 ∷ get_or s 3 0 ∷ []) → n ≡ le_value (take 4 s)
 unfolding le_value
-four_bytes [] l a b c d ea eb ec ed = absurd (omega arith)
-four_bytes (x ∷ []) l a b c d ea eb ec ed = absurd (omega arith)
-four_bytes (x ∷ y ∷ []) l a b c d ea eb ec ed = absurd (omega arith)
-four_bytes (x ∷ y ∷ z ∷ []) l a b c d ea eb ec ed = absurd (omega arith)
-four_bytes (x ∷ y ∷ z ∷ w ∷ ws) l a b c d ea eb ec ed = omega arith
+four_bytes [] n l e = absurd (omega arith)
+four_bytes (x ∷ []) n l e = absurd (omega arith)
+four_bytes (x ∷ y ∷ []) n l e = absurd (omega arith)
+four_bytes (x ∷ y ∷ z ∷ []) n l e = absurd (omega arith)
+four_bytes (x ∷ y ∷ z ∷ w ∷ ws) n l e = omega arith
 
 pub few_bytes : (k : ℕ) (s : List ℕ) (r : ℕ) → length s < k → r ≡ le_value s → r ≡ le_value (take k s)
 few_bytes k s r l e = rw (take_all k s (omega arith)) e
 
-pub low-only : (s : List ℕ) (low : ℕ) → length s < 5 → low ≡ le_value (take 4 s) → low ≡ le_value (take 8 s)
-low-only s low l e = e ∙ rw (take_all 4 s (omega arith), take_all 8 s (omega arith))
+pub low-only : (s : List ℕ) (low n : ℕ) → length s < 5 → low ≡ le_value (take 4 s) → n ≡ low → n ≡ le_value (take 8 s)
+low-only s low n l a e = e ∙ a ∙ rw (take_all 4 s (omega arith), take_all 8 s (omega arith))
 
-pub low-high : (s : List ℕ) (low high : ℕ) → 5 ≤ length s → low ≡ le_value (take 4 s) → high ≡ le_value (take 4 (take (length s - 4) (drop 4 s))) → low + 0x1_0000_0000 * high ≡ le_value (take 8 s)
-low-high s low high l a b =
-    let n : length (take 4 s) ≡ 4 = length-take-le 4 s (omega arith) in
+pub low-high : (s : List ℕ) (low high n m : ℕ) → 5 ≤ length s → low ≡ le_value (take 4 s) → high ≡ le_value (take 4 (take (length s - 4) (drop 4 s))) → n ≡ low → m ≡ high → n + 0x1_0000_0000 * m ≡ le_value (take 8 s)
+low-high s low high n m l a b d e =
+    let k : length (take 4 s) ≡ 4 = length-take-le 4 s (omega arith) in
     let p : take (length s - 4) (drop 4 s) ≡ drop 4 s = take_all (length s - 4) (drop 4 s) (simp length-drop (omega arith)) in
-    sym (ap le_value (take-add 4 4 s) ∙ le_value_append (take 4 s) (take 4 (drop 4 s)) ∙ rw (n, ← a, ← (rw p at b)))
+    rw (d, e) (sym (ap le_value (take-add 4 4 s) ∙ le_value_append (take 4 s) (take 4 (drop 4 s)) ∙ rw (k, ← a, ← (rw p at b))))
 
--- ---- a number stored from its lowest byte up
+-- ---- the lowest bytes of a number, and a number stored
 
-pub store-start : (out : List ℕ) (v w n : ℕ) → v ≡ w → take 0 out ++ le_stored (v - 0) n (drop 0 out) ≡ le_stored w n out
-store-start out v w n q = let e : v - 0 ≡ w = omega arith in rw e
+-- the lowest w bytes are the first of the lowest k
+pub take-le_bytes : (w k n : ℕ) → w ≤ k → take w (le_bytes k n) ≡ le_bytes w n
+unfolding le_bytes
+take-le_bytes zero k n h = refl
+take-le_bytes (suc w) zero n h = absurd (omega arith)
+take-le_bytes (suc w) (suc k) n h = ap (λ (l : List ℕ). n % 256 ∷ l) (take-le_bytes w k (n / 256) (omega arith))
 
-module _ (out : List ℕ) (w n i : ℕ) (whole : List ℕ) (inv : take i out ++ le_stored (w - i) n (drop i out) ≡ whole) where
-  pub store-end : i ≤ w → w ≤ i → out ≡ whole
-  unfolding le_bytes
-  store-end a b = let e : w - i ≡ 0 = omega arith in rw (e, take-append-drop i out) at inv
+-- from byte i up, as `u64::to_le_bytes` gives them
+bytes-from : (k i n : ℕ) → bytes_low_first i k n ≡ le_bytes k (n / 256 ^ i)
+unfolding le_bytes
+bytes-from zero i n = refl
+bytes-from (suc k) zero n = rw (div-one n, bytes-from k 1 n)
+bytes-from (suc k) (suc i) n =
+    let e : n / 256 ^ suc i / 256 ≡ n / 256 ^ suc (suc i) = div-div-eq-div-mul n (256 ^ suc i) 256 ∙ ap (λ (p : ℕ). n / p) (sym (pow-suc 256 (suc i))) in
+    ap (λ (l : List ℕ). n / 256 ^ suc i % 256 ∷ l) (bytes-from k (suc (suc i)) n ∙ ap (le_bytes k) (sym e))
 
-  pub store-more : i < w → w ≤ length out → take (i + 1) (set out i (n % 256)) ++ le_stored (w - (i + 1)) (n / 256) (drop (i + 1) (set out i (n % 256))) ≡ whole
-  unfolding le_bytes
-  store-more h l =
-      let m : i < length out = omega arith in
-      let k : w - i ≡ suc (w - (i + 1)) = omega arith in
-      rw (add-one i, take-suc-set out i (n % 256) m, drop-set-lt (suc i) out i (n % 256) (omega arith), append_assoc)
-      (rw (k, add-one i, drop-cons out i 0 m) at inv)
+pub store-copied : (out ys bytes : List ℕ) (w n : ℕ) → w ≡ min (length out) 8 → ys ≡ take w bytes → bytes ≡ to_le_bytes w64 n → ys ++ drop w out ≡ le_stored (min 8 (length out)) n out
+store-copied out ys bytes w n e q b =
+    let l : w ≡ min 8 (length out) = omega arith in
+    let h : w ≤ 8 = omega arith in
+    let z : take w bytes ≡ le_bytes w n = rw (b, bytes-from 8 0 n, div-one n) (take-le_bytes w 8 n h) in
+    rw (q, z, l)

@@ -1,10 +1,9 @@
 -- `enc_number::le::le_short` meets its contract. Assumes nothing.
-use borrow.Author.Rules.{rules}
-use Rattle.enc_number.proofs.ByteOrder.{fold_start, fold_end, fold_more, fold_mul, fold_add}
+use Rattle.enc_number.proofs.ByteOrder.{fold_start, fold_more, fold_mul, fold_add}
 use Rattle.enc_number.proofs.le.le_short.Goals as goal
 
 pub loop-i-init : goal.loop-i-init
-loop-i-init c = (search rules, fold_start c.args.slice.now)
+loop-i-init c = fold_start c.args.slice.now
 
 pub overflow_mul-value : goal.overflow_mul-value
 overflow_mul-value c = search fold_mul
@@ -13,7 +12,4 @@ pub overflow_add-value : goal.overflow_add-value
 overflow_add-value c = search fold_add
 
 pub loop-i-preserved : goal.loop-i-preserved
-loop-i-preserved c = (search rules, search fold_more)
-
-pub returns : goal.returns
-returns c = search fold_end
+loop-i-preserved c = search fold_more

@@ -1,12 +1,8 @@
 -- `enc_number::le::le_short` meets its contract. Assumes nothing.
 use mathlib.Core.Path.{◌≡◌}
-use Prim.Native.Nat.{◌≤◌}
-use lib.ListN.{length, drop}
+use lib.ListN.{drop}
 use Rattle.enc_number.specs.Le.{le_value}
 use Rattle.enc_number.proofs.le.le_short.Given as goal
 
 abbrev pub invariant-loop-i : goal.invariant-loop-i
-invariant-loop-i l = (l.i ≤ length l.slice) × (l.value ≡ le_value (drop l.i l.slice))
-
-abbrev pub decreases-loop-i : goal.decreases-loop-i
-decreases-loop-i l = l.i
+invariant-loop-i l = l.value ≡ le_value (drop l.i l.slice)
