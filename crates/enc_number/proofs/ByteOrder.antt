@@ -1,17 +1,17 @@
 -- Laws of little-endian byte order, over the width; this module alone unfolds `le_value` and `le_bytes`. Assumes nothing.
 use mathlib.Core.Path.{◌≡◌, refl, sym, ap, ◌∙◌}
-use mathlib.Core.List.{List, [], ◌∷◌, ◌++◌, append_assoc}
+use mathlib.Core.List.{List, [], ◌∷◌, ◌++◌, append_assoc, append-nil}
 use Prim.Native.Nat.{ℕ, zero, suc, ◌+◌, ◌-◌, ◌*◌, ◌/◌, ◌%◌, ◌^◌, ◌≤◌, ◌<◌, min}
-use native.Mathlib.Nat.{mul_assoc, div-one, div-div-eq-div-mul, pow-suc, pow-succ', pow-le-pow_right, one-le-pow, lt_of_lt_of_le}
+use native.Mathlib.Nat.{mul_assoc, pow-suc, pow-succ', pow-le-pow_right, one-le-pow, lt_of_lt_of_le}
 use lib.Arith.{mod-mul, digits_mod, digits_div}
 use lib.Pow.{pow-add}
 use native.Mathlib.Numerals.{add-one}
 use native.Mathlib.Omega.{arith}
-use lib.ListN.{length, get_or, take, drop, set, length-drop, take-append-drop}
-use lib.Seq.{take_all, take-add, drop-length, drop-cons, get_or-drop, length-take-le, take-suc-set, drop-set-lt}
-use mir.Syntax.{w8, w32, w64}
+use lib.ListN.{length, get_or, take, drop, set, length-drop}
+use lib.Seq.{take_all, take-add, drop-length, drop-cons, get_or-drop, length-take-le, take-suc-set}
+use mir.Syntax.{w8, w32}
 use mir.Val.{Fits}
-use Rattle.std.specs.Int.{to_le_bytes, from_le_bytes, bytes_low_first}
+use Rattle.std.specs.Int.{from_le_bytes}
 use Rattle.enc_number.specs.Le.{Bytes, le_value, le_bytes, le_stored}
 
 pub length-le_bytes : (w n : ℕ) → length (le_bytes w n) ≡ w
@@ -149,27 +149,20 @@ low-high s low high n m l a b d e =
     let p : take (length s - 4) (drop 4 s) ≡ drop 4 s = take_all (length s - 4) (drop 4 s) (simp length-drop (omega arith)) in
     rw (d, e) (sym (ap le_value (take-add 4 4 s) ∙ le_value_append (take 4 s) (take 4 (drop 4 s)) ∙ rw (k, ← a, ← (rw p at b))))
 
--- ---- the lowest bytes of a number, and a number stored
+-- ---- a number stored from its lowest byte up
 
--- the lowest w bytes are the first of the lowest k
-pub take-le_bytes : (w k n : ℕ) → w ≤ k → take w (le_bytes k n) ≡ le_bytes w n
-unfolding le_bytes
-take-le_bytes zero k n h = refl
-take-le_bytes (suc w) zero n h = absurd (omega arith)
-take-le_bytes (suc w) (suc k) n h = ap (λ (l : List ℕ). n % 256 ∷ l) (take-le_bytes w k (n / 256) (omega arith))
+module _ (bytes : List ℕ) (w n value i : ℕ) (inv : take i bytes ++ le_bytes (w - i) n ≡ le_bytes w value) where
+  pub store-more : i < w → w ≡ length bytes → take (i + 1) (set bytes i (n % 256)) ++ le_bytes (w - (i + 1)) (n / 256) ≡ le_bytes w value
+  unfolding le_bytes
+  store-more h l =
+      let m : i < length bytes = omega arith in
+      let k : w - i ≡ suc (w - (i + 1)) = omega arith in
+      rw (add-one i, take-suc-set bytes i (n % 256) m, append_assoc)
+      (rw (k, add-one i) at inv)
 
--- from byte i up, as `u64::to_le_bytes` gives them
-bytes-from : (k i n : ℕ) → bytes_low_first i k n ≡ le_bytes k (n / 256 ^ i)
-unfolding le_bytes
-bytes-from zero i n = refl
-bytes-from (suc k) zero n = rw (div-one n, bytes-from k 1 n)
-bytes-from (suc k) (suc i) n =
-    let e : n / 256 ^ suc i / 256 ≡ n / 256 ^ suc (suc i) = div-div-eq-div-mul n (256 ^ suc i) 256 ∙ ap (λ (p : ℕ). n / p) (sym (pow-suc 256 (suc i))) in
-    ap (λ (l : List ℕ). n / 256 ^ suc i % 256 ∷ l) (bytes-from k (suc (suc i)) n ∙ ap (le_bytes k) (sym e))
-
-pub store-copied : (out ys bytes : List ℕ) (w n : ℕ) → w ≡ min (length out) 8 → ys ≡ take w bytes → bytes ≡ to_le_bytes w64 n → ys ++ drop w out ≡ le_stored (min 8 (length out)) n out
-store-copied out ys bytes w n e q b =
-    let l : w ≡ min 8 (length out) = omega arith in
-    let h : w ≤ 8 = omega arith in
-    let z : take w bytes ≡ le_bytes w n = rw (b, bytes-from 8 0 n, div-one n) (take-le_bytes w 8 n h) in
-    rw (q, z, l)
+  pub store-end : (out : List ℕ) → w ≡ length bytes → w ≤ i → w ≡ min (length out) 8 → bytes ++ drop w out ≡ le_stored (min 8 (length out)) value out
+  unfolding le_bytes
+  store-end out l h e =
+      let k : w - i ≡ 0 = omega arith in
+      let d : min 8 (length out) ≡ w = omega arith in
+      rw (d, ← inv, k, take_all i bytes (omega arith), append-nil)

@@ -42,5 +42,10 @@ pub fn le_store(value: u64, out: &mut [u8])
     ensures { out.new ≡ le_stored (min 8 (length out.old)) value out.old }
 {
     let width = out.len().min(8);
-    out[..width].copy_from_slice(&value.to_le_bytes()[..width]);
+    let mut rest = value;
+    // A copy out of `to_le_bytes` was tried: it is a call for so few bytes, and took twice as long.
+    for byte in out[..width].iter_mut() {
+        *byte = (rest % 256) as u8;
+        rest /= 256;
+    }
 }
