@@ -14,10 +14,8 @@ pub fn goes_through(part: &[u8]) -> bool
     ensures { result ≡ true → well_formed part.now ≡ true }
 {
     let mut state: u64 = 0;
-    let mut i = 0;
-    while i < part.len() {
-        state = row(part[i]) >> (state % 64);
-        i += 1;
+    for byte in part {
+        state = row(*byte) >> (state % 64);
     }
     state % 64 == 0
 }
