@@ -6,10 +6,10 @@ use borrow.Author.Rules.{rules}
 use Rattle.enc_utf_16_ascii.proofs.ascii_units.Goals as goal
 
 pub loop-i-init : goal.loop-i-init
-loop-i-init c = (search rules, search rules, λ z. search units_none, λ a. refl)
+loop-i-init c = (search rules, λ z. search units_none, λ a. refl)
 
 pub loop-i-preserved : goal.loop-i-preserved
-loop-i-preserved c = (search rules, search rules, search units_again, search nothing-again)
+loop-i-preserved c = (search rules, search units_again, search nothing-again)
 
 pub returns : goal.returns
 returns c = (search units_all, search nothing-all)

@@ -5,13 +5,13 @@ use borrow.Author.Rules.{rules}
 use Rattle.enc_utf_16_ascii.proofs.copy_units.Goals as goal
 
 pub loop-i-init : goal.loop-i-init
-loop-i-init c = (search rules, search copy_start)
+loop-i-init c = search copy_start
 
 pub bounds-out-to : goal.bounds-out-to
 bounds-out-to c = search (rules, copy_room)
 
 pub loop-i-preserved : goal.loop-i-preserved
-loop-i-preserved c = (search rules, search copy_again)
+loop-i-preserved c = search copy_again
 
 pub returns : goal.returns
 returns c = search copy_end
