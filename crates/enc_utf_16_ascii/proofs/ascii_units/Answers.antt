@@ -1,6 +1,5 @@
 -- `enc_utf_16_ascii::ascii_units` meets its contract. The loop's invariant: where nothing is added up so far, the code units so far are ASCII, and of ASCII nothing is. Assumes nothing.
 use mathlib.Core.Path.{refl}
-use Prim.Native.Nat.{◌-◌}
 use Rattle.enc_utf_16_ascii.proofs.Blocks.{units_none, units_again, units_all, nothing-again, nothing-all}
 use borrow.Author.Rules.{rules}
 use Rattle.enc_utf_16_ascii.proofs.ascii_units.Goals as goal

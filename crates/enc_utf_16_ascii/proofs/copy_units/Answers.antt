@@ -1,5 +1,4 @@
 -- `enc_utf_16_ascii::copy_units` meets its contract. The loop's invariant: the low bytes that are left, written from here on, make the buffer that all of them make. Assumes nothing.
-use Prim.Native.Nat.{◌-◌}
 use Rattle.enc_utf_16_ascii.proofs.Blocks.{copy_start, copy_room, copy_again, copy_end}
 use borrow.Author.Rules.{rules}
 use Rattle.enc_utf_16_ascii.proofs.copy_units.Goals as goal
