@@ -2,12 +2,16 @@
 use mathlib.Core.Path.{◌≡◌, refl, sym, ap, ◌∙◌}
 use mathlib.Core.Bool.{Bool, true, false, cond, ◌&&◌}
 use mathlib.Core.List.{List, [], ◌∷◌}
-use Prim.Native.Nat.{ℕ, suc, ◌+◌, ◌-◌, ◌≤◌, ◌<◌}
+use Prim.Native.Nat.{ℕ, zero, suc, ◌+◌, ◌*◌, ◌/◌, ◌≤◌, ◌<◌}
 use native.Mathlib.Omega.{arith}
-use lib.ListN.{length, get_or, drop, length-drop}
+use lib.ListN.{length, get_or, drop}
 use lib.Seq.{drop-cons}
 use lib.Dec.{eqb}
-use borrow.Author.Tests.{eq-eqb, ne_eqb}
+use Rattle.std.specs.Prelude.{Option, Some, None}
+use Rattle.std.specs.Cmp.Lexicographic.{pointwise}
+use Rattle.std.specs.List.{position, position_from}
+use Rattle.std.specs.Simd.{first_chunks}
+use Rattle.std.proofs.lemmas.Iterator.Adapters.{position_from-zero}
 use Rattle.enc_utf_8.specs.declared.TextEnd.{TextEnd}
 use Rattle.enc_utf_8.specs.declared.TextEnd.TheVariants.{Terminated, Unterminated}
 use Rattle.enc_utf_16.specs.WString.{end16_from, wstring_end}
@@ -20,37 +24,45 @@ drop-two bytes at h =
     let k : at + 2 ≡ suc (suc at) = omega arith in
     rw (e, k, drop-cons bytes at 0 a, drop-cons bytes (suc at) 0 b)
 
--- ---- the exits of `is_zero`
+-- ---- the pairs of `wstring_end`
 
-module _ (x y : ℕ) where
-  pub zero-not : (x ≡ 0 → ⊥) → false ≡ (eqb x 0 && eqb y 0)
-  zero-not n = rw (ne_eqb x 0 n)
+-- both bytes of a pair are zero
+abbrev pub is_zero_pair : List ℕ → Bool
+is_zero_pair unit = pointwise eqb unit (0 ∷ 0 ∷ [])
 
-  pub zero-second : x ≡ 0 → eqb y 0 ≡ (eqb x 0 && eqb y 0)
-  zero-second e = rw (eq-eqb x 0 e)
+-- the end of `size` bytes, by the place of the first zero pair
+abbrev ended : ℕ → Option ℕ → TextEnd
+ended size None = Unterminated size
+ended size (Some n) = Terminated (2 * n)
 
--- ---- the loop of `wstring_end`
+pairs : (k i : ℕ) (xs : List ℕ) → length xs / 2 ≡ k → end16_from (2 * i) xs ≡ ended (2 * i + length xs) (position_from is_zero_pair i (first_chunks 2 k xs))
+unfolding end16_from
+pairs k i [] h = let e : k ≡ 0 = omega arith in rw e (ap Unterminated (omega arith))
+pairs k i (x ∷ []) h = let e : k ≡ 0 = omega arith in rw e (ap Unterminated (omega arith))
+pairs zero i (x ∷ y ∷ xs) h = absurd (omega arith)
+pairs (suc k) i (x ∷ y ∷ xs) h =
+    let e : 2 * i + 2 ≡ 2 * (i + 1) = omega arith in
+    let f : 2 * i + suc (suc (length xs)) ≡ 2 * (i + 1) + length xs = omega arith in
+    by (eqb x 0) (eqb y 0) (rw (e, f) (pairs k (i + 1) xs (omega arith)))
+  where
+    by : (s t : Bool) → end16_from (2 * i + 2) xs ≡ ended (2 * i + suc (suc (length xs))) (position_from is_zero_pair (i + 1) (first_chunks 2 k xs))
+        → cond (s && t) (Terminated (2 * i)) (end16_from (2 * i + 2) xs)
+        ≡ ended (2 * i + suc (suc (length xs))) (cond (s && (t && true)) (Some i) (position_from is_zero_pair (i + 1) (first_chunks 2 k xs)))
+    by true true later = refl
+    by true false later = later
+    by false t later = later
 
-module _ (bytes : List ℕ) (at : ℕ) (inv : wstring_end bytes ≡ end16_from at (drop at bytes)) where
-  module _ (left : 2 ≤ length bytes - at) (t : Bool) (e : t ≡ (eqb (get_or bytes at 0) 0 && eqb (get_or bytes (at + 1) 0) 0)) where
-    turn : wstring_end bytes ≡ cond t (Terminated at) (end16_from (at + 2) (drop (at + 2) bytes))
-    unfolding end16_from
-    turn = inv ∙ rw (drop-two bytes at (omega arith), ← e)
+module _ (bytes : List ℕ) (units : List (List ℕ)) (r : Option ℕ) (u : units ≡ first_chunks 2 (length bytes / 2) bytes) (e : r ≡ position is_zero_pair units) where
+  by-pairs : wstring_end bytes ≡ ended (length bytes) r
+  by-pairs =
+      let z : 2 * 0 + length bytes ≡ length bytes = omega arith in
+      rw z at (pairs (length bytes / 2) 0 bytes refl) ∙ ap (ended (length bytes)) (sym (position_from-zero is_zero_pair (first_chunks 2 (length bytes / 2) bytes)) ∙ ap (position is_zero_pair) (sym u) ∙ sym e)
 
-    pub end-here : t ≡ true → Terminated at ≡ wstring_end bytes
-    end-here q = sym (turn ∙ rw q)
+  pub end_here : (n : ℕ) → r ≡ Some n → Terminated (2 * n) ≡ wstring_end bytes
+  end_here n q = sym (by-pairs ∙ ap (ended (length bytes)) q)
 
-    pub end-again : t ≡ false → wstring_end bytes ≡ end16_from (at + 2) (drop (at + 2) bytes)
-    end-again q = turn ∙ rw q
-
-  pub end_none : at ≤ length bytes → length bytes - at < 2 → Unterminated (length bytes) ≡ wstring_end bytes
-  unfolding end16_from
-  end_none a h = sym (inv ∙ by (drop at bytes) refl)
-    where
-      by : (xs : List ℕ) → drop at bytes ≡ xs → end16_from at xs ≡ Unterminated (length bytes)
-      by [] d = ap Unterminated (omega (arith, simp length-drop at (ap length d)))
-      by (x ∷ []) d = ap Unterminated (omega (arith, simp length-drop at (ap length d)))
-      by (x ∷ y ∷ xs) d = absurd (omega (arith, simp length-drop at (ap length d)))
+  pub end_none : r ≡ None → Unterminated (length bytes) ≡ wstring_end bytes
+  end_none q = sym (by-pairs ∙ ap (ended (length bytes)) q)
 
 -- ---- where the end lies
 

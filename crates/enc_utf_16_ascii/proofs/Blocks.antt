@@ -49,14 +49,6 @@ module _ (bytes : List ℕ) (at : ℕ) where
     pub nothing-all : eqb above 0 ≡ true
     nothing-all = eq-eqb above 0 (inv a)
 
--- ---- ascii_block: no whole block is left
-
-pub not-told : {X : Type 0} → false ≡ true → X
-not-told e = absurd (let z : ◌≡◌ {A = ℕ} 0 1 = cc in omega arith)
-
-pub none-whole : (bytes : List ℕ) (at : ℕ) → at < length bytes → length bytes - at < 64 → AsciiUnits bytes at 32 → false ≡ true
-none-whole bytes at l h a = absurd (omega (arith, a.whole))
-
 -- ---- copy_units
 
 pub lows-length : (bytes : List ℕ) (n at : ℕ) → length (lows bytes at n) ≡ n
@@ -77,9 +69,12 @@ module _ (bytes out out₁ : List ℕ) (at to i : ℕ) (q : LeftToWrite (lows by
   pub copy_room : i < 32 → to + i < length out₁
   copy_room h = omega (arith, q.fits, lows-length bytes (32 - i) (at + 2 * i))
 
-  pub copy_end : 32 ≤ i → i ≤ 32 → Wrote (lows bytes at 32) out to (Next (to + i)) out₁
+  pub copy_end : 32 ≤ i → i ≤ 32 → Wrote (lows bytes at 32) out to (Next (to + 32)) out₁
   unfolding lows
-  copy_end l h = let n : 32 - i ≡ 0 = omega arith in left_end (rw n at q)
+  copy_end l h =
+      let n : 32 - i ≡ 0 = omega arith in
+      let e : to + i ≡ to + 32 = omega arith in
+      rw e at (left_end (rw n at q))
 
 pub copy_start : (bytes out : List ℕ) (at to : ℕ) → to + 32 ≤ length out → LeftToWrite (lows bytes at 32) out to (lows bytes (at + 2 * 0) (32 - 0)) out (to + 0)
 copy_start bytes out at to h =

@@ -8,23 +8,14 @@ ghost use Rattle.enc_utf_16_ascii.specs.Ascii16.{AsciiUnits, lows};
 
 use enc_utf_8::Put;
 
-// A byte as a number that many bytes can be added to.
-fn widened(x: u8) -> u16
-    ensures { (result ≡ x) × (result < 256) }
-{
-    x as u16
-}
-
 // Whether 32 code units are ASCII: it adds up what is above 7Fh in them, which needs no branch.
 fn ascii_units(bytes: &[u8], at: usize) -> bool
     requires { at + 64 ≤ length bytes.now }
     ensures { (result ≡ true → AsciiUnits bytes.now at 32) × (AsciiUnits bytes.now at 32 → result ≡ true) }
 {
     let mut above: u16 = 0;
-    let mut i = 0;
-    while i < 32 {
-        above += widened(bytes[at + 2 * i]) / 128 + widened(bytes[at + 2 * i + 1]);
-        i += 1;
+    for i in 0..32 {
+        above += u16::from(bytes[at + 2 * i]) / 128 + u16::from(bytes[at + 2 * i + 1]);
     }
     above == 0
 }
@@ -34,10 +25,7 @@ pub fn ascii_block(bytes: &[u8], at: usize) -> bool
     requires { at < length bytes.now }
     ensures { (result ≡ true → AsciiUnits bytes.now at 32) × (AsciiUnits bytes.now at 32 → result ≡ true) }
 {
-    if bytes.len() - at < 64 {
-        return false;
-    }
-    ascii_units(bytes, at)
+    bytes.len() - at >= 64 && ascii_units(bytes, at)
 }
 
 // Writes the low bytes of 32 code units from `to` on, which is all that ASCII needs, and gives the place after them.
@@ -46,10 +34,8 @@ pub fn copy_units(bytes: &[u8], at: usize, out: &mut [u8], to: usize) -> usize
     requires to_in_bounds { to + 32 ≤ length out.old }
     ensures { Wrote (lows bytes.now at 32) out.old to (Put.Next result) out.new }
 {
-    let mut i = 0;
-    while i < 32 {
+    for i in 0..32 {
         out[to + i] = bytes[at + 2 * i];
-        i += 1;
     }
-    to + i
+    to + 32
 }

@@ -27,13 +27,6 @@ struct Measured {
     next: usize,
 }
 
-// How many bytes a scalar value takes in UTF-8.
-fn short_len(code: u32) -> usize
-    ensures { (result ≡ length (utf8_of code)) × (result ≤ 4) }
-{
-    utf8_len(code)
-}
-
 // How many bytes in UTF-8 the scalar values take that begin from `at` on, before `end`.
 fn measure_units(bytes: &[u8], at: usize, end: usize) -> Measured
     requires { (at < end) × (end ≤ length bytes.now) × (end ≤ at + 64) }
@@ -43,7 +36,7 @@ fn measure_units(bytes: &[u8], at: usize, end: usize) -> Measured
     let mut next = at;
     while next < end {
         let here = scalar_16(bytes, next);
-        size += short_len(here.code);
+        size += utf8_len(here.code);
         next = here.next;
     }
     Measured { size, next }
@@ -84,13 +77,7 @@ pub fn decoded_len(bytes: &[u8], room: usize) -> Room
 fn fits_in(bytes: &[u8], room: usize) -> bool
     ensures { result ≡ leb (length (decode16_text bytes.now)) room }
 {
-    if bytes.len() <= room / 3 {
-        return true;
-    }
-    match decoded_len(bytes, room) {
-        Room::Fits(_) => true,
-        Room::Over => false,
-    }
+    bytes.len() <= room / 3 || matches!(decoded_len(bytes, room), Room::Fits(_))
 }
 
 // Writes a scalar value in UTF-8 from `at` on, where it fits. What takes one byte or two is told first.
@@ -176,7 +163,7 @@ fn write_8(bytes: &[u8], out: &mut [u8], at: usize) -> usize
 pub fn decode(bytes: &[u8], out: &mut [u8], at: usize) -> Put
     ensures { Wrote (decode16_text bytes.now) out.old at result out.new }
 {
-    if bytes.len() == 0 {
+    if bytes.is_empty() {
         return Put::Next(at);
     }
     if out.len() < at {

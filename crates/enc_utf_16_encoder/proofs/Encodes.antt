@@ -1,14 +1,25 @@
 -- The encoder, scalar value by scalar value. This module alone opens `utf16_of`. Assumes nothing.
-use mathlib.Core.Path.{◌≡◌}
+use mathlib.Core.Path.{◌≡◌, refl, ◌∙◌}
 use mathlib.Core.List.{List, [], ◌∷◌, ◌++◌}
-use Prim.Native.Nat.{ℕ, ◌/◌, ◌%◌, ◌≤◌, ◌<◌}
+use Prim.Native.Nat.{ℕ, ◌+◌, ◌-◌, ◌/◌, ◌%◌, ◌≤◌, ◌<◌}
+use native.Mathlib.Omega.{arith}
+use borrow.Rule.Slice.PartMut.{put_mid}
 use lib.ListN.{length, length-append}
 use borrow.Author.Tests.{lt-ltb, le-ltb}
 use Rattle.enc_number.proofs.ByteOrder.{length-le_bytes, le_bytes-two}
 use Rattle.enc_utf_8.specs.declared.Put.{Put}
-use Rattle.enc_utf_8.specs.Buffer.{Wrote}
-use Rattle.enc_utf_8.proofs.Splices.{wrote_as}
+use Rattle.enc_utf_8.specs.declared.Put.TheVariants.{Next}
+use Rattle.enc_utf_8.specs.Buffer.{splice, Wrote}
+use Rattle.enc_utf_8.proofs.Splices.{splice-paste, wrote-splice, wrote_as}
+use Rattle.std.proofs.lemmas.Slice.{put_mid-paste}
 use Rattle.enc_utf_16.specs.Encode.{unit_bytes, leading_of, trailing_of, utf16_of}
+
+-- a part of a buffer that was replaced by bytes of its length
+pub wrote-part : (xs out ys : List ℕ) (at n : ℕ) → length xs ≡ n → at + n ≤ length out → ys ≡ xs → Wrote xs out at (Next (at + n)) (put_mid at (at + n - at) out ys)
+wrote-part xs out ys at n e h q =
+    let p : at + n ≡ at + length xs = omega arith in
+    let s : put_mid at (at + n - at) out ys ≡ splice out at xs = put_mid-paste at (at + n - at) out ys xs (length xs) q (omega arith) refl ∙ splice-paste out at xs in
+    rw (s, p) (wrote-splice xs out at (omega arith))
 
 -- the bytes of two code units
 pub pair_bytes : (a b : ℕ) → unit_bytes a ++ unit_bytes b ≡ a % 256 ∷ a / 256 % 256 ∷ b % 256 ∷ b / 256 % 256 ∷ []

@@ -46,7 +46,7 @@ fn scalar_8(text: &[u8], at: usize) -> Scalar
     let first = text[at];
     if first < 0x80 {
         return Scalar {
-            code: first as u32,
+            code: u32::from(first),
             next: at + 1,
         };
     }
@@ -63,36 +63,33 @@ fn utf16_len(code: u32) -> usize
     4
 }
 
+// Writes some bytes from `at` on, all of them or none.
+fn put_bytes<const N: usize>(out: &mut [u8], at: usize, bytes: [u8; N]) -> Put
+    requires { 0 < N }
+    ensures { Wrote bytes.entry out.old at result out.new }
+{
+    if out.len() < at || out.len() - at < N {
+        return Put::Full;
+    }
+    out[at..at + N].copy_from_slice(&bytes);
+    Put::Next(at + N)
+}
+
 // Writes a code unit from `at` on, its low byte first, where it fits.
 fn put_unit(out: &mut [u8], at: usize, unit: u32) -> Put
     ensures { Wrote (unit_bytes unit) out.old at result out.new }
 {
-    if out.len() < at {
-        return Put::Full;
-    }
-    if out.len() - at < 2 {
-        return Put::Full;
-    }
-    out[at] = (unit % 256) as u8;
-    out[at + 1] = (unit / 256 % 256) as u8;
-    Put::Next(at + 2)
+    let [low, high, _, _] = unit.to_le_bytes();
+    put_bytes(out, at, [low, high])
 }
 
 // Writes a surrogate pair from `at` on, all of it or nothing.
 fn put_pair(out: &mut [u8], at: usize, lead: u32, trail: u32) -> Put
     ensures { Wrote (unit_bytes lead ++ unit_bytes trail) out.old at result out.new }
 {
-    if out.len() < at {
-        return Put::Full;
-    }
-    if out.len() - at < 4 {
-        return Put::Full;
-    }
-    out[at] = (lead % 256) as u8;
-    out[at + 1] = (lead / 256 % 256) as u8;
-    out[at + 2] = (trail % 256) as u8;
-    out[at + 3] = (trail / 256 % 256) as u8;
-    Put::Next(at + 4)
+    let [low, high, _, _] = lead.to_le_bytes();
+    let [second_low, second_high, _, _] = trail.to_le_bytes();
+    put_bytes(out, at, [low, high, second_low, second_high])
 }
 
 // Writes a scalar value from `at` on, where it fits.
@@ -146,13 +143,7 @@ fn write_16(text: &[u8], out: &mut [u8]) -> usize
 fn encoded_fits_in(text: &[u8], room: usize) -> bool
     ensures { result ≡ leb (length (encode16_text text.now)) room }
 {
-    if text.len() <= room / 2 {
-        return true;
-    }
-    match encoded_len(text, room) {
-        Room::Fits(_) => true,
-        Room::Over => false,
-    }
+    text.len() <= room / 2 || matches!(encoded_len(text, room), Room::Fits(_))
 }
 
 // Encodes UTF-8 to UTF-16LE; the buffer is not touched where the text does not fit.

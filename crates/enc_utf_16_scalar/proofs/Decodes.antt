@@ -8,14 +8,14 @@ use native.Mathlib.Omega.{arith}
 use lib.ListN.{length, get_or, drop, length-drop, length-append, length-map}
 use lib.Seq.{drop-cons, drop-length}
 use lib.Dec.{leb, ltb}
-use mir.Syntax.{w8}
+use mir.Syntax.{w8, w16}
+use Rattle.std.specs.Int.{from_le_bytes}
 use mir.Val.{Fits}
 use borrow.Author.Tests.{le-leb, lt-leb, ltb-true, ltb-false}
 use Rattle.enc_utf_8.specs.Utf8.{Item, scalar, error, replaced, utf8_of}
 use Rattle.enc_utf_8.proofs.Encodes.{utf8_short, len-one, len-two, len-three}
 use Rattle.enc_utf_16.specs.Unit16.{unit_of, is_leading, is_trailing, from_surrogates}
 use Rattle.enc_utf_16.specs.Decode.{unit_alone, unit_after, decode16_from, decode_items, decode_scalars, decode16_text}
-use Rattle.enc_utf_16.specs.Step.{ScalarAtIn}
 use Rattle.enc_utf_16_scalar.specs.Units.{UnitAt, SurrogateAt, first_size, FirstScalar}
 use Rattle.enc_utf_16.proofs.Ends.{drop-two}
 use Rattle.enc_number.proofs.ByteOrder.{le_value-two}
@@ -216,8 +216,8 @@ size-end x y = refl
 -- ---- the scalar value at a place
 
 -- two bytes are a code unit
-pub unit-here : (bytes : List ℕ) (at x y : ℕ) → x ≡ get_or bytes at 0 → y ≡ get_or bytes (at + 1) 0 → UnitAt bytes at (x + y * 256)
-unit-here bytes at x y ex ey = record { is = rw (← ex, ← ey) (sym (le_value-two x y)) }
+pub unit-here : (bytes : List ℕ) (at u : ℕ) → u ≡ from_le_bytes w16 (get_or bytes at 0 ∷ get_or bytes (at + 1) 0 ∷ []) → UnitAt bytes at u
+unit-here bytes at u e = record { is = omega (arith, le_value-two (get_or bytes at 0) (get_or bytes (at + 1) 0)) }
 
 module _ (bytes : List ℕ) (at : ℕ) where
   -- one item of k bytes stands at the place

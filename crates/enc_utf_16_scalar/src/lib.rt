@@ -2,7 +2,7 @@
 // `scalar_16` is for the decoder alone, which knows that its `requires` holds.
 #![tactic(auto)]
 
-ghost use Rattle.std.specs.Prelude.{◌≡◌, ◌+◌, ◌≤◌, ◌<◌, length};
+ghost use Rattle.std.specs.Prelude.{◌+◌, ◌≤◌, ◌<◌, length};
 ghost use Rattle.enc_utf_16_scalar.specs.Units.{UnitAt, SurrogateAt, FirstScalar};
 
 // What an error is replaced by.
@@ -15,19 +15,12 @@ pub struct Scalar {
     pub next: usize,
 }
 
-// A byte as a number that a code unit can be made of.
-fn wide(x: u8) -> u32
-    ensures { (result ≡ x) × (result < 256) }
-{
-    x as u32
-}
-
 // The code unit at a place, its low byte first.
 fn unit(bytes: &[u8], at: usize) -> u32
     requires { at + 2 ≤ length bytes.now }
     ensures { UnitAt bytes.now at result }
 {
-    wide(bytes[at]) + wide(bytes[at + 1]) * 256
+    u32::from(u16::from_le_bytes([bytes[at], bytes[at + 1]]))
 }
 
 // The scalar value that a surrogate at a place begins; U+FFFD for an error.
@@ -50,13 +43,7 @@ fn surrogate(bytes: &[u8], at: usize, lead: u32) -> Scalar
         };
     }
     let trail = unit(bytes, at + 2);
-    if trail < 0xdc00 {
-        return Scalar {
-            code: REPLACEMENT,
-            next: at + 2,
-        };
-    }
-    if trail > 0xdfff {
+    if trail < 0xdc00 || trail > 0xdfff {
         return Scalar {
             code: REPLACEMENT,
             next: at + 2,
@@ -79,10 +66,7 @@ pub fn scalar_16(bytes: &[u8], at: usize) -> Scalar
         };
     }
     let code = unit(bytes, at);
-    if code < 0xd800 {
-        return Scalar { code, next: at + 2 };
-    }
-    if code > 0xdfff {
+    if code < 0xd800 || code > 0xdfff {
         return Scalar { code, next: at + 2 };
     }
     surrogate(bytes, at, code)

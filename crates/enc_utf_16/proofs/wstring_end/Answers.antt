@@ -1,18 +1,19 @@
--- `enc_utf_16::wstring_end` meets its contract. The loop's invariant: the end of all the bytes is the end of those from `at` on. Assumes nothing.
-use borrow.Author.Rules.{rules}
-use mathlib.Core.Path.{refl}
-use Prim.Native.Nat.{◌-◌}
-use Rattle.enc_utf_16.proofs.Ends.{end-here, end-again, end_none}
+-- `enc_utf_16::wstring_end` meets its contract: the first zero pair, or none. Assumes nothing.
+use Rattle.std.proofs.Common.{rules}
+use borrow.Author.Tests.{tests}
+use Rattle.std.proofs.lemmas.Iterator.{YieldsList-from_slice}
+use Rattle.std.proofs.lemmas.Iterator.Search.{position_from_yields_List}
+use Rattle.enc_utf_16.proofs.Ends.{is_zero_pair, end_here, end_none}
 use Rattle.enc_utf_16.proofs.wstring_end.Goals as goal
 
-pub loop-at-init : goal.loop-at-init
-loop-at-init c = (search rules, refl)
+pub returns-in-Some : goal.returns-in-Some
+returns-in-Some c =
+    end_here c.args.bytes.now _ _ c.as_chunks.ensures.front
+    (position_from_yields_List is_zero_pair _ _ _ c.position.ensures.ran (YieldsList-from_slice c.as_chunks.result.0.now cc) (λ x b q k. search (rules, tests)))
+    c.in-Some.n c.in-Some.is
 
-pub returns-then-is_zero : goal.returns-then-is_zero
-returns-then-is_zero c = search end-here
-
-pub loop-at-preserved : goal.loop-at-preserved
-loop-at-preserved c = (search rules, search end-again)
-
-pub returns : goal.returns
-returns c = search end_none
+pub returns-in-None : goal.returns-in-None
+returns-in-None c =
+    end_none c.args.bytes.now _ _ c.as_chunks.ensures.front
+    (position_from_yields_List is_zero_pair _ _ _ c.position.ensures.ran (YieldsList-from_slice c.as_chunks.result.0.now cc) (λ x b q k. search (rules, tests)))
+    c.in-None.is

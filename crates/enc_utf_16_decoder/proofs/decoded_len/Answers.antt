@@ -1,5 +1,4 @@
 -- `enc_utf_16_decoder::decoded_len` meets its contract. The loop's invariant: `used` and the length of the text from `at` on are the length of the whole text. Assumes nothing.
-use Prim.Native.Nat.{◌-◌}
 use native.Mathlib.Omega.{arith}
 use Rattle.enc_utf_8.specs.Utf8.{utf8_of}
 use Rattle.enc_utf_16.specs.Decode.{decode_scalars}

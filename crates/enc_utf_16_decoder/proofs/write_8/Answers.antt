@@ -1,5 +1,4 @@
 -- `enc_utf_16_decoder::write_8` meets its contract. The loop's invariant: what is left, written from `to` on, makes the buffer that the whole text makes. Assumes nothing.
-use Prim.Native.Nat.{◌-◌}
 use native.Mathlib.Omega.{arith}
 use Rattle.enc_utf_8.specs.Utf8.{utf8_of}
 use Rattle.enc_utf_16.specs.Decode.{decode_scalars}

@@ -1,6 +1,5 @@
 -- `enc_utf_16_encoder::encoded_len` meets its contract. The loop's invariant: `used` and the length of the text from `at` on are the length of the whole text. Assumes nothing.
 use borrow.Author.Rules.{rules}
-use Prim.Native.Nat.{◌-◌}
 use native.Mathlib.Omega.{arith}
 use Rattle.enc_utf_8.specs.Utf8.{scalars}
 use Rattle.enc_utf_16.specs.Encode.{utf16_of}

@@ -3,4 +3,4 @@ use Rattle.enc_utf_16_encoder.proofs.Scalars.{scalar-ascii}
 use Rattle.enc_utf_16_encoder.proofs.scalar_8.Goals as goal
 
 pub returns-then-first-lt128 : goal.returns-then-first-lt128
-returns-then-first-lt128 c = search scalar-ascii
+returns-then-first-lt128 c = rw c.from.ensures (search scalar-ascii)

@@ -1,6 +1,5 @@
 -- `enc_utf_16_encoder::write_16` meets its contract. The loop's invariant: what is left, written from `to` on, makes the buffer that the whole text makes. Assumes nothing.
 use borrow.Author.Rules.{rules}
-use Prim.Native.Nat.{◌-◌}
 use native.Mathlib.Omega.{arith}
 use Rattle.enc_utf_8.specs.Utf8.{scalars}
 use Rattle.enc_utf_16.specs.Encode.{utf16_of}
