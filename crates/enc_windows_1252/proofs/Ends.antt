@@ -1,34 +1,36 @@
 -- Laws of the end of a text: the only place that opens `end_from`. Assumes nothing.
-use mathlib.Core.Path.{◌≡◌, sym, ◌∙◌}
+use mathlib.Core.Path.{◌≡◌, sym, ap, ◌∙◌}
 use mathlib.Core.Bool.{Bool, true, false, cond}
 use mathlib.Core.List.{List, [], ◌∷◌}
-use Prim.Native.Nat.{ℕ, suc, ◌+◌, ◌≤◌, ◌<◌}
+use Prim.Native.Nat.{ℕ, zero, suc, ◌+◌, ◌≤◌, ◌<◌}
 use native.Mathlib.Omega.{arith}
-use native.Mathlib.Numerals.{add-one}
-use lib.ListN.{length, get_or, drop, drop_of_length-le}
-use lib.Seq.{drop-cons}
+use lib.ListN.{length, get_or}
 use lib.Dec.{eqb}
 use borrow.Author.Tests.{eq-eqb, ne_eqb}
 use Rattle.enc_utf_8.specs.declared.TextEnd.{TextEnd}
 use Rattle.enc_utf_8.specs.declared.TextEnd.TheVariants.{Terminated, Unterminated}
 use Rattle.enc_windows_1252.specs.Text.{end_from, string_end}
 
--- ---- the end of a text: what is left of the search gives the whole
+-- ---- the end of a text: the place of its first zero
 
-module _ (bytes : List ℕ) (i : ℕ) (inv : string_end bytes ≡ end_from i (drop i bytes)) where
-  turn : i < length bytes → string_end bytes ≡ cond (eqb (get_or bytes i 0) 0) (Terminated i) (end_from (i + 1) (drop (i + 1) bytes))
-  unfolding end_from
-  turn h = inv ∙ rw (drop-cons bytes i 0 h, add-one)
+zero_from : (bytes : List ℕ) (n i : ℕ) → i < length bytes → get_or bytes i 0 ≡ 0 → ((k : ℕ) → k < i → get_or bytes k 0 ≡ 0 → ⊥) → end_from n bytes ≡ Terminated (n + i)
+unfolding end_from
+zero_from [] n i l z m = absurd (omega arith)
+zero_from (b ∷ bs) n zero l z m = rw (eq-eqb b 0 z) (ap Terminated (omega arith))
+zero_from (b ∷ bs) n (suc i) l z m =
+    rw (ne_eqb b 0 (m 0 (omega arith)), zero_from bs (n + 1) i (omega arith) z (λ k h. m (suc k) (omega arith))) (ap Terminated (omega arith))
 
-  pub end-here : i < length bytes → get_or bytes i 0 ≡ 0 → Terminated i ≡ string_end bytes
-  end-here h e = sym (turn h ∙ rw (eq-eqb (get_or bytes i 0) 0 e))
+no_zero-from : (bytes : List ℕ) (n : ℕ) → ((k : ℕ) → k < length bytes → get_or bytes k 0 ≡ 0 → ⊥) → end_from n bytes ≡ Unterminated (n + length bytes)
+unfolding end_from
+no_zero-from [] n m = ap Unterminated (omega arith)
+no_zero-from (b ∷ bs) n m =
+    rw (ne_eqb b 0 (m 0 (omega arith)), no_zero-from bs (n + 1) (λ k h. m (suc k) (omega arith))) (ap Unterminated (omega arith))
 
-  pub end-again : i < length bytes → (get_or bytes i 0 ≡ 0 → ⊥) → string_end bytes ≡ end_from (i + 1) (drop (i + 1) bytes)
-  end-again h n = turn h ∙ rw (ne_eqb (get_or bytes i 0) 0 n)
+pub first_zero : (bytes : List ℕ) (i : ℕ) → i < length bytes → get_or bytes i 0 ≡ 0 → ((k : ℕ) → k < i → get_or bytes k 0 ≡ 0 → ⊥) → Terminated i ≡ string_end bytes
+first_zero bytes i l z m = sym (zero_from bytes 0 i l z m ∙ ap Terminated (omega arith))
 
-  pub end_none : length bytes ≤ i → Unterminated i ≡ string_end bytes
-  unfolding end_from
-  end_none h = sym (inv ∙ rw (drop_of_length-le bytes h))
+pub no_zero : (bytes : List ℕ) → ((k : ℕ) → k < length bytes → get_or bytes k 0 ≡ 0 → ⊥) → Unterminated (length bytes) ≡ string_end bytes
+no_zero bytes m = sym (no_zero-from bytes 0 m ∙ ap Unterminated (omega arith))
 
 -- ---- where a text ends
 

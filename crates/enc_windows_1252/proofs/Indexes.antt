@@ -2,12 +2,12 @@
 use mathlib.Core.Path.{◌≡◌, refl, sym, ap, ◌∙◌}
 use mathlib.Core.Bool.{Bool, true, false, cond}
 use mathlib.Core.List.{List}
-use Prim.Native.Nat.{ℕ, zero, suc, ◌+◌, ◌-◌, ◌/◌, ◌%◌, ◌≤◌, ◌<◌}
+use Prim.Native.Nat.{ℕ, zero, suc, ◌+◌, ◌-◌, ◌≤◌, ◌<◌}
 use native.Mathlib.Nat.{add-zero, zero-add, suc-add}
 use native.Mathlib.Omega.{arith}
 use lib.ListN.{get_or}
 use lib.Dec.{ltb, eqb}
-use borrow.Author.Tests.{le-ltb, lt-ltb, le-leb, lt-leb, eq-eqb, ne_eqb, eqb-true, ltb-true, ltb-false}
+use borrow.Author.Tests.{le-ltb, le-leb, lt-leb, eq-eqb, ne_eqb, eqb-true, ltb-true}
 use Rattle.enc_windows_1252.specs.declared.Byte.{Byte}
 use Rattle.enc_windows_1252.specs.declared.Byte.TheVariants.{Is, None}
 use Rattle.enc_windows_1252.specs.Index.{listed_points, code_point, code_points, first_from, byte_of}
@@ -29,38 +29,6 @@ unfolding code_point
 own-high b h =
     let l : 0x80 ≤ b = omega arith in
     rw (le-leb 0x80 b l, le-ltb b 0xa0 h)
-
--- the bytes 80h to 9Fh, and all others
-pub point_listed : (b p : ℕ) → b / 32 ≡ 4 → p ≡ get_or listed_points (b % 32) 0 → p ≡ code_point b
-unfolding code_point
-point_listed b p e q =
-    let l : 0x80 ≤ b = omega arith in
-    let u : b < 0xa0 = omega arith in
-    let d : b - 0x80 ≡ b % 32 = omega arith in
-    rw (le-leb 0x80 b l, lt-ltb b 0xa0 u, d) q
-
-pub point_own : (b : ℕ) → (b / 32 ≡ 4 → ⊥) → b ≡ code_point b
-point_own b n = by (ltb b 0x80) refl
-  where
-    by : (t : Bool) → ltb b 0x80 ≡ t → b ≡ code_point b
-    by true t = sym (own-low b (ltb-true b 0x80 t))
-    by false t = let l : 0x80 ≤ b = ltb-false b 0x80 t in sym (own-high b (omega (arith, n)))
-
--- an arm of the `match` has the k-th listed code point
-pub arm_is : (j k p : ℕ) → j ≡ k → p ≡ get_or listed_points k 0 → p ≡ get_or listed_points j 0
-arm_is j k p e q = rw e q
-
--- what its last arm knows: j is none of the n first numbers
-abbrev pub NoneOf : ℕ → ℕ → Type 0
-NoneOf zero j = Unit {0}
-NoneOf (suc n) j = NoneOf n j × (j ≡ n → ⊥)
-
-past : (n j : ℕ) → NoneOf n j → n ≤ j
-past zero j q = omega arith
-past (suc n) j q = omega (arith, past n j q.0, q.1)
-
-pub last_arm : (b p : ℕ) → NoneOf 31 (b % 32) → p ≡ get_or listed_points 31 0 → p ≡ get_or listed_points (b % 32) 0
-last_arm b p q e = arm_is (b % 32) 31 p (omega (arith, past 31 (b % 32) q)) e
 
 -- ---- the byte of a code point: the inverse
 

@@ -8,12 +8,8 @@ use enc_utf_8::TextEnd;
 pub fn string_end(bytes: &[u8]) -> TextEnd
     ensures { result ≡ string_end bytes.now }
 {
-    let mut i = 0;
-    while i < bytes.len() {
-        if bytes[i] == 0 {
-            return TextEnd::Terminated(i);
-        }
-        i += 1;
+    match bytes.iter().position(|&byte| byte == 0) {
+        Some(end) => TextEnd::Terminated(end),
+        None => TextEnd::Unterminated(bytes.len()),
     }
-    TextEnd::Unterminated(i)
 }

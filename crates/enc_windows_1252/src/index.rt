@@ -5,6 +5,7 @@ ghost use Rattle.enc_windows_1252.specs.Index.{listed_points, code_point, code_p
 use crate::{Byte, data};
 
 // The table of code points. Whoever reads more than one of them takes it once.
+#[tactic(auto, unfolding(crate::specs::Index::listed_points, crate::specs::Index::code_point, crate::specs::Index::code_points))]
 pub fn code_points() -> [u32; 256]
     ensures { result ≡ code_points }
 {
@@ -20,6 +21,7 @@ fn entry(points: &[u32; 256], byte: u8) -> u32
 }
 
 // The code points of 80h to 9Fh, by the byte's five lowest bits. LLVM keeps such a `match` in the program's read-only data.
+#[tactic(auto, unfolding(crate::specs::Index::listed_points))]
 fn listed_point(byte: u8) -> u32
     ensures { result ≡ get_or listed_points (byte % 32) 0 }
 {
@@ -60,6 +62,7 @@ fn listed_point(byte: u8) -> u32
 }
 
 // The code point of a byte: its own number, except 80h to 9Fh.
+#[tactic(auto, unfolding(crate::specs::Index::code_point))]
 pub fn code_point(byte: u8) -> u32
     ensures { result ≡ code_point byte }
 {
@@ -75,12 +78,10 @@ fn listed_byte(code: u32) -> Byte
     ensures { result ≡ first_from code 0x80 0x20 }
 {
     let points = code_points();
-    let mut byte: u8 = 0x80;
-    while byte < 0xa0 {
+    for byte in 0x80..0xa0 {
         if entry(&points, byte) == code {
             return Byte::Is(byte);
         }
-        byte += 1;
     }
     Byte::None
 }
@@ -89,14 +90,8 @@ fn listed_byte(code: u32) -> Byte
 pub fn byte_of(code: u32) -> Byte
     ensures { result ≡ byte_of code }
 {
-    if code < 0x80 {
-        return Byte::Is(code as u8);
+    match code {
+        0x00..=0x7f | 0xa0..=0xff => Byte::Is(code as u8),
+        _ => listed_byte(code),
     }
-    if code < 0xa0 {
-        return listed_byte(code);
-    }
-    if code < 0x100 {
-        return Byte::Is(code as u8);
-    }
-    listed_byte(code)
 }
