@@ -1,14 +1,15 @@
 -- A list of bytes from the front: its sum, and a test of every byte. Each loop keeps: the whole is what is left. Assumes nothing.
 use mathlib.Core.Path.{◌≡◌, refl, sym, ◌∙◌}
 use mathlib.Core.Bool.{Bool, true, false, cond, ◌&&◌}
-use mathlib.Core.List.{List}
-use Prim.Native.Nat.{ℕ, suc, ◌+◌, ◌≤◌, ◌<◌}
+use mathlib.Core.List.{List, [], ◌∷◌}
+use Prim.Native.Nat.{ℕ, suc, ◌+◌, ◌≤◌, ◌<◌, max}
 use native.Mathlib.Omega.{arith}
 use native.Mathlib.Numerals.{add-one}
 use lib.ListN.{length, get_or, drop, drop_of_length-le}
 use lib.Seq.{drop-cons}
 use lib.Dec.{eqb, ltb}
 use borrow.Author.Tests.{not-true, not-false, ltb-true, ltb-false, eqb-true, eqb-false, lt-ltb, le-ltb, le-leb, lt-leb, eq-eqb, ne_eqb}
+use Rattle.std.specs.List.{list_all}
 use Rattle.type_block_form.specs.Form.{sum_of, every, is_zero}
 
 -- what a call said of a test, and how the test went
@@ -48,22 +49,30 @@ module _ (p : ℕ → Bool) (xs : List ℕ) (i : ℕ) (inv : every p xs ≡ ever
   unfolding every
   every-end l = sym (inv ∙ rw (drop_of_length-le xs l))
 
+-- the same test by the library's word
+pub every_all : (p : ℕ → Bool) (xs : List ℕ) → list_all p xs ≡ every p xs
+unfolding every
+every_all p [] = refl
+every_all p (x ∷ xs) = rw (every_all p xs)
+
 -- ---- the loop of `all_zero`: all is 0 where the highest byte so far and what is left are
 
+and_assoc : (a b c : Bool) → a && (b && c) ≡ (a && b) && c
+and_assoc true b c = refl
+and_assoc false b c = refl
+
+max_zero : (a b : ℕ) → eqb (max a b) 0 ≡ eqb a 0 && eqb b 0
+max_zero a b = by (eqb a 0) (eqb b 0) refl refl
+  where
+    by : (s t : Bool) → eqb a 0 ≡ s → eqb b 0 ≡ t → eqb (max a b) 0 ≡ s && t
+    by true true p q = eq-eqb (max a b) 0 (omega (arith, eqb-true a 0 p, eqb-true b 0 q))
+    by true false p q = ne_eqb (max a b) 0 (λ e. eqb-false b 0 q (omega arith))
+    by false t p q = ne_eqb (max a b) 0 (λ e. eqb-false a 0 p (omega arith))
+
 module _ (xs : List ℕ) (i highest : ℕ) (inv : every is_zero xs ≡ eqb highest 0 && every is_zero (drop i xs)) where
-  pub zero-again : (n : ℕ) → i < length xs → n ≡ cond (ltb highest (get_or xs i 0)) (get_or xs i 0) highest → every is_zero xs ≡ eqb n 0 && every is_zero (drop (i + 1) xs)
+  pub zero-again : (n : ℕ) → i < length xs → n ≡ max highest (get_or xs i 0) → every is_zero xs ≡ eqb n 0 && every is_zero (drop (i + 1) xs)
   unfolding every
-  zero-again n l e = inv ∙ rw (add-one, drop-cons xs i 0 l) (by (ltb highest (get_or xs i 0)) (eqb highest 0) (eqb (get_or xs i 0) 0) refl refl refl e)
-    where
-      by : (o s t : Bool) → ltb highest (get_or xs i 0) ≡ o → eqb highest 0 ≡ s → eqb (get_or xs i 0) 0 ≡ t → n ≡ cond o (get_or xs i 0) highest
-          → s && (t && every is_zero (drop (suc i) xs)) ≡ eqb n 0 && every is_zero (drop (suc i) xs)
-      by true true true o p q h = rw (h, q)
-      by true true false o p q h = rw (h, q)
-      by true false true o p q h = absurd (omega (arith, ltb-true highest (get_or xs i 0) o, eqb-true (get_or xs i 0) 0 q))
-      by true false false o p q h = rw (h, q)
-      by false true true o p q h = rw (h, p)
-      by false true false o p q h = absurd (omega (arith, ltb-false highest (get_or xs i 0) o, eqb-true highest 0 p, eqb-false (get_or xs i 0) 0 q))
-      by false false t o p q h = rw (h, p)
+  zero-again n l e = inv ∙ rw (add-one, drop-cons xs i 0 l, e, max_zero highest (get_or xs i 0)) (and_assoc (eqb highest 0) (eqb (get_or xs i 0) 0) (every is_zero (drop (suc i) xs)))
 
   pub zero-end : length xs ≤ i → eqb highest 0 ≡ every is_zero xs
   unfolding every

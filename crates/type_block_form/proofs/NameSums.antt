@@ -9,8 +9,7 @@ use lib.Seq.{length-take-le, take-take, take-add, drop-drop}
 use lib.Dec.{eqb}
 use borrow.Author.Tests.{eqb-true, eqb-false, eq-eqb, ne_eqb, le-leb, lt-leb}
 use Rattle.enc_number.specs.Le.{le_value}
-use Rattle.type_block_form.specs.declared.NameSum.{NameSum}
-use Rattle.type_block_form.specs.declared.NameSum.TheVariants.{Of, Wrong}
+use Rattle.std.specs.Prelude.{Option, Some, None}
 use Rattle.type_block_form.specs.Form.{sum_of, sum_right, every, is_zero, is_printable, part, unused_zero, name_form, names_form}
 use Rattle.type_block_form.specs.Names.{name_sum_of}
 use Rattle.type_block_form.proofs.Bytes.{every-stop, every-end, sum-again, sum-end}
@@ -19,46 +18,46 @@ use Rattle.type_block_form.proofs.Sums.{sum_append}
 -- ---- the loop of `name_sum`
 
 module _ (name : List ℕ) (i total : ℕ) (e : every is_printable name ≡ every is_printable (drop i name)) where
-  pub name-stop : i < length name → is_printable (get_or name i 0) ≡ false → Wrong ≡ name_sum_of name
+  pub name-stop : i < length name → is_printable (get_or name i 0) ≡ false → None ≡ name_sum_of name
   unfolding name_sum_of
   name-stop l p = rw (← every-stop is_printable name i e l p)
 
   pub name-again : sum_of name ≡ total + sum_of (drop i name) → i < length name → (v : ℕ) → v ≡ get_or name i 0 → sum_of name ≡ total + v + sum_of (drop (i + 1) name)
   name-again s l v ev = rw ev (sum-again name i total s l)
 
-  pub name-end : sum_of name ≡ total + sum_of (drop i name) → length name ≤ i → Of total ≡ name_sum_of name
+  pub name-end : sum_of name ≡ total + sum_of (drop i name) → length name ≤ i → Some total ≡ name_sum_of name
   unfolding name_sum_of
   name-end s l = rw (← every-end is_printable name i e l, ← sum-end name i total s l)
 
 -- ---- what the answer says of a name
 
-sum_in : NameSum → ℕ
-sum_in (Of n) = n
-sum_in Wrong = 0
+sum_in : Option ℕ → ℕ
+sum_in (Some n) = n
+sum_in None = 0
 
 -- one of its bytes may not stand in a name
-said-wrong : (name : List ℕ) → name_sum_of name ≡ Wrong → every is_printable name ≡ false
+said-wrong : (name : List ℕ) → name_sum_of name ≡ None → every is_printable name ≡ false
 unfolding name_sum_of
 said-wrong name q = by (every is_printable name) q
   where
-    by : (t : Bool) → cond t (Of (sum_of name)) Wrong ≡ Wrong → t ≡ false
+    by : (t : Bool) → cond t (Some (sum_of name)) None ≡ None → t ≡ false
     by true z = cc
     by false z = refl
 
 -- all of them may
-said_letters : (name : List ℕ) (n : ℕ) → name_sum_of name ≡ Of n → every is_printable name ≡ true
+said_letters : (name : List ℕ) (n : ℕ) → name_sum_of name ≡ Some n → every is_printable name ≡ true
 unfolding name_sum_of
 said_letters name n q = by (every is_printable name) q
   where
-    by : (t : Bool) → cond t (Of (sum_of name)) Wrong ≡ Of n → t ≡ true
+    by : (t : Bool) → cond t (Some (sum_of name)) None ≡ Some n → t ≡ true
     by true z = refl
     by false z = cc
 
 -- and their sum is the one that is said
-said-sum : (name : List ℕ) (n : ℕ) → name_sum_of name ≡ Of n → n ≡ sum_of name
+said-sum : (name : List ℕ) (n : ℕ) → name_sum_of name ≡ Some n → n ≡ sum_of name
 unfolding name_sum_of sum_in
 said-sum name n q =
-    let z : name_sum_of name ≡ Of (sum_of name) = rw (said_letters name n q) in
+    let z : name_sum_of name ≡ Some (sum_of name) = rw (said_letters name n q) in
     ap sum_in (sym q ∙ z)
 
 -- ---- bytes that add up to nothing
@@ -116,12 +115,12 @@ module _ (b : List ℕ) (h : length b ≡ 512) where
     unfolding names_form
     name-long l = rw (← en, form_long n (part 54 254 b) (room 54 (omega arith)) l)
 
-    module _ (l : n ≤ 200) (r : NameSum) (er : r ≡ name_sum_of (take (54 + n - 54) (drop 54 b))) where
-      pub name-wrong : r ≡ Wrong → false ≡ names_form b
+    module _ (l : n ≤ 200) (r : Option ℕ) (er : r ≡ name_sum_of (take (54 + n - 54) (drop 54 b))) where
+      pub name-wrong : r ≡ None → false ≡ names_form b
       unfolding names_form
       name-wrong q = rw (← en, form_wrong n (part 54 254 b) (room 54 (omega arith)) (said-wrong _ (ap name_sum_of (sym (name-cut 54 n l)) ∙ sym er ∙ q)))
 
-      module _ (a : ℕ) (q : r ≡ Of a) (t : ℕ) (et : t ≡ get_or b 53 0) where
+      module _ (a : ℕ) (q : r ≡ Some a) (t : ℕ) (et : t ≡ get_or b 53 0) where
         first : name_form n (part 54 254 b) ≡ eqb (sum_of (drop n (part 54 254 b))) 0
         first = form_right n (part 54 254 b) (room 54 (omega arith)) l (said_letters _ a (ap name_sum_of (sym (name-cut 54 n l)) ∙ sym er ∙ q))
 
@@ -129,12 +128,12 @@ module _ (b : List ℕ) (h : length b ≡ 512) where
         unfolding names_form
         type-name-long k = rw (← en, ← et, form_long t (part 254 454 b) (room 254 (omega arith)) k) (sym (and_no (name_form n (part 54 254 b))))
 
-        module _ (k : t ≤ 200) (u : NameSum) (eu : u ≡ name_sum_of (take (254 + t - 254) (drop 254 b))) where
-          pub type-name-wrong : u ≡ Wrong → false ≡ names_form b
+        module _ (k : t ≤ 200) (u : Option ℕ) (eu : u ≡ name_sum_of (take (254 + t - 254) (drop 254 b))) where
+          pub type-name-wrong : u ≡ None → false ≡ names_form b
           unfolding names_form
           type-name-wrong p = rw (← en, ← et, form_wrong t (part 254 454 b) (room 254 (omega arith)) (said-wrong _ (ap name_sum_of (sym (name-cut 254 t k)) ∙ sym eu ∙ p))) (sym (and_no (name_form n (part 54 254 b))))
 
-          module _ (c : ℕ) (p : u ≡ Of c) (right : sum_right b ≡ true) (s f : ℕ) (es : s ≡ le_value (take 4 (take 4 (drop 508 b)))) (ef : f ≡ sum_of (take 54 b)) where
+          module _ (c : ℕ) (p : u ≡ Some c) (right : sum_right b ≡ true) (s f : ℕ) (es : s ≡ le_value (take 4 (take 4 (drop 508 b)))) (ef : f ≡ sum_of (take 54 b)) where
             second : name_form t (part 254 454 b) ≡ eqb (sum_of (drop t (part 254 454 b))) 0
             second = form_right t (part 254 454 b) (room 254 (omega arith)) k (said_letters _ c (ap name_sum_of (sym (name-cut 254 t k)) ∙ sym eu ∙ p))
 

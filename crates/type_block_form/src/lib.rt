@@ -6,14 +6,7 @@ ghost use Rattle.std.specs.Prelude.{◌≡◌, true, ◌≤◌, ◌<◌, length}
 ghost use Rattle.type_block_form.specs.Form.{sum_of, sum_right, every, is_zero, is_printable, unused_zero, names_form, flags_form, type_form, field_form, entry_form};
 ghost use Rattle.type_block_form.specs.Names.{name_sum_of};
 
-use enc_ascii::higher;
 use enc_number::le::le_u32;
-
-fn wide(x: u8) -> usize
-    ensures { (result ≡ x) × (result < 256) }
-{
-    x as usize
-}
 
 // ---- its sum
 
@@ -23,10 +16,8 @@ fn sum(part: &[u8]) -> u32
     ensures { (result ≡ sum_of part.now) × (result < 65536) }
 {
     let mut total: u16 = 0;
-    let mut i = 0;
-    while i < part.len() {
-        total += part[i] as u16;
-        i += 1;
+    for byte in part {
+        total += *byte as u16;
     }
     total as u32
 }
@@ -46,10 +37,8 @@ fn all_zero(part: &[u8]) -> bool
     ensures { result ≡ every is_zero part.now }
 {
     let mut highest: u8 = 0;
-    let mut i = 0;
-    while i < part.len() {
-        highest = higher(highest, part[i]);
-        i += 1;
+    for byte in part {
+        highest = highest.max(*byte);
     }
     highest == 0
 }
@@ -57,58 +46,37 @@ fn all_zero(part: &[u8]) -> bool
 fn is_printable(byte: u8) -> bool
     ensures { result ≡ is_printable byte }
 {
-    if byte < 32 {
-        return false;
-    }
-    byte <= 126
+    matches!(byte, 32..=126)
 }
 
 // Whether every byte may stand in a name.
 pub fn all_printable(part: &[u8]) -> bool
     ensures { result ≡ every is_printable part.now }
 {
-    let mut i = 0;
-    while i < part.len() {
-        if !is_printable(part[i]) {
-            return false;
-        }
-        i += 1;
-    }
-    true
+    part.iter().all(|byte| is_printable(*byte))
 }
 
 // The first `used` bytes of a part are free, and the others are 0.
+#[tactic(auto, unfolding(crate::specs::Form::unused_zero))]
 fn unused_zero(part: &[u8], used: usize) -> bool
     ensures { result ≡ unused_zero used part.now }
 {
-    if used > part.len() {
-        return false;
-    }
-    all_zero(&part[used..])
+    used <= part.len() && all_zero(&part[used..])
 }
 
-// What the bytes of a name add up to, if each of them may stand in a name.
-#[derive(Clone, Copy)]
-enum NameSum {
-    Of(usize),
-    Wrong,
-}
-
-// The bytes of a name are tested and added up in one pass.
-fn name_sum(name: &[u8]) -> NameSum
+// What the bytes of a name add up to, if each of them may stand in a name: they are tested and added up in one pass.
+fn name_sum(name: &[u8]) -> Option<usize>
     requires { length name.now ≤ 200 }
     ensures { result ≡ name_sum_of name.now }
 {
     let mut total = 0;
-    let mut i = 0;
-    while i < name.len() {
-        if !is_printable(name[i]) {
-            return NameSum::Wrong;
+    for byte in name {
+        if !is_printable(*byte) {
+            return None;
         }
-        total += wide(name[i]);
-        i += 1;
+        total += *byte as usize;
     }
-    NameSum::Of(total)
+    Some(total)
 }
 
 // Bytes 52 to 507, which the three kinds share, of a block that holds its sum: what the head and the two names leave of the sum is 0, so
@@ -117,89 +85,61 @@ fn names_form(block: &[u8]) -> bool
     requires { (length block.now ≡ 512) × (sum_right block.now ≡ true) }
     ensures { result ≡ names_form block.now }
 {
-    let n = wide(block[52]);
+    let n = block[52] as usize;
     if n > 200 {
         return false;
     }
-    let NameSum::Of(of_name) = name_sum(&block[54..54 + n]) else {
+    let Some(of_name) = name_sum(&block[54..54 + n]) else {
         return false;
     };
-    let t = wide(block[53]);
+    let t = block[53] as usize;
     if t > 200 {
         return false;
     }
-    let NameSum::Of(of_type_name) = name_sum(&block[254..254 + t]) else {
+    let Some(of_type_name) = name_sum(&block[254..254 + t]) else {
         return false;
     };
     le_u32(&block[508..512]) as usize == sum(&block[..54]) as usize + of_name + of_type_name
 }
 
 // The flags of a type block: five bits, and a sixth that marks a STRING (id 30) as UTF-8.
+#[tactic(auto, unfolding(crate::specs::Form::flags_form))]
 fn flags_form(flags: u8, id: u32) -> bool
     ensures { result ≡ flags_form flags id }
 {
-    if id == 30 {
-        return flags < 64;
-    }
-    flags < 32
+    if id == 30 { flags < 64 } else { flags < 32 }
 }
 
+#[tactic(auto, unfolding(crate::specs::Form::type_form))]
 pub fn type_form(block: &[u8]) -> bool
     requires { (length block.now ≡ 512) × (sum_right block.now ≡ true) }
     ensures { result ≡ type_form block.now }
 {
-    if block[0] != 1 {
-        return false;
-    }
-    if !flags_form(block[1], le_u32(&block[4..8])) {
-        return false;
-    }
-    if block[2] > 8 {
-        return false;
-    }
-    if block[3] != 0 {
-        return false;
-    }
-    if !unused_zero(&block[20..52], wide(block[2]) * 4) {
-        return false;
-    }
-    names_form(block)
+    block[0] == 1
+        && flags_form(block[1], le_u32(&block[4..8]))
+        && block[2] <= 8
+        && block[3] == 0
+        && unused_zero(&block[20..52], block[2] as usize * 4)
+        && names_form(block)
 }
 
+#[tactic(auto, unfolding(crate::specs::Form::field_form))]
 pub fn field_form(block: &[u8]) -> bool
     requires { (length block.now ≡ 512) × (sum_right block.now ≡ true) }
     ensures { result ≡ field_form block.now }
 {
-    if block[0] != 2 {
-        return false;
-    }
-    if !all_zero(&block[1..4]) {
-        return false;
-    }
-    if !all_zero(&block[12..52]) {
-        return false;
-    }
-    names_form(block)
+    block[0] == 2 && all_zero(&block[1..4]) && all_zero(&block[12..52]) && names_form(block)
 }
 
+#[tactic(auto, unfolding(crate::specs::Form::entry_form))]
 pub fn entry_form(block: &[u8]) -> bool
     requires { (length block.now ≡ 512) × (sum_right block.now ≡ true) }
     ensures { result ≡ entry_form block.now }
 {
-    if block[0] != 3 {
-        return false;
-    }
-    if block[1] > 8 {
-        return false;
-    }
-    if !all_zero(&block[2..20]) {
-        return false;
-    }
-    if !unused_zero(&block[20..52], wide(block[1])) {
-        return false;
-    }
-    if block[53] != 0 {
-        return false;
-    }
-    names_form(block)
+    block[0] == 3
+        && block[1] <= 8
+        && all_zero(&block[2..20])
+        && unused_zero(&block[20..52], block[1] as usize)
+        && block[53] == 0
+        && names_form(block)
 }

@@ -1,14 +1,13 @@
 -- Names compared byte by byte. Assumes nothing.
-use mathlib.Core.Path.{◌≡◌, refl, sym, ap, ◌∙◌}
+use mathlib.Core.Path.{◌≡◌, refl, sym, ap}
 use mathlib.Core.Bool.{Bool, true, false, ◌&&◌}
 use mathlib.Core.List.{List, [], ◌∷◌}
-use Prim.Native.Nat.{ℕ, ◌+◌, ◌≤◌, ◌<◌}
+use Prim.Native.Nat.{ℕ}
 use native.Mathlib.Omega.{arith}
-use native.Mathlib.Numerals.{add-one}
-use lib.ListN.{length, get_or, drop, drop_of_length-le}
-use lib.Seq.{drop-cons}
+use lib.ListN.{length}
 use lib.Dec.{eqb}
-use borrow.Author.Tests.{eq-eqb, ne_eqb, eqb-true}
+use lib.Pointwise.{pointwise}
+use borrow.Author.Tests.{eq-eqb, eqb-true}
 use Rattle.type_book.specs.Book.{same_name}
 
 pub same_refl : (a : List ℕ) → same_name a a ≡ true
@@ -30,7 +29,13 @@ same_eq (x ∷ xs) (y ∷ ys) h = both (eqb x y) refl (same_eq xs ys) h
 pub eq_same : (a b : List ℕ) → a ≡ b → same_name a b ≡ true
 eq_same a b e = rw e (same_refl b)
 
--- ---- the loop of `same_bytes`
+-- the names as `==` compares them
+pub compared : (a b : List ℕ) → pointwise eqb a b ≡ same_name a b
+unfolding same_name
+compared [] [] = refl
+compared [] (y ∷ ys) = refl
+compared (x ∷ xs) [] = refl
+compared (x ∷ xs) (y ∷ ys) = ap (λ t. eqb x y && t) (compared xs ys)
 
 -- other bytes are another name
 pub other_name : (a b : List ℕ) → (a ≡ b → ⊥) → false ≡ same_name a b
@@ -42,20 +47,3 @@ other_name a b n = by (same_name a b) refl
 
 pub same-lengths : (a b : List ℕ) → (length a ≡ length b → ⊥) → false ≡ same_name a b
 same-lengths a b n = other_name a b (λ e. n (ap length e))
-
-module _ (a b : List ℕ) (i : ℕ) (inv : same_name a b ≡ same_name (drop i a) (drop i b)) where
-  turn : i < length a → i < length b → same_name a b ≡ eqb (get_or a i 0) (get_or b i 0) && same_name (drop (i + 1) a) (drop (i + 1) b)
-  unfolding same_name
-  turn ha hb = inv ∙ rw (add-one, drop-cons a i 0 ha, drop-cons b i 0 hb)
-
-  pub same_differ : i < length a → length a ≡ length b → (get_or a i 0 ≡ get_or b i 0 → ⊥) → false ≡ same_name a b
-  same_differ ha e n = sym (turn ha (omega arith) ∙ rw (ne_eqb (get_or a i 0) (get_or b i 0) n))
-
-  pub same-again : i < length a → length a ≡ length b → get_or a i 0 ≡ get_or b i 0 → same_name a b ≡ same_name (drop (i + 1) a) (drop (i + 1) b)
-  same-again ha e q = turn ha (omega arith) ∙ rw (eq-eqb (get_or a i 0) (get_or b i 0) q)
-
-  pub same_end : length a ≤ i → length a ≡ length b → true ≡ same_name a b
-  unfolding same_name
-  same_end ha e =
-      let hb : length b ≤ i = omega arith in
-      sym (inv ∙ rw (drop_of_length-le a ha, drop_of_length-le b hb))

@@ -4,7 +4,7 @@ ghost use Rattle.std.specs.Prelude.{◌≡◌, ◌+◌, ◌*◌, ◌/◌, ◌%�
 ghost use Rattle.type_id.specs.TypeId.{id_of};
 ghost use Rattle.type_book.specs.Book.{blocks as blocks_of, byte_at, u32_at, kind_of, is_type, flag_of, dimensions_of, type_id_of, offset_of, size_of, fields_of, entries_of, count_of, value_of, name_of, type_name_of, same_name};
 
-use enc_number::le::{le_u32, le_value};
+use enc_number::le::le_u32;
 use type_id::AdsTypeId;
 
 pub const BLOCK: usize = 512;
@@ -20,10 +20,7 @@ pub fn blocks(book: &[u8]) -> usize
 fn after(s: &[u8], k: usize) -> &[u8]
     ensures { result.now ≡ drop k s.now }
 {
-    if k <= s.len() {
-        return &s[k..];
-    }
-    &s[s.len()..]
+    &s[k.min(s.len())..]
 }
 
 // The book from byte k of block n on: in two steps, since k may be any number and the sum could wrap.
@@ -37,11 +34,10 @@ fn tail(book: &[u8], n: u32, k: usize) -> &[u8]
 pub fn byte_at(book: &[u8], n: u32, k: usize) -> u8
     ensures { result ≡ byte_at book.now n k }
 {
-    let part = tail(book, n, k);
-    if part.len() > 0 {
-        return part[0];
+    match tail(book, n, k) {
+        [byte, ..] => *byte,
+        [] => 0,
     }
-    0
 }
 
 // The little-endian number in four bytes, from byte k of block n on.
@@ -57,10 +53,7 @@ fn counted(book: &[u8], n: u32, c: usize, k: usize) -> &[u8]
 {
     let len = byte_at(book, n, c) as usize;
     let rest = tail(book, n, k);
-    if len <= rest.len() {
-        return &rest[0..len];
-    }
-    rest
+    &rest[..len.min(rest.len())]
 }
 
 // Whether a bit of a type's byte 1 is set, by the bit's value.
@@ -188,49 +181,9 @@ pub fn type_name(book: &[u8], n: u32) -> &[u8]
     counted(book, n, 53, 254)
 }
 
-// Whether two short names of one length are the same bytes.
-fn same_bytes(a: &[u8], b: &[u8]) -> bool
-    requires { length a.now ≡ length b.now }
-    ensures { result ≡ same_name a.now b.now }
-{
-    let mut i = 0;
-    while i < a.len() {
-        if a[i] != b[i] {
-            return false;
-        }
-        i += 1;
-    }
-    true
-}
-
-// Whether the eight bytes from place i on are the same, compared as one number. The parts have eight bytes and no more, so that each is one
-// load.
-fn same_word(a: &[u8], b: &[u8], i: usize) -> bool
-    requires { (i + 8 ≤ length a.now) × (i + 8 ≤ length b.now) }
-    ensures { result ≡ same_name (take 8 (drop i a.now)) (take 8 (drop i b.now)) }
-{
-    le_value(&a[i..i + 8]) == le_value(&b[i..i + 8])
-}
-
-// Whether two names are the same bytes. Longer ones are compared by eight bytes; the last eight may overlap those before.
+// Whether two names are the same bytes.
 pub fn same_name(a: &[u8], b: &[u8]) -> bool
     ensures { result ≡ same_name a.now b.now }
 {
-    let n = a.len();
-    if n != b.len() {
-        return false;
-    }
-    if n < 8 {
-        return same_bytes(a, b);
-    }
-    let last = n - 8;
-    let mut i = 0;
-    while i < last {
-        if same_word(a, b, i) {
-            i += 8;
-        } else {
-            return false;
-        }
-    }
-    same_word(a, b, last)
+    a == b
 }

@@ -17,18 +17,6 @@ use Rattle.type_marks.specs.Marks.{mixed_of, folded_of, joined_of, with_parts, h
 
 -- ---- the hash of a name
 
-pub folded_is : (x : ℕ) → bit_xor x (x / 4294967296) % 4294967296 ≡ folded_of x
-unfolding folded_of
-folded_is x = refl
-
-pub mixed_is : (x : ℕ) → bit_xor (x % 4294967296 * 2654435761) (x / 4294967296 * 2246822519) ≡ mixed_of x
-unfolding mixed_of
-mixed_is x = refl
-
-pub joined_is : (h : ℕ) (part : List ℕ) (v : ℕ) → v ≡ le_value (take 8 part) → (m : ℕ) → m ≡ mixed_of (bit_xor h v) → m ≡ joined_of h part
-unfolding joined_of
-joined_is h part v ev m em = em ∙ rw ev
-
 -- a part of w bytes, as the code cuts it: more than eight are not joined
 cut : (h w : ℕ) (part : List ℕ) → 8 ≤ w → joined_of h (take w part) ≡ joined_of h part
 unfolding joined_of
@@ -101,10 +89,6 @@ module _ (marks : List ℕ) (s : ℕ) where
   unfolding bit_of
   bit_is = refl
 
-  pub bit_past : length marks ≤ s / 32 → false ≡ bit_of marks s
-  unfolding bit_of
-  bit_past l = sym (rw (get_or-eq_default marks 0 l, zero-div (2 ^ (s % 32))))
-
 module _ (marks : List ℕ) (s : ℕ) (l : s / 32 < length marks) where
   word : ℕ
   word = bit_or (get_or marks (s / 32) 0) (2 ^ (s % 32))
@@ -146,39 +130,9 @@ module _ (n part : ℕ) (a : part < 1048576) (b : 0 < n) where
   product : part * n ≤ 1048575 * n
   product = mul-le-mul_right n (omega arith)
 
-  pub product-fits : n ≤ 32768 → part * n < 18446744073709551616
-  product-fits l = omega (arith, product)
-
-  pub slot_inside : n ≤ 32768 → part * n / 32768 < 4294967296
-  slot_inside l = omega (arith, product)
-
   pub slot_in_is : SlotIs n part (part * n / 32768)
   unfolding slot_of
   slot_in_is = record { is = refl; inside = omega (arith, product) }
-
-module _ (n part slot : ℕ) (e : SlotIs n part slot) (marks : List ℕ) where
-  pub part_bit_is : n ≡ length marks → (r : Bool) → r ≡ bit_of marks slot → r ≡ bit_of marks (slot_of (length marks) part)
-  part_bit_is en r er = er ∙ rw (e.is, en)
-
-  pub set-part-is : n ≡ length marks → (marks' : List ℕ) → BitSet marks slot marks' → BitSet marks (slot_of (length marks) part) marks'
-  set-part-is en marks' b = rw (← en, ← e.is) b
-
-  pub set-part-inside : n ≡ length marks → slot / 32 < length marks
-  set-part-inside en = rw (← en) e.inside
-
-module _ (marks : List ℕ) (h : ℕ) (t : Bool) (e : t ≡ bit_of marks (slot_of (length marks) (h / 4096))) where
-  pub marked-upper : not t ≡ true → false ≡ is_marked marks h
-  unfolding is_marked
-  marked-upper k = rw (← e, not-true t k)
-
-  module _ (k : not t ≡ false) (u : Bool) (o : u ≡ bit_of marks (slot_of (length marks) (h / 64 % 1048576))) where
-    pub marked-middle : not u ≡ true → false ≡ is_marked marks h
-    unfolding is_marked
-    marked-middle l = rw (← e, not-false t k, ← o, not-true u l)
-
-    pub marked-lower : not u ≡ false → (r : Bool) → r ≡ bit_of marks (slot_of (length marks) (h % 1048576)) → r ≡ is_marked marks h
-    unfolding is_marked
-    marked-lower l r q = rw (← e, not-false t k, ← o, not-false u l) q
 
 module _ (marks : List ℕ) (h : ℕ) (marks₁ marks₂ marks₃ : List ℕ) (x : BitSet marks (slot_of (length marks) (h / 4096)) marks₁)
     (y : BitSet marks₁ (slot_of (length marks₁) (h / 64 % 1048576)) marks₂) (z : BitSet marks₂ (slot_of (length marks₂) (h % 1048576)) marks₃) where

@@ -10,6 +10,7 @@ use enc_number::le::le_value;
 // ---- the hash of a name
 
 // Both halves of a number, each by a product of its own, in one number.
+#[tactic(auto, unfolding(crate::specs::Marks::mixed_of))]
 fn mixed(x: u64) -> u64
     ensures { result ≡ mixed_of x }
 {
@@ -17,6 +18,7 @@ fn mixed(x: u64) -> u64
 }
 
 // A number of 64 bits as one of 32.
+#[tactic(auto, unfolding(crate::specs::Marks::folded_of))]
 fn folded(x: u64) -> u32
     ensures { result ≡ folded_of x }
 {
@@ -24,6 +26,7 @@ fn folded(x: u64) -> u32
 }
 
 // A hash with the first eight bytes of a part, or with those that there are.
+#[tactic(auto, unfolding(crate::specs::Marks::joined_of))]
 fn joined(h: u64, part: &[u8]) -> u64
     ensures { result ≡ joined_of h part.now }
 {
@@ -41,11 +44,9 @@ pub fn hash(name: &[u8]) -> u32
     }
     let k = n / 8;
     let mut h = n as u64;
-    let mut i = 0;
-    while i < k {
+    for i in 0..k {
         let at = 8 * i;
         h = joined(h, &name[at..at + 8]);
-        i += 1;
     }
     folded(joined(h, &name[n - 8..n]))
 }
@@ -53,14 +54,12 @@ pub fn hash(name: &[u8]) -> u32
 // ---- bits
 
 // Bit `slot`, which is not set past the end.
+#[tactic(auto, unfolding(crate::specs::Marks::bit_of))]
 pub fn bit(marks: &[u32], slot: u32) -> bool
     ensures { result ≡ bit_of marks.now slot }
 {
     let i = (slot / 32) as usize;
-    if i < marks.len() {
-        return (marks[i] >> (slot % 32)) % 2 == 1;
-    }
-    false
+    i < marks.len() && (marks[i] >> (slot % 32)) % 2 == 1
 }
 
 pub fn set_bit(marks: &mut [u32], slot: u32)
@@ -68,7 +67,7 @@ pub fn set_bit(marks: &mut [u32], slot: u32)
     ensures { BitSet marks.old slot marks.new }
 {
     let i = (slot / 32) as usize;
-    marks[i] = marks[i] | (1 << (slot % 32));
+    marks[i] |= 1 << (slot % 32);
 }
 
 // ---- three bits for a hash
@@ -97,17 +96,14 @@ fn set_part(marks: &mut [u32], part: u32)
 }
 
 // A hash has three slots, by its upper, its middle and its lower 20 bits: names that differ rarely find all three taken.
+#[tactic(auto, unfolding(crate::specs::Marks::is_marked))]
 pub fn is_marked(marks: &[u32], hash: u32) -> bool
     requires { (0 < length marks.now) × (length marks.now ≤ 32768) }
     ensures { result ≡ is_marked marks.now hash }
 {
-    if !part_bit(marks, hash / 4096) {
-        return false;
-    }
-    if !part_bit(marks, hash / 64 % 1048576) {
-        return false;
-    }
-    part_bit(marks, hash % 1048576)
+    part_bit(marks, hash / 4096)
+        && part_bit(marks, hash / 64 % 1048576)
+        && part_bit(marks, hash % 1048576)
 }
 
 pub fn mark(marks: &mut [u32], hash: u32)

@@ -1,3 +1,2 @@
--- Laws that the functions' proofs and the crates above cite. Texts: the loops over a name. Names: what each return answers.
+-- Laws that the functions' proofs and the crates above cite. Texts: the loops over a name.
 pub mod Texts
-mod Names

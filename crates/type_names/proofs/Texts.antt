@@ -3,24 +3,30 @@ use mathlib.Core.Path.{◌≡◌, refl, sym, ◌∙◌}
 use mathlib.Core.Bool.{Bool, true, false, ◌&&◌, ◌||◌}
 use mathlib.Core.List.{List, [], ◌∷◌}
 use Prim.Native.Nat.{ℕ, ◌+◌, ◌-◌, ◌≤◌, ◌<◌}
-use native.Mathlib.Nat.{sub-zero, le_refl}
+use native.Mathlib.Nat.{le_refl}
 use native.Mathlib.Omega.{arith}
 use native.Mathlib.Numerals.{add-one}
-use lib.ListN.{length, get_or, take, drop, drop_of_length-le, length-take, length-drop}
+use lib.ListN.{length, take, drop, drop_of_length-le, length-drop}
 use lib.Seq.{drop-cons, take_all}
 use lib.Dec.{eqb}
-use borrow.Author.Tests.{eq-eqb, ne_eqb}
+use borrow.Author.Tests.{ne_eqb}
 use Rattle.type_book.specs.Book.{same_name}
 use Rattle.type_names.specs.Text.{starts_with, contains}
-use Rattle.type_book.proofs.Names.{same-lengths}
+use lib.Pointwise.{pointwise}
+use Rattle.std.specs.List.{list_any}
+use Rattle.type_book.proofs.Names.{compared, same_eq, eq_same, other_name}
 
-pub starts-short : (name start : List ℕ) → length name < length start → false ≡ starts_with name start
-unfolding starts_with
-starts-short name start h = same-lengths (take (length start) name) start (λ e. omega (arith, simp length-take at e))
+-- two names compared the other way round
+turned : (a b : List ℕ) → same_name a b ≡ same_name b a
+turned a b = by (same_name a b) refl
+  where
+    by : (g : Bool) → same_name a b ≡ g → same_name a b ≡ same_name b a
+    by true h = h ∙ sym (eq_same b a (sym (same_eq a b h)))
+    by false h = h ∙ other_name b a (λ e. let z : true ≡ false = sym (eq_same a b (sym e)) ∙ h in absurd (let w : ◌≡◌ {A = ℕ} 0 1 = cc in omega arith))
 
-pub starts-whole : (name start : List ℕ) (t : Bool) → t ≡ same_name (take (length start - 0) (drop 0 name)) start → t ≡ starts_with name start
+pub started : (name start : List ℕ) → pointwise eqb start (take (length start) name) ≡ starts_with name start
 unfolding starts_with
-starts-whole name start t e = e ∙ rw sub-zero
+started name start = compared start (take (length start) name) ∙ turned start (take (length start) name)
 
 -- a test joined with one that is known
 pub and-true : (t : Bool) → t && true ≡ t
@@ -59,16 +65,7 @@ module _ (name part : List ℕ) (i : ℕ) (inv : contains name part ≡ contains
   pub contains-end : length name ≤ i → eqb (length part) 0 ≡ contains name part
   contains-end h = sym (inv ∙ rw (drop_of_length-le name h) (in_nothing part))
 
-module _ (name : List ℕ) (byte i : ℕ) (inv : contains name (byte ∷ []) ≡ contains (drop i name) (byte ∷ [])) where
-  byte-turn : i < length name → contains name (byte ∷ []) ≡ eqb (get_or name i 0) byte || contains (drop (i + 1) name) (byte ∷ [])
-  unfolding contains
-  byte-turn h = inv ∙ rw (add-one, drop-cons name i 0 h, starts-byte)
-
-  pub byte-here : i < length name → get_or name i 0 ≡ byte → true ≡ contains name (byte ∷ [])
-  byte-here h e = sym (byte-turn h ∙ rw (eq-eqb (get_or name i 0) byte e))
-
-  pub byte-again : i < length name → (get_or name i 0 ≡ byte → ⊥) → contains name (byte ∷ []) ≡ contains (drop (i + 1) name) (byte ∷ [])
-  byte-again h e = byte-turn h ∙ rw (ne_eqb (get_or name i 0) byte e)
-
-  pub byte-end : length name ≤ i → false ≡ contains name (byte ∷ [])
-  byte-end h = contains-end name (byte ∷ []) i inv h
+pub any_byte : (name : List ℕ) (byte : ℕ) → list_any (λ y. eqb y byte) name ≡ contains name (byte ∷ [])
+unfolding contains starts_with same_name
+any_byte [] byte = refl
+any_byte (x ∷ xs) byte = rw (any_byte xs byte, starts-byte x byte xs)

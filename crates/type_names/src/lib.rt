@@ -11,84 +11,52 @@ use type_book::block::same_name;
 pub mod text;
 
 // Pointers that no flag marks.
+#[tactic(auto, unfolding(crate::specs::Names::is_pointer_name, crate::specs::Text::is_one_of))]
 pub fn is_pointer_name(name: &[u8]) -> bool
     ensures { result ≡ is_pointer_name name.now }
 {
-    if same_name(name, b"PVOID") {
-        return true;
-    }
-    if same_name(name, b"PCCH") {
-        return true;
-    }
-    starts_with(name, b"POINTER TO")
+    same_name(name, b"PVOID") || same_name(name, b"PCCH") || starts_with(name, b"POINTER TO")
 }
 
 // A parenthesis is looked for first: few names have one, and a byte is found faster than two.
+#[tactic(auto, unfolding(crate::specs::Names::is_sub_range_name))]
 pub fn is_sub_range_name(name: &[u8]) -> bool
     ensures { result ≡ is_sub_range_name name.now }
 {
-    if contains_byte(name, b'(') {
-        if contains_byte(name, b')') {
-            return contains(name, b"..");
-        }
-        return false;
-    }
-    false
+    contains_byte(name, b'(') && contains_byte(name, b')') && contains(name, b"..")
 }
 
 // Primitives whose type id does not tell it.
+#[tactic(auto, unfolding(crate::specs::Names::is_primitive_name))]
 pub fn is_primitive_name(name: &[u8]) -> bool
     ensures { result ≡ is_primitive_name name.now }
 {
-    if is_time_name(name) {
-        return true;
-    }
-    is_pointer_sized_name(name)
+    is_time_name(name) || is_pointer_sized_name(name)
 }
 
 // The date and time types of IEC 61131-3.
+#[tactic(auto, unfolding(crate::specs::Text::is_one_of))]
 fn is_time_name(name: &[u8]) -> bool
     ensures { result ≡ is_one_of name.now time_names }
 {
-    if same_name(name, b"TOD") {
-        return true;
-    }
-    if same_name(name, b"DT") {
-        return true;
-    }
-    if same_name(name, b"TIME") {
-        return true;
-    }
-    if same_name(name, b"DATE") {
-        return true;
-    }
-    if same_name(name, b"LTIME") {
-        return true;
-    }
-    if same_name(name, b"TIME_OF_DAY") {
-        return true;
-    }
-    same_name(name, b"DATE_AND_TIME")
+    same_name(name, b"TOD")
+        || same_name(name, b"DT")
+        || same_name(name, b"TIME")
+        || same_name(name, b"DATE")
+        || same_name(name, b"LTIME")
+        || same_name(name, b"TIME_OF_DAY")
+        || same_name(name, b"DATE_AND_TIME")
 }
 
 // The integers that are as wide as a pointer.
+#[tactic(auto, unfolding(crate::specs::Text::is_one_of))]
 fn is_pointer_sized_name(name: &[u8]) -> bool
     ensures { result ≡ is_one_of name.now pointer_sized_names }
 {
-    if same_name(name, b"UXINT") {
-        return true;
-    }
-    if same_name(name, b"XINT") {
-        return true;
-    }
-    if same_name(name, b"XWORD") {
-        return true;
-    }
-    if same_name(name, b"__UXINT") {
-        return true;
-    }
-    if same_name(name, b"__XINT") {
-        return true;
-    }
-    same_name(name, b"__XWORD")
+    same_name(name, b"UXINT")
+        || same_name(name, b"XINT")
+        || same_name(name, b"XWORD")
+        || same_name(name, b"__UXINT")
+        || same_name(name, b"__XINT")
+        || same_name(name, b"__XWORD")
 }

@@ -13,20 +13,6 @@ use Rattle.enc_number.specs.Le.{le_value}
 use Rattle.type_book.specs.Book.{name_of}
 use Rattle.type_order.specs.Names.{word_at, SameTo, Less, LessIs, LessAt}
 
--- ---- a part of a name
-
-module _ (name : List ℕ) (k : ℕ) where
-  pub word_in : k ≤ length name / 8 → (r : ℕ) → r ≡ le_value (take 8 (take (length name - 8 * k) (drop (8 * k) name))) → r ≡ word_at name k
-  unfolding word_at
-  word_in l r e = e ∙ rw (take_all (length name - 8 * k) (drop (8 * k) name) (simp length-drop (omega arith)))
-
-  pub word-past : length name / 8 < k → (r : ℕ) → r ≡ le_value (take 8 (take (length name - length name) (drop (length name) name))) → r ≡ word_at name k
-  unfolding word_at
-  word-past l r e =
-      let far : length name ≤ 8 * k = omega arith in
-      let near : length name ≤ length name = omega arith in
-      e ∙ rw (drop_of_length-le name {i = 8 * k} far, drop_of_length-le name {i = length name} near, take_all {A = ℕ} (length name - length name) [] (omega arith))
-
 -- ---- the turns of a comparison
 
 module _ (a b : List ℕ) where
@@ -44,9 +30,6 @@ module _ (a b : List ℕ) where
     same_more l g =
         let q : x ≡ y = omega arith in
         record { all = below_more (λ j. word_at a j ≡ word_at b j) k s.all (sym ex ∙ q ∙ ey) }
-
-pub less-blocks : (book : List ℕ) (a b : ℕ) (x y : List ℕ) → x ≡ name_of book a → y ≡ name_of book b → (r : Bool) → LessIs x y r → LessAt book a b r
-less-blocks book a b x y ex ey r l = record { is = λ e. rw (← ex, ← ey) (l.is e) }
 
 -- ---- the order
 

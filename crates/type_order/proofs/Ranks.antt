@@ -2,7 +2,7 @@
 use mathlib.Core.Path.{◌≡◌, refl, sym, ap, ◌∙◌}
 use mathlib.Core.Bool.{Bool, true, false, not}
 use mathlib.Core.List.{List}
-use Prim.Native.Nat.{ℕ, zero, suc, ◌+◌, ◌-◌, ◌*◌, ◌/◌, ◌%◌, ◌^◌, ◌≤◌, ◌<◌}
+use Prim.Native.Nat.{ℕ, zero, suc, max, ◌+◌, ◌-◌, ◌*◌, ◌/◌, ◌%◌, ◌^◌, ◌≤◌, ◌<◌}
 use native.Mathlib.Omega.{arith}
 use native.Mathlib.Nat.{zero-div}
 use lib.ListN.{length, get_or, get_or-eq_default}
@@ -15,17 +15,6 @@ use Rattle.type_order.specs.declared.Order.TheVariants.{Distinct, Doubled, Unkno
 use Rattle.type_order.specs.Names.{Apart, Twice, OrderDecided, Less, LessAt}
 use Rattle.type_order.specs.Ranks.{number_at, RisesTo, Listed, RankIs, RankedTo, RankedIs}
 use Rattle.type_order.proofs.Names.{less_other, less_trans}
-
--- ---- a number of an order
-
-module _ (numbers : List ℕ) (i : ℕ) where
-  pub at-is : get_or numbers (i / 2) 0 / 2 ^ (16 * (i % 2)) % 65536 ≡ number_at numbers i
-  unfolding number_at
-  at-is = refl
-
-  pub at-past : length numbers ≤ i / 2 → 0 ≡ number_at numbers i
-  unfolding number_at
-  at-past l = sym (rw (get_or-eq_default numbers 0 l, zero-div (2 ^ (16 * (i % 2)))))
 
 -- ---- names that rise
 
@@ -40,6 +29,11 @@ module _ (book order : List ℕ) where
         first = omega arith;
         each = λ j p g. below_more (λ k. 0 < k → Less (name_of book (number_at order (k - 1))) (name_of book (number_at order k))) i (λ k x y. r.each k y x) (λ y. here) j g p;
       }
+
+  -- all n names, where the places before i rise and i is past the last of them
+  pub rises-all : (i n : ℕ) → RisesTo book order i → n ≤ i → (1 ≤ n → i ≤ n) → RisesTo book order (max 1 n)
+  rises-all i zero r l h = rises-one
+  rises-all i (suc n) r l h = let e : max 1 (suc n) ≡ i = omega (arith, h (omega arith)) in rw e r
 
   -- of two places the earlier one's name stands before the later one's
   module _ (r : ℕ) (rise : RisesTo book order r) where
@@ -59,18 +53,6 @@ module _ (book order : List ℕ) where
 -- ---- blocks that are listed
 
 module _ (book order : List ℕ) (n : ℕ) where
-  module _ (b : ℕ) where
-    pub rank-other : (t : Bool) → t ≡ is_type book b → not t ≡ true → RankIs book order n b true
-    rank-other t e h =
-        let no : is_type book b ≡ false = sym e ∙ not-true t h in
-        record { is = λ u v. absurd (let z : ◌≡◌ {A = ℕ} 0 1 = cc in omega arith) }
-
-    pub rank-never : RankIs book order n b false
-    rank-never = record { is = λ e. absurd (let z : ◌≡◌ {A = ℕ} 0 1 = cc in omega arith) }
-
-    pub rank-here : (r : ℕ) → r < n → (x : ℕ) → x ≡ number_at order r → RankIs book order n b (eqb x b)
-    rank-here r l x e = record { is = λ u v. record { rank = r; below = l; is = sym e ∙ eqb-true x b u } }
-
   pub ranked_none : RankedTo book order n 0
   ranked_none = record { all = λ b l. absurd (omega arith) }
 
@@ -102,7 +84,7 @@ module _ (book order : List ℕ) (n r : ℕ) (l : n ≤ r) (rise : RisesTo book 
 pub decided-apart : (book order : List ℕ) (n r : ℕ) → RisesTo book order r → n ≤ r → (t : Bool) → RankedIs book order n t → t ≡ true → OrderDecided book Distinct
 decided-apart book order n r rise l t e h = record { holds = are_apart book order n r l rise (e.is h) }
 
-pub decided_twice : (book name : List ℕ) (b : ℕ) (u : Bool) → u ≡ is_named book name b → u ≡ true → (a : ℕ) → name ≡ name_of book a → (t : Bool) → t ≡ is_type book a → not t ≡ false → a < b → (k : ℕ) → k ≡ blocks book → b < k → OrderDecided book Doubled
+pub decided_twice : (book name : List ℕ) (b : ℕ) (u : Bool) → u ≡ is_named book name b → u ≡ true → (a : ℕ) → name ≡ name_of book a → (t : Bool) → t ≡ is_type book a → t ≡ true → a < b → (k : ℕ) → k ≡ blocks book → b < k → OrderDecided book Doubled
 decided_twice book name b u eu hu a en t et ht l k ek g =
     let is : is_named book name b ≡ true = sym eu ∙ hu in
     record {
@@ -111,7 +93,7 @@ decided_twice book name b u eu hu a en t et ht l k ek g =
         two = b;
         before = l;
         inside = rw (← ek) g;
-        kind = sym et ∙ not-false t ht;
+        kind = sym et ∙ ht;
         kind₂ = named-kind book name b is;
         same = named-name book name b is ∙ en;
       };

@@ -2,7 +2,7 @@
 // the names were made to have one hash. The sorting promises nothing. What it leaves is held against the book, and only that is believed.
 #![tactic(auto)]
 
-ghost use Rattle.std.specs.Prelude.{◌≡◌, ◌≤◌, ◌<◌};
+ghost use Rattle.std.specs.Prelude.{◌≡◌, ◌≤◌, ◌<◌, max, MatchOption};
 ghost use Rattle.type_book.specs.Book.{blocks as blocks_of};
 ghost use Rattle.type_order.specs.Names.{word_at, LessIs, LessAt, OrderDecided};
 ghost use Rattle.type_order.specs.Ranks.{number_at, RisesTo, RankIs, RankedIs};
@@ -24,7 +24,8 @@ const MOST: usize = 32768;
 
 // ---- an order of names
 
-// The eight bytes from place 8 * k on as one number, or those that there are.
+// The eight bytes from place 8 * k on as one number, or those that there are. That product may not fit, so k is looked at first.
+#[tactic(auto, unfolding(crate::specs::Names::word_at))]
 fn word(name: &[u8], k: usize) -> u64
     ensures { result ≡ word_at name.now k }
 {
@@ -34,20 +35,12 @@ fn word(name: &[u8], k: usize) -> u64
     le_value(&name[name.len()..])
 }
 
-fn longer(a: usize, b: usize) -> usize {
-    if a < b {
-        return b;
-    }
-    a
-}
-
 // Whether a name stands before another: by the first eight bytes in which they differ, as numbers.
 fn less(a: &[u8], b: &[u8]) -> bool
     ensures { LessIs a.now b.now result }
 {
-    let n = longer(a.len(), b.len()) / 8;
-    let mut k = 0;
-    while k <= n {
+    let words = a.len().max(b.len()) / 8 + 1;
+    for k in 0..words {
         let x = word(a, k);
         let y = word(b, k);
         if x < y {
@@ -56,7 +49,6 @@ fn less(a: &[u8], b: &[u8]) -> bool
         if y < x {
             return false;
         }
-        k += 1;
     }
     false
 }
@@ -69,6 +61,7 @@ fn less_at(book: &[u8], a: u32, b: u32) -> bool
 
 // ---- the sorting, which promises nothing: two numbers of 16 bits stand in each of 32, one past the end is 0, and one put there is lost
 
+#[tactic(auto, unfolding(crate::specs::Ranks::number_at))]
 fn at(numbers: &[u32], i: usize) -> u32
     ensures { (result ≡ number_at numbers.now i) × (result < 65536) }
 {
@@ -105,15 +98,6 @@ fn put(numbers: &mut [u32], i: usize, x: u32)
     }
 }
 
-fn type_count(book: &[u8], n: u32) -> usize
-    ensures { result ≤ 1 }
-{
-    if block::is_type(book, n) {
-        return 1;
-    }
-    0
-}
-
 // Lists the type blocks as they come, and counts them.
 fn list_types(book: &[u8], order: &mut [u32]) -> usize
     requires { blocks_of book.now ≤ 65536 }
@@ -121,11 +105,10 @@ fn list_types(book: &[u8], order: &mut [u32]) -> usize
 {
     let n = block::blocks(book) as u32;
     let mut count = 0;
-    let mut i: u32 = 0;
-    while i < n {
+    for i in 0..n {
+        // Each block is put there, and stays if it is a type: that needs no branch.
         put(order, count, i);
-        count += type_count(book, i);
-        i += 1;
+        count += block::is_type(book, i) as usize;
     }
     count
 }
@@ -133,34 +116,7 @@ fn list_types(book: &[u8], order: &mut [u32]) -> usize
 // Whether the next number of a merge is that at i of the first run and not that at j of the second. Of equal names the first run's comes
 // first, so that types of one name stay in the order of their blocks.
 fn takes_first(book: &[u8], from: &[u32], i: usize, mid: usize, j: usize, end: usize) -> bool {
-    if i >= mid {
-        return false;
-    }
-    if j >= end {
-        return true;
-    }
-    !less_at(book, at(from, j), at(from, i))
-}
-
-// Stores the next number of a merge at place k, and says how many were taken of the first run.
-fn merge_one(
-    book: &[u8],
-    from: &[u32],
-    to: &mut [u32],
-    i: usize,
-    mid: usize,
-    j: usize,
-    end: usize,
-    k: usize,
-) -> usize
-    ensures { result ≤ 1 }
-{
-    if takes_first(book, from, i, mid, j, end) {
-        put(to, k, at(from, i));
-        return 1;
-    }
-    put(to, k, at(from, j));
-    0
+    i < mid && (j >= end || !less_at(book, at(from, j), at(from, i)))
 }
 
 // Merges the runs from `start` to `mid` and from `mid` to `end`. What was not taken of the first run was taken of the second.
@@ -168,32 +124,25 @@ fn merge(book: &[u8], from: &[u32], to: &mut [u32], start: usize, mid: usize, en
     requires { (start ≤ 65536) × (mid ≤ 65536) × (end ≤ 65536) }
 {
     let mut i = start;
-    let mut k = start;
-    while k < end {
-        i += merge_one(book, from, to, i, mid, mid + (k - i), end, k);
-        k += 1;
+    for k in start..end {
+        let j = mid + (k - i);
+        if takes_first(book, from, i, mid, j, end) {
+            put(to, k, at(from, i));
+            i += 1;
+        } else {
+            put(to, k, at(from, j));
+        }
     }
-}
-
-fn least(a: usize, b: usize) -> usize
-    ensures { result ≤ b }
-{
-    if a < b {
-        return a;
-    }
-    b
 }
 
 // Merges each two runs of so many numbers into one of twice as many.
 fn merge_runs(book: &[u8], from: &[u32], to: &mut [u32], n: usize, run: usize)
     requires { (n ≤ 65536) × (0 < run) × (run ≤ 131072) }
 {
-    let mut start = 0;
-    while start < n {
-        let mid = least(start + run, n);
-        let end = least(start + 2 * run, n);
+    for start in (0..n).step_by(2 * run) {
+        let mid = (start + run).min(n);
+        let end = (start + 2 * run).min(n);
         merge(book, from, to, start, mid, end);
-        start += 2 * run;
     }
 }
 
@@ -212,27 +161,23 @@ fn sort(book: &[u8], order: &mut [u32], other: &mut [u32], n: usize)
 fn rank(order: &[u32], ranks: &mut [u32], n: usize)
     requires { n ≤ 65536 }
 {
-    let mut i = 0;
-    while i < n {
+    for i in 0..n {
         put(ranks, at(order, i) as usize, i as u32);
-        i += 1;
     }
 }
 
 // ---- what the sorting left, held against the book
 
-// How far the names rise: each name before place r stands before the next one.
-fn rises_to(book: &[u8], order: &[u32], n: usize) -> usize
-    ensures { RisesTo book.now order.now result }
+// The first place whose name the one before it does not stand before; none, where all n names rise.
+fn first_fall(book: &[u8], order: &[u32], n: usize) -> Option<usize>
+    ensures { MatchOption result (RisesTo book.now order.now (max 1 n)) (λ r. 0 < r) }
 {
-    let mut i = 1;
-    while i < n {
+    for i in 1..n {
         if !less_at(book, at(order, i - 1), at(order, i)) {
-            return i;
+            return Some(i);
         }
-        i += 1;
     }
-    i
+    None
 }
 
 // A type block has a rank below n, at which it is listed.
@@ -243,10 +188,7 @@ fn has_rank(book: &[u8], order: &[u32], ranks: &[u32], n: usize, b: u32) -> bool
         return true;
     }
     let r = at(ranks, b as usize) as usize;
-    if r >= n {
-        return false;
-    }
-    at(order, r) == b
+    r < n && at(order, r) == b
 }
 
 fn all_ranked(book: &[u8], order: &[u32], ranks: &[u32], n: usize) -> bool
@@ -254,12 +196,10 @@ fn all_ranked(book: &[u8], order: &[u32], ranks: &[u32], n: usize) -> bool
     ensures { RankedIs book.now order.now n result }
 {
     let count = block::blocks(book) as u32;
-    let mut b: u32 = 0;
-    while b < count {
+    for b in 0..count {
         if !has_rank(book, order, ranks, n, b) {
             return false;
         }
-        b += 1;
     }
     true
 }
@@ -268,16 +208,11 @@ fn all_ranked(book: &[u8], order: &[u32], ranks: &[u32], n: usize) -> bool
 fn not_rising(book: &[u8], a: u32, b: u32) -> Order
     ensures { OrderDecided book.now result }
 {
-    if a >= b {
-        return Order::Unknown;
-    }
-    if b as usize >= block::blocks(book) {
-        return Order::Unknown;
-    }
-    if !block::is_type(book, a) {
-        return Order::Unknown;
-    }
-    if type_provider::is_named(book, block::name(book, a), b) {
+    if a < b
+        && (b as usize) < block::blocks(book)
+        && block::is_type(book, a)
+        && type_provider::is_named(book, block::name(book, a), b)
+    {
         return Order::Doubled;
     }
     Order::Unknown
@@ -289,15 +224,17 @@ fn decide_in(book: &[u8], order: &mut [u32], other: &mut [u32]) -> Order
 {
     let n = list_types(book, order);
     sort(book, order, other, n);
-    let r = rises_to(book, order, n);
-    if r < n {
-        return not_rising(book, at(order, r - 1), at(order, r));
+    match first_fall(book, order, n) {
+        Some(r) => not_rising(book, at(order, r - 1), at(order, r)),
+        None => {
+            rank(order, other, n);
+            if all_ranked(book, order, other, n) {
+                Order::Distinct
+            } else {
+                Order::Unknown
+            }
+        }
     }
-    rank(order, other, n);
-    if all_ranked(book, order, other, n) {
-        return Order::Distinct;
-    }
-    Order::Unknown
 }
 
 // Whether the types of a book of at most 65,536 blocks have different names. The lent numbers are for its use: with fewer than 32,768 it

@@ -1,17 +1,10 @@
-use borrow.Author.Rules.{rules}
-use mathlib.Core.Path.{refl}
-use Prim.Native.Nat.{◌-◌}
-use Rattle.type_block_form.proofs.Bytes.{tests, every-stop, every-again, every-end}
+use mathlib.Core.Path.{◌∙◌}
+use Rattle.std.proofs.Common.{rules, tests}
+use Rattle.std.proofs.lemmas.Iterator.{YieldsList-from_slice}
+use Rattle.std.proofs.lemmas.Iterator.Search.{all_from_yields_List}
+use Rattle.type_block_form.specs.Form.{is_printable}
+use Rattle.type_block_form.proofs.Bytes.{every_all}
 use Rattle.type_block_form.proofs.all_printable.Goals as goal
 
-pub loop-i-init : goal.loop-i-init
-loop-i-init c = (search rules, refl)
-
-pub returns-then-not-is_printable : goal.returns-then-not-is_printable
-returns-then-not-is_printable c = search (every-stop, tests)
-
-pub loop-i-preserved : goal.loop-i-preserved
-loop-i-preserved c = (search rules, search (every-again, tests))
-
 pub returns : goal.returns
-returns c = search every-end
+returns c = all_from_yields_List is_printable _ _ _ c.all.ensures.ran (YieldsList-from_slice c.args.part.now cc) (λ x b q k. search (rules, tests)) ∙ every_all is_printable c.args.part.now

@@ -7,8 +7,5 @@ use lib.Dec.{eqb}
 use Rattle.type_block_form.specs.Form.{every, is_zero}
 use Rattle.type_block_form.proofs.all_zero.Given as goal
 
-abbrev pub invariant-loop-i : goal.invariant-loop-i
-invariant-loop-i l = (l.i ≤ length l.part) × (every is_zero l.part ≡ eqb l.highest 0 && every is_zero (drop l.i l.part))
-
-abbrev pub decreases-loop-i : goal.decreases-loop-i
-decreases-loop-i l = length l.part - l.i
+abbrev pub invariant-loop-byte : goal.invariant-loop-byte
+invariant-loop-byte l = (every is_zero l.part ≡ eqb l.highest 0 && every is_zero (drop l.byte-index l.part))

@@ -1,10 +1,7 @@
 use mathlib.Core.Path.{◌≡◌}
-use Prim.Native.Nat.{◌-◌, ◌≤◌}
+use Prim.Native.Nat.{◌-◌}
 use Rattle.type_marks.specs.Marks.{with_parts}
 use Rattle.type_marks.proofs.hash.Given as goal
 
 abbrev pub invariant-loop-i : goal.invariant-loop-i
-invariant-loop-i l = (l.i ≤ l.k) × (with_parts l.name l.h l.i (l.k - l.i) ≡ with_parts l.name l.n 0 l.k)
-
-abbrev pub decreases-loop-i : goal.decreases-loop-i
-decreases-loop-i l = l.k - l.i
+invariant-loop-i l = with_parts l.name l.h l.i (l.k - l.i) ≡ with_parts l.name l.n 0 l.k

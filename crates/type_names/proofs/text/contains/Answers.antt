@@ -1,17 +1,16 @@
-use borrow.Author.Rules.{rules}
-use mathlib.Core.Path.{refl}
-use Prim.Native.Nat.{◌-◌}
+use mathlib.Core.Path.{refl, ◌∙◌}
+use native.Mathlib.Omega.{arith}
 use Rattle.type_names.proofs.Texts.{contains-here, contains-again, contains-end}
 use Rattle.type_names.proofs.text.contains.Goals as goal
 
 pub loop-i-init : goal.loop-i-init
-loop-i-init c = (search rules, refl)
+loop-i-init c = refl
 
 pub returns-then-starts_with : goal.returns-then-starts_with
 returns-then-starts_with c = search contains-here
 
 pub loop-i-preserved : goal.loop-i-preserved
-loop-i-preserved c = (search rules, search contains-again)
+loop-i-preserved c = search contains-again
 
 pub returns : goal.returns
-returns c = search contains-end
+returns c = c.is_empty.ensures ∙ contains-end _ _ _ c.loop-i.invariant (omega arith)
