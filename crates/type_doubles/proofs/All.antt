@@ -1,7 +1,7 @@
 -- A test of every block, from the first on. Assumes nothing.
 use mathlib.Core.Path.{◌≡◌, refl, sym, ◌∙◌}
-use mathlib.Core.Bool.{Bool, true, false, ◌&&◌}
-use Prim.Native.Nat.{ℕ, zero, suc, ◌+◌, ◌-◌, ◌≤◌, ◌<◌}
+use mathlib.Core.Bool.{Bool, true, false}
+use Prim.Native.Nat.{ℕ, zero, suc, ◌+◌, ◌≤◌, ◌<◌}
 use native.Mathlib.Omega.{arith}
 use lib.Dec.{eqb}
 use borrow.Author.Tests.{eqb-true, eqb-false}
@@ -12,26 +12,6 @@ use Rattle.std.proofs.lemmas.List.FromFn.{length-range_with_len, get_or-range_wi
 use Rattle.std.specs.Bool.{MatchBool}
 use Rattle.std.specs.List.{range_with_len, AllWithin, HoldsAt}
 use Rattle.type_doubles.specs.Doubles.{all_from}
-
-module _ (p : ℕ → Bool) (n : ℕ) where
-  pub all_start : all_from p 0 n ≡ all_from p 0 (n - 0)
-  all_start = let k : n - 0 ≡ n = omega arith in rw k
-
-  module _ (i : ℕ) (inv : all_from p 0 n ≡ all_from p i (n - i)) (m : ℕ) (e : m ≡ n) where
-    module _ (l : i < m) where
-      turn : all_from p 0 n ≡ p i && all_from p (i + 1) (n - (i + 1))
-      unfolding all_from
-      turn = let k : n - i ≡ suc (n - (i + 1)) = omega arith in inv ∙ rw k
-
-      pub all-stop : p i ≡ false → false ≡ all_from p 0 n
-      all-stop h = sym (turn ∙ rw h)
-
-      pub all-again : p i ≡ true → all_from p 0 n ≡ all_from p (i + 1) (n - (i + 1))
-      all-again h = turn ∙ rw h
-
-    pub all_end : m ≤ i → true ≡ all_from p 0 n
-    unfolding all_from
-    all_end h = let k : n - i ≡ 0 = omega arith in sym (inv ∙ rw k)
 
 -- what every block passes, and back
 all-from : (p : ℕ → Bool) (i k : ℕ) → ((m : ℕ) → i ≤ m → m < i + k → p m ≡ true) → all_from p i k ≡ true

@@ -2,7 +2,7 @@
 use mathlib.Core.Path.{◌≡◌, refl, sym, ◌∙◌}
 use mathlib.Core.Bool.{Bool, true, false, not, ◌||◌}
 use mathlib.Core.List.{List}
-use Prim.Native.Nat.{ℕ, ◌+◌, ◌-◌, ◌<◌}
+use Prim.Native.Nat.{ℕ, ◌+◌, ◌<◌}
 use native.Mathlib.Omega.{arith}
 use borrow.Author.Count.{below_more}
 use borrow.Author.Tests.{not-true, not-false}
@@ -14,7 +14,7 @@ use Rattle.type_order.specs.Names.{Apart, Twice, OrderDecided}
 use Rattle.type_doubles.specs.Doubles.{all_from, is_other, is_first, distinct}
 use Rattle.type_marks.specs.Marks.{hash_of, is_marked, Marked}
 use Rattle.type_doubles.specs.Met.{MarkedTo, MetIs}
-use Rattle.type_doubles.proofs.All.{all_of, each_of, all-again}
+use Rattle.type_doubles.proofs.All.{all_of, each_of}
 
 -- ---- comparing names
 pub other-holds : (book name : List ℕ) (n : ℕ) (t : Bool) → t ≡ is_named book name n → t ≡ false → is_other book name n ≡ true
