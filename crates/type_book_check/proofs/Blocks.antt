@@ -1,5 +1,5 @@
 -- The blocks of a book, one after another: one law for each way out of each function. Assumes nothing.
-use mathlib.Core.Path.{◌≡◌, sym, ◌∙◌}
+use mathlib.Core.Path.{◌≡◌, refl, sym, ◌∙◌}
 use mathlib.Core.Bool.{Bool, true, false, ◌&&◌, not, cond}
 use mathlib.Core.List.{List}
 use Prim.Native.Nat.{ℕ, suc, ◌+◌, ◌*◌, ◌-◌, ◌≤◌, ◌<◌}
@@ -11,10 +11,10 @@ use borrow.Author.Tests.{eq-eqb, ne_eqb, not-true, not-false}
 use Rattle.type_book.specs.Book.{blocks, block_of, fields_of, entries_of}
 use Rattle.type_block_form.specs.Form.{sum_right, type_form, field_form, entry_form}
 use Rattle.type_book_check.specs.Check.{sum_at, sums, place_of, places_onward, placed_from, all_in_place, misplaced_scan, scan_of}
-use Rattle.type_book_check.specs.declared.Scan.{Scan}
-use Rattle.type_book_check.specs.declared.Scan.TheVariants as scan
-use Rattle.type_book_check.specs.declared.Place.{Place}
-use Rattle.type_book_check.specs.declared.Place.TheVariants.{Next, Wrong}
+use Rattle.std.specs.Bool.{then_some}
+use Rattle.std.specs.Prelude.{Option, Some, None}
+use Rattle.type_book_check.specs.declared.BookCheck.{BookCheck}
+use Rattle.type_book_check.specs.declared.BookCheck.TheVariants.{Valid, Sum, Form}
 
 module _ (book : List ℕ) (n : ℕ) (l : n < blocks book) where
   long : n * 512 + 512 - n * 512 ≡ 512
@@ -45,61 +45,56 @@ unfolding sum_at
 sum-there book i s e h = rw e h
 
 -- refusal 3
+some-is : (t : Bool) (due : ℕ × ℕ) → then_some t due ≡ cond t (Some due) None
+some-is true due = refl
+some-is false due = refl
+
 module _ (book : List ℕ) (n f e : ℕ) (s : List ℕ) (q : s ≡ block_of book n) (t : Bool) where
   module _ (l : 0 < f) (o : t ≡ field_form s) where
-    field : place_of book n f e ≡ cond t (Next (f - 1) e) Wrong
+    field : place_of book n f e ≡ cond t (Some (f - 1, e)) None
     unfolding place_of
     field = let k : f ≡ suc (f - 1) = omega arith in rw (k, o, q, ← k)
 
-    pub place-field : t ≡ true → Next (f - 1) e ≡ place_of book n f e
-    place-field h = sym (field ∙ rw h)
-
-    pub place-no-field : t ≡ false → Wrong ≡ place_of book n f e
-    place-no-field h = sym (field ∙ rw h)
+    pub place-field : (r : Option (ℕ × ℕ)) → r ≡ then_some t (f - 1, e) → r ≡ place_of book n f e
+    place-field r h = h ∙ some-is t (f - 1, e) ∙ sym field
 
   module _ (l : f ≤ 0) (g : 0 < e) (o : t ≡ entry_form s) where
-    entry : place_of book n f e ≡ cond t (Next 0 (e - 1)) Wrong
+    entry : place_of book n f e ≡ cond t (Some (0, e - 1)) None
     unfolding place_of
     entry =
         let z : f ≡ 0 = omega arith in
         let k : e ≡ suc (e - 1) = omega arith in
         rw (z, k, o, q, ← k)
 
-    pub place-entry : t ≡ true → Next 0 (e - 1) ≡ place_of book n f e
-    place-entry h = sym (entry ∙ rw h)
-
-    pub place-no-entry : t ≡ false → Wrong ≡ place_of book n f e
-    place-no-entry h = sym (entry ∙ rw h)
+    pub place-entry : (r : Option (ℕ × ℕ)) → r ≡ then_some t (0, e - 1) → r ≡ place_of book n f e
+    place-entry r h = h ∙ some-is t (0, e - 1) ∙ sym entry
 
   module _ (l : f ≤ 0) (g : e ≤ 0) (o : t ≡ type_form s) where
-    type : place_of book n f e ≡ cond t (Next (fields_of book n) (entries_of book n)) Wrong
+    type : place_of book n f e ≡ cond t (Some (fields_of book n, entries_of book n)) None
     unfolding place_of
     type =
         let z : f ≡ 0 = omega arith in
         let k : e ≡ 0 = omega arith in
         rw (z, k, o, q)
 
-    pub place-type : t ≡ true → (a b : ℕ) → a ≡ fields_of book n → b ≡ entries_of book n → Next a b ≡ place_of book n f e
-    place-type h a b x y = rw (x, y) (sym (type ∙ rw h))
-
-    pub place-no-type : t ≡ false → Wrong ≡ place_of book n f e
-    place-no-type h = sym (type ∙ rw h)
+    pub place-type : (a b : ℕ) → a ≡ fields_of book n → b ≡ entries_of book n → (r : Option (ℕ × ℕ)) → r ≡ then_some t (a, b) → r ≡ place_of book n f e
+    place-type a b x y r h = h ∙ some-is t (a, b) ∙ rw (x, y) (sym type)
 
 module _ (book : List ℕ) where
   pub placed-start : all_in_place book ≡ placed_from book 0 (blocks book - 0) 0 0
   placed-start = let k : blocks book - 0 ≡ blocks book = omega arith in rw k
 
   module _ (i f e : ℕ) (inv : all_in_place book ≡ placed_from book i (blocks book - i) f e) (m : ℕ) (q : m ≡ blocks book) where
-    module _ (l : i < m) (r : Place) (o : r ≡ place_of book i f e) where
+    module _ (l : i < m) (r : Option (ℕ × ℕ)) (o : r ≡ place_of book i f e) where
       next : all_in_place book ≡ places_onward (placed_from book (i + 1) (blocks book - (i + 1))) r
       unfolding placed_from
       next = let k : blocks book - i ≡ suc (blocks book - (i + 1)) = omega arith in inv ∙ rw (k, o)
 
-      pub placed-stop : r ≡ Wrong → all_in_place book ≡ false
+      pub placed-stop : r ≡ None → all_in_place book ≡ false
       unfolding places_onward
       placed-stop h = next ∙ rw h
 
-      pub placed-again : (f' e' : ℕ) → r ≡ Next f' e' → all_in_place book ≡ placed_from book (i + 1) (blocks book - (i + 1)) f' e'
+      pub placed-again : (f' e' : ℕ) → r ≡ Some (f', e') → all_in_place book ≡ placed_from book (i + 1) (blocks book - (i + 1)) f' e'
       unfolding places_onward
       placed-again f' e' h = next ∙ rw h
 
@@ -120,27 +115,18 @@ module _ (book : List ℕ) where
 
 -- 2 before 3
 module _ (book : List ℕ) where
-  pub scan_sum : false ≡ sums book → scan.Sum ≡ scan_of book
+  pub scan_sum : false ≡ sums book → Sum ≡ scan_of book
   unfolding scan_of
   scan_sum h = rw (← h)
 
-  pub scan_form : true ≡ sums book → false ≡ all_in_place book → scan.Form ≡ scan_of book
+  pub scan_form : true ≡ sums book → false ≡ all_in_place book → Form ≡ scan_of book
   unfolding scan_of
   scan_form h g = rw (← h, ← g)
 
-  pub scan_right : true ≡ sums book → true ≡ all_in_place book → scan.Right ≡ scan_of book
+  pub scan_right : true ≡ sums book → true ≡ all_in_place book → Valid ≡ scan_of book
   unfolding scan_of
   scan_right h g = rw (← h, ← g)
 
-  module _ (t : Bool) (e : t ≡ sums book) where
-    pub misplaced_form : t ≡ true → scan.Form ≡ misplaced_scan book
-    unfolding misplaced_scan
-    misplaced_form h = rw (← e, h)
-
-    pub misplaced_sum : t ≡ false → scan.Sum ≡ misplaced_scan book
-    unfolding misplaced_scan
-    misplaced_sum h = rw (← e, h)
-
-  pub scan_misplaced : (r : Scan) → r ≡ misplaced_scan book → all_in_place book ≡ false → r ≡ scan_of book
+  pub scan_misplaced : (r : BookCheck) → r ≡ misplaced_scan book → all_in_place book ≡ false → r ≡ scan_of book
   unfolding scan_of misplaced_scan
   scan_misplaced r e h = e ∙ rw h

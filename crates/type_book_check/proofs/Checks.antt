@@ -2,40 +2,24 @@
 use mathlib.Core.Path.{◌≡◌, refl, sym, ◌∙◌}
 use mathlib.Core.Bool.{Bool, true, false, cond, not, ◌&&◌}
 use mathlib.Core.List.{List}
-use Prim.Native.Nat.{ℕ, ◌/◌, ◌%◌, ◌≤◌, ◌<◌}
+use Prim.Native.Nat.{ℕ, ◌/◌, ◌%◌, ◌≤◌}
 use native.Mathlib.Omega.{arith}
-use borrow.Author.Tests.{eq-eqb, ne_eqb, le-leb, lt-leb, lt-ltb, le-ltb, leb-true, ltb-true, eqb-true, not-true, not-false}
+use borrow.Author.Tests.{eq-eqb, ne_eqb, le-leb, leb-true, eqb-true, not-true, not-false}
 use lib.ListN.{length, take}
 use lib.Seq.{length-take-le}
-use lib.Dec.{eqb, leb, ltb}
+use lib.Dec.{eqb, leb}
 use Rattle.enc_number.specs.Answer.{refusal_of}
-use Rattle.type_book.specs.Book.{blocks, is_type}
+use Rattle.type_book.specs.Book.{blocks}
 use Rattle.type_doubles.specs.Doubles.{distinct}
 use Rattle.type_book_check.specs.Check.{size_right, sums, all_in_place, scan_of, check_blocks, check_book, book_numbers, root_of, check_root}
-use Rattle.type_book_check.specs.declared.Scan.{Scan}
-use Rattle.type_book_check.specs.declared.Scan.TheVariants as scan
 use Rattle.type_book_check.specs.declared.BookCheck.{BookCheck}
 use Rattle.type_book_check.specs.declared.BookCheck.TheVariants.{Valid, Size, Sum, Form, Doubled}
 use Rattle.type_book_check.specs.declared.RootCheck.{RootCheck}
-use Rattle.type_book_check.specs.declared.RootCheck.TheVariants.{Root, Refused}
+use Rattle.type_book_check.specs.declared.RootCheck.TheVariants.{Refused}
 use Rattle.type_book_check.proofs.Numbers.{zero-valid}
 use Rattle.type_block_form.proofs.Bytes.{and_left, and_right}
 
 -- ---- refusal 1
-module _ (room len : ℕ) where
-  pub size-past : room < len → false ≡ size_right room len
-  unfolding size_right
-  size-past h = rw (lt-leb len room h)
-
-  module _ (l : len ≤ room) where
-    pub size-part : (len % 512 ≡ 0 → ⊥) → false ≡ size_right room len
-    unfolding size_right
-    size-part h = rw (le-leb len room l, ne_eqb (len % 512) 0 h)
-
-    pub size-blocks : len % 512 ≡ 0 → leb (len / 512) 65536 ≡ size_right room len
-    unfolding size_right
-    size-blocks h = rw (le-leb len room l, eq-eqb (len % 512) 0 h)
-
 -- what 1 leaves
 pub record Sized (room len : ℕ) : Type 0 where
   pub fits : len ≤ room
@@ -51,12 +35,6 @@ sized room len h =
       whole = eqb-true _ _ (and_left (eqb (len % 512) 0) _ b);
       few = leb-true _ _ (and_right (eqb (len % 512) 0) _ b);
     }
-
--- what is answered after a pass over the blocks, where nothing is wrong by what `go` says
-unfoldable scanned : Scan → BookCheck → BookCheck
-scanned scan.Right go = go
-scanned scan.Sum go = Sum
-scanned scan.Form go = Form
 
 module _ (buffer : List ℕ) (len : ℕ) where
   module _ (z : Sized (length buffer) len) where
@@ -81,33 +59,33 @@ module _ (buffer : List ℕ) (len : ℕ) where
       pub book-few : blocks (take len buffer) ≤ 65536
       book-few = book-blocks fine
 
-      module _ (k : Scan) (o : k ≡ scan_of (take len buffer)) where
-        by_scan : check_book buffer len ≡ scanned k (cond (distinct (take len buffer)) Valid Doubled)
-        unfolding check_book check_blocks scan_of scanned
-        by_scan = rw (← e, not-false t h, o) (each (sums (take len buffer)) (all_in_place (take len buffer)))
+      module _ (k : BookCheck) (o : k ≡ scan_of (take len buffer)) where
+        pub book-refused : (k ≡ Valid → ⊥) → k ≡ check_book buffer len
+        unfolding check_book check_blocks scan_of
+        book-refused n = rw (← e, not-false t h) (each (sums (take len buffer)) (all_in_place (take len buffer)) o)
           where
-            each : (u v : Bool) → cond u (cond v (cond (distinct (take len buffer)) Valid Doubled) Form) Sum
-                ≡ scanned (cond u (cond v scan.Right scan.Form) scan.Sum) (cond (distinct (take len buffer)) Valid Doubled)
-            each true true = refl
-            each true false = refl
-            each false v = refl
+            each : (u v : Bool) → k ≡ cond u (cond v Valid Form) Sum → k ≡ cond u (cond v (cond (distinct (take len buffer)) Valid Doubled) Form) Sum
+            each true true g = absurd (n g)
+            each true false g = g
+            each false v g = g
 
-        pub book-sum : k ≡ scan.Sum → Sum ≡ check_book buffer len
-        unfolding scanned
-        book-sum g = sym (by_scan ∙ rw g)
+        -- a book whose blocks are right
+        named : k ≡ Valid → cond (distinct (take len buffer)) Valid Doubled ≡ check_book buffer len
+        unfolding check_book check_blocks scan_of
+        named g = rw (← e, not-false t h) (each (sums (take len buffer)) (all_in_place (take len buffer)) (sym o ∙ g))
+          where
+            each : (u v : Bool) → cond u (cond v Valid Form) Sum ≡ Valid
+                → cond (distinct (take len buffer)) Valid Doubled ≡ cond u (cond v (cond (distinct (take len buffer)) Valid Doubled) Form) Sum
+            each true true z = refl
+            each true false z = cc
+            each false v z = cc
 
-        pub book_form : k ≡ scan.Form → Form ≡ check_book buffer len
-        unfolding scanned
-        book_form g = sym (by_scan ∙ rw g)
-
-        module _ (g : k ≡ scan.Right) (w : Bool) (q : w ≡ distinct (take len buffer)) where
+        module _ (g : k ≡ Valid) (w : Bool) (q : w ≡ distinct (take len buffer)) where
           pub book_doubled : w ≡ false → Doubled ≡ check_book buffer len
-          unfolding scanned
-          book_doubled d = sym (by_scan ∙ rw (g, ← q, d))
+          book_doubled d = rw (← q, d) at (named g)
 
           pub book-valid : w ≡ true → Valid ≡ check_book buffer len
-          unfolding scanned
-          book-valid d = sym (by_scan ∙ rw (g, ← q, d))
+          book-valid d = rw (← q, d) at (named g)
 
 -- ---- what a valid book passed
 passed : (t : Bool) (a b : BookCheck) → (b ≡ Valid → ⊥) → cond t a b ≡ Valid → t ≡ true
@@ -145,8 +123,8 @@ unfolding check_book
 passed-size buffer len e = passed _ _ _ (λ q. let z : ◌≡◌ {A = ℕ} 0 1 = cc in omega arith) e
 
 pub size_in : (room len : ℕ) → len ≤ room → Sized len len → size_right room len ≡ true
-size_in room len l z =
-    sym (size-blocks room len l z.whole) ∙ le-leb (len / 512) 65536 z.few
+unfolding size_right
+size_in room len l z = rw (le-leb len room l, eq-eqb (len % 512) 0 z.whole) (le-leb (len / 512) 65536 z.few)
 
 pub size-again : (room len : ℕ) → size_right room len ≡ true → size_right len len ≡ true
 size-again room len h =
@@ -158,20 +136,6 @@ unfolding check_book check_blocks
 passes-again buffer len z s p d = rw (z, s, p, d)
 
 -- ---- the root
-module _ (book : List ℕ) (root : ℕ) where
-  pub root-past : (n : ℕ) → n ≡ blocks book → n ≤ root → Refused 5 ≡ root_of book root
-  unfolding root_of
-  root-past n e l = let h : blocks book ≤ root = omega arith in rw (le-ltb root (blocks book) h)
-
-  module _ (n : ℕ) (e : n ≡ blocks book) (l : root < n) (t : Bool) (q : t ≡ is_type book root) where
-    pub root-type : t ≡ true → Root root ≡ root_of book root
-    unfolding root_of
-    root-type h = let k : root < blocks book = omega arith in rw (lt-ltb root (blocks book) k, ← q, h)
-
-    pub root-other : t ≡ false → Refused 5 ≡ root_of book root
-    unfolding root_of
-    root-other h = let k : root < blocks book = omega arith in rw (lt-ltb root (blocks book) k, ← q, h)
-
 module _ (buffer : List ℕ) (len root : ℕ) (c : BookCheck) (e : c ≡ check_book buffer len) (k : ℕ) (q : k ≡ refusal_of (book_numbers c)) where
   pub root-refused : (k ≡ 0 → ⊥) → Refused k ≡ check_root buffer len root
   unfolding check_root

@@ -1,17 +1,16 @@
 -- A root that is given by its number or by its name: one law for each way out of the functions that check it, and what a call with it answers. Assumes
 -- nothing.
 use mathlib.Core.Path.{◌≡◌, refl, sym, ap, ◌∙◌}
-use mathlib.Core.Bool.{Bool, true, false, cond, not, ◌&&◌}
-use mathlib.Core.List.{List, [], ◌∷◌}
-use Prim.Native.Nat.{ℕ, ◌≤◌, ◌<◌}
+use mathlib.Core.Bool.{Bool, true, false, cond, not}
+use mathlib.Core.List.{List}
+use Prim.Native.Nat.{ℕ, ◌≤◌}
 use native.Mathlib.Omega.{arith}
-use borrow.Author.Tests.{eq-eqb, ne_eqb, le-leb, lt-leb, eqb-true, not-true, not-false}
+use borrow.Author.Tests.{eq-eqb, ne_eqb, eqb-true, not-true, not-false}
 use lib.ListN.{length, take}
 use lib.Seq.{length-take-le}
-use lib.Dec.{eqb, leb}
+use lib.Dec.{eqb}
 use Rattle.enc_number.specs.Answer.{refusal_of}
-use Rattle.type_book.specs.Book.{blocks, is_type}
-use Rattle.type_block_form.specs.Form.{every, is_printable}
+use Rattle.type_book.specs.Book.{is_type}
 use Rattle.type_provider.specs.Find.{find}
 use Rattle.type_provider.specs.declared.Found.{Found}
 use Rattle.type_provider.specs.declared.Found.TheVariants as found
@@ -22,10 +21,10 @@ use Rattle.type_book_check.specs.declared.RootCheck.{RootCheck}
 use Rattle.type_book_check.specs.declared.RootCheck.TheVariants as checked
 use Rattle.type_book_check.specs.declared.GivenRoot.{GivenRoot}
 use Rattle.type_book_check.specs.declared.GivenRoot.TheVariants.{Block, Lacking, Refused}
-use Rattle.type_book_check.specs.Given.{Given, number, name, lacking_root, given_numbers, is_root_name, numbered_root, found_root, given_root, check_given, at_given}
+use Rattle.type_book_check.specs.Given.{Given, number, name, given_numbers, is_root_name, numbered_root, found_root, given_root, check_given, at_given}
 use Rattle.type_book_check.proofs.Numbers.{zero-valid}
-use Rattle.type_book_check.proofs.Checks.{Sized, passes, book-length}
-use Rattle.type_book_check.proofs.Valid.{valid-book, valid-below}
+use Rattle.type_book_check.proofs.Checks.{passes, book-length}
+use Rattle.type_book_check.proofs.Valid.{valid-book}
 
 -- ---- the numbers tell it
 
@@ -43,17 +42,6 @@ given_is (Refused n) (Refused m) e = let q : n ≡ m = cc in ap Refused q
 
 pub given-says : (r a : GivenRoot) → r ≡ a → given_numbers r ≡ given_numbers a
 given-says r a e = ap given_numbers e
-
--- ---- the form of a root's name
-
-module _ (bytes : List ℕ) where
-  pub name-long : 200 < length bytes → false ≡ is_root_name bytes
-  unfolding is_root_name
-  name-long h = rw (lt-leb (length bytes) 200 h)
-
-  pub name-short : length bytes ≤ 200 → (t : Bool) → t ≡ every is_printable bytes → t ≡ is_root_name bytes
-  unfolding is_root_name
-  name-short h t e = rw (le-leb (length bytes) 200 h) e
 
 -- ---- a name in a book
 

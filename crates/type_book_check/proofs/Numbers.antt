@@ -1,6 +1,5 @@
 -- The numbers of a book's and of a root's check tell it. Assumes nothing.
-use mathlib.Core.Path.{◌≡◌, refl, sym, ap, ◌∙◌}
-use mathlib.Core.List.{List, [], ◌∷◌}
+use mathlib.Core.Path.{◌≡◌, refl, sym, ap}
 use Prim.Native.Nat.{ℕ}
 use native.Mathlib.Omega.{arith}
 use lib.ListN.{length}
@@ -61,23 +60,7 @@ root_is (Refused n) (Refused m) e = let q : n ≡ m = cc in ap Refused q
 pub root-says : (r a : RootCheck) → r ≡ a → root_numbers r ≡ root_numbers a
 root-says r a e = ap root_numbers e
 
--- the number of each check
+-- the number of a valid book
 pub valid-number : (c : BookCheck) → c ≡ Valid → 0 ≡ refusal_of (book_numbers c)
 unfolding book_numbers
 valid-number c e = rw e
-
-pub size_number : (c : BookCheck) → c ≡ Size → 1 ≡ refusal_of (book_numbers c)
-unfolding book_numbers
-size_number c e = rw e
-
-pub sum_number : (c : BookCheck) → c ≡ Sum → 2 ≡ refusal_of (book_numbers c)
-unfolding book_numbers
-sum_number c e = rw e
-
-pub form_number : (c : BookCheck) → c ≡ Form → 3 ≡ refusal_of (book_numbers c)
-unfolding book_numbers
-form_number c e = rw e
-
-pub doubled_number : (c : BookCheck) → c ≡ Doubled → 4 ≡ refusal_of (book_numbers c)
-unfolding book_numbers
-doubled_number c e = rw e

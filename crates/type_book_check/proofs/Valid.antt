@@ -18,7 +18,7 @@ use Rattle.type_provider.proofs.Finds.{named-own, find-is, searched-all}
 use Rattle.type_block_form.specs.Form.{every, is_zero, is_printable, part, unused_zero, name_form, names_form, flags_form, type_form, field_form, entry_form}
 use Rattle.type_doubles.specs.Doubles.{all_from, is_other, is_first}
 use Rattle.type_book_check.specs.Check.{size_right, place_of, places_onward, placed_from, check_blocks, check_book, ValidBook, root_of, check_root, book_numbers}
-use Rattle.type_book_check.specs.declared.Place.TheVariants.{Next, Wrong}
+use Rattle.std.specs.Prelude.{Some, None}
 use Rattle.type_book_check.specs.declared.BookCheck.TheVariants.{Valid}
 use Rattle.type_book_check.specs.declared.RootCheck.TheVariants.{Root, Refused}
 use Rattle.type_block_form.proofs.Bytes.{and_left, and_right}
@@ -147,12 +147,12 @@ pub record Run (book : List ℕ) (i k f e : ℕ) : Type 0 where
   pub entries : (j : ℕ) → j < e → entry_form (block_of book (i + f + j)) ≡ true
 
 -- how a block passes its place
-pub chosen : (t : Bool) (go : ℕ → ℕ → Bool) (f e : ℕ) → places_onward go (cond t (Next f e) Wrong) ≡ true → t ≡ true
+pub chosen : (t : Bool) (go : ℕ → ℕ → Bool) (f e : ℕ) → places_onward go (cond t (Some (f, e)) None) ≡ true → t ≡ true
 unfolding places_onward
 chosen true go f e h = refl
 chosen false go f e h = h
 
-pub went : (t : Bool) (go : ℕ → ℕ → Bool) (f e : ℕ) → places_onward go (cond t (Next f e) Wrong) ≡ true → go f e ≡ true
+pub went : (t : Bool) (go : ℕ → ℕ → Bool) (f e : ℕ) → places_onward go (cond t (Some (f, e)) None) ≡ true → go f e ≡ true
 unfolding places_onward
 went true go f e h = h
 went false go f e h = cc

@@ -1,14 +1,10 @@
 -- Refusals 1 to 5 of document 01, over a book that fills the first `len` bytes of a buffer. Assumes nothing.
-use Rattle.std.specs.Prelude.{◌≡◌, Bool, false, cond, ◌&&◌, List, [], ◌∷◌, ℕ, zero, suc, ◌+◌, ◌/◌, ◌%◌, length, take, eqb, leb, ltb}
+use Rattle.std.specs.Prelude.{◌≡◌, Bool, false, cond, ◌&&◌, List, [], ◌∷◌, Option, Some, None, ℕ, zero, suc, ◌+◌, ◌/◌, ◌%◌, length, take, eqb, leb, ltb}
 use Rattle.enc_number.specs.Answer.{refusal_of}
 use Rattle.enc_number.specs.Refusals as refusal
 use Rattle.type_book.specs.Book.{blocks, block_of, is_type, fields_of, entries_of}
 use Rattle.type_block_form.specs.Form.{sum_right, type_form, field_form, entry_form}
 use Rattle.type_doubles.specs.Doubles.{all_from, distinct}
-use Rattle.type_book_check.specs.declared.Place.{Place}
-use Rattle.type_book_check.specs.declared.Place.TheVariants.{Next, Wrong}
-use Rattle.type_book_check.specs.declared.Scan.{Scan}
-use Rattle.type_book_check.specs.declared.Scan.TheVariants as scan
 use Rattle.type_book_check.specs.declared.BookCheck.{BookCheck}
 use Rattle.type_book_check.specs.declared.BookCheck.TheVariants.{Valid, Size, Sum, Form, Doubled}
 use Rattle.type_book_check.specs.declared.RootCheck.{RootCheck}
@@ -26,16 +22,17 @@ sum_at book n = sum_right (block_of book n)
 abbrev pub sums : List ℕ → Bool
 sums book = all_from (sum_at book) 0 (blocks book)
 
--- 3: with f fields and e entries due, block n has to be a field, then an entry, then a type, whose own fields and entries are due next
-unfoldable pub place_of : List ℕ → ℕ → ℕ → ℕ → Place
-place_of book n (suc f) e = cond (field_form (block_of book n)) (Next f e) Wrong
-place_of book n zero (suc e) = cond (entry_form (block_of book n)) (Next zero e) Wrong
-place_of book n zero zero = cond (type_form (block_of book n)) (Next (fields_of book n) (entries_of book n)) Wrong
+-- 3: with f fields and e entries due, block n has to be a field, then an entry, then a type, whose own fields and entries are due next;
+-- nothing where it is not of its place
+unfoldable pub place_of : List ℕ → ℕ → ℕ → ℕ → Option (ℕ × ℕ)
+place_of book n (suc f) e = cond (field_form (block_of book n)) (Some (f, e)) None
+place_of book n zero (suc e) = cond (entry_form (block_of book n)) (Some (zero, e)) None
+place_of book n zero zero = cond (type_form (block_of book n)) (Some (fields_of book n, entries_of book n)) None
 
 -- what `go` says of the fields and entries due after a block; after a block that is not of its place, false
-unfoldable pub places_onward : (ℕ → ℕ → Bool) → Place → Bool
-places_onward go (Next f e) = go f e
-places_onward go Wrong = false
+unfoldable pub places_onward : (ℕ → ℕ → Bool) → Option (ℕ × ℕ) → Bool
+places_onward go (Some due) = go due.0 due.1
+places_onward go None = false
 
 -- the k blocks from block n on have the form of their places, and nothing is due after them
 unfoldable pub placed_from : List ℕ → ℕ → ℕ → ℕ → ℕ → Bool
@@ -47,12 +44,12 @@ abbrev pub all_in_place : List ℕ → Bool
 all_in_place book = placed_from book 0 (blocks book) 0 0
 
 -- the refusal of a book in which a block has not the form of its place: 3, unless 2 comes first
-unfoldable pub misplaced_scan : List ℕ → Scan
-misplaced_scan book = cond (sums book) scan.Form scan.Sum
+unfoldable pub misplaced_scan : List ℕ → BookCheck
+misplaced_scan book = cond (sums book) Form Sum
 
 -- what a pass over the blocks finds: all of 2 before all of 3
-unfoldable pub scan_of : List ℕ → Scan
-scan_of book = cond (sums book) (cond (all_in_place book) scan.Right scan.Form) scan.Sum
+unfoldable pub scan_of : List ℕ → BookCheck
+scan_of book = cond (sums book) (cond (all_in_place book) Valid Form) Sum
 
 -- 2 to 4 of a book: all of 2 before all of 3, all of 3 before 4, which is `distinct`: no two types of one name
 unfoldable pub check_blocks : List ℕ → BookCheck

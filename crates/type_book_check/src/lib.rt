@@ -9,6 +9,7 @@ ghost use Rattle.type_book_check.specs.Check.{size_right, sum_at, sums, place_of
 ghost use Rattle.type_book_check.specs.Given.{name as by_name, is_root_name, given_root, given_numbers, check_given};
 
 use type_block_form::{all_printable, entry_form, field_form, sum_right, type_form};
+use type_book::block;
 use type_book::block::BLOCK;
 use type_doubles::distinct;
 use type_provider::{Found, find};
@@ -41,21 +42,6 @@ pub enum GivenRoot {
 // The number that stands for a root's name which the book lacks. No book has so many blocks.
 pub const LACKING_ROOT: u32 = 4294967295;
 
-// What is due after a block: fields, then entries.
-#[derive(Clone, Copy)]
-enum Place {
-    Next(u32, u32),
-    Wrong,
-}
-
-// What one pass over all blocks finds: nothing wrong, or the refusal that comes first of 2 and 3.
-#[derive(Clone, Copy)]
-enum Scan {
-    Right,
-    Sum,
-    Form,
-}
-
 // ---- the whole book
 
 fn block_at(book: &[u8], n: u32) -> &[u8]
@@ -71,7 +57,7 @@ fn count(book: &[u8]) -> u32
     requires { blocks_of book.now ≤ 65536 }
     ensures { result ≡ blocks_of book.now }
 {
-    type_book::block::blocks(book) as u32
+    block::blocks(book) as u32
 }
 
 // Every block holds its sum. Asked of a book with a block of a wrong form, since 2 comes before 3.
@@ -79,96 +65,74 @@ fn sums_right(book: &[u8]) -> bool
     requires { blocks_of book.now ≤ 65536 }
     ensures { result ≡ sums book.now }
 {
-    let n = count(book);
-    let mut i: u32 = 0;
-    while i < n {
+    for i in 0..count(book) {
         if !sum_right(block_at(book, i)) {
             return false;
         }
-        i += 1;
     }
     true
 }
 
-// Holds block n, whose sum is right, against its place. The two counts may be any u32: they are counted down, and never added.
-fn due_after(book: &[u8], n: u32, fields: u32, entries: u32) -> Place
+// Holds block n, whose sum is right, against its place, and gives the fields and entries that are due after it. The two counts may be any
+// u32: they are counted down, and never added.
+fn due_after(book: &[u8], n: u32, fields: u32, entries: u32) -> Option<(u32, u32)>
     requires { (n < blocks_of book.now) × (sum_at book.now n ≡ true) }
     ensures { result ≡ place_of book.now n fields entries }
 {
     let block = block_at(book, n);
     if fields > 0 {
-        if field_form(block) {
-            return Place::Next(fields - 1, entries);
-        }
-        return Place::Wrong;
+        return field_form(block).then_some((fields - 1, entries));
     }
     if entries > 0 {
-        if entry_form(block) {
-            return Place::Next(0, entries - 1);
-        }
-        return Place::Wrong;
+        return entry_form(block).then_some((0, entries - 1));
     }
-    if type_form(block) {
-        return Place::Next(
-            type_book::block::fields(book, n),
-            type_book::block::entries(book, n),
-        );
-    }
-    Place::Wrong
+    type_form(block).then_some((block::fields(book, n), block::entries(book, n)))
 }
 
 // The refusal of a book in which a block has not the form of its place.
-fn misplaced(book: &[u8]) -> Scan
+#[tactic(auto, unfolding(crate::specs::Check::misplaced_scan))]
+fn misplaced(book: &[u8]) -> BookCheck
     requires { blocks_of book.now ≤ 65536 }
     ensures { result ≡ misplaced_scan book.now }
 {
     if sums_right(book) {
-        return Scan::Form;
+        BookCheck::Form
+    } else {
+        BookCheck::Sum
     }
-    Scan::Sum
 }
 
 // Sums and forms of all blocks, in one pass: a block's bytes are near when its form is tested.
-fn scanned(book: &[u8]) -> Scan
+fn scanned(book: &[u8]) -> BookCheck
     requires { blocks_of book.now ≤ 65536 }
     ensures { result ≡ scan_of book.now }
 {
-    let n = count(book);
     let mut fields: u32 = 0;
     let mut entries: u32 = 0;
-    let mut i: u32 = 0;
-    while i < n {
+    for i in 0..count(book) {
         if !sum_right(block_at(book, i)) {
-            return Scan::Sum;
+            return BookCheck::Sum;
         }
-        let Place::Next(f, e) = due_after(book, i, fields, entries) else {
+        let Some((f, e)) = due_after(book, i, fields, entries) else {
             return misplaced(book);
         };
         fields = f;
         entries = e;
-        i += 1;
     }
-    if fields != 0 {
-        return Scan::Form;
+    if fields == 0 && entries == 0 {
+        BookCheck::Valid
+    } else {
+        BookCheck::Form
     }
-    if entries != 0 {
-        return Scan::Form;
-    }
-    Scan::Right
 }
 
 // ---- the calls
 
+#[tactic(auto, unfolding(crate::specs::Check::size_right))]
 fn size_right(room: usize, len: usize) -> bool
     ensures { result ≡ size_right room len }
 {
-    if len > room {
-        return false;
-    }
-    if len % BLOCK != 0 {
-        return false;
-    }
-    len / BLOCK <= 65536
+    len <= room && len % BLOCK == 0 && len / BLOCK <= 65536
 }
 
 // Refusals 1 to 4 of the book that fills the first `len` bytes of a buffer.
@@ -182,20 +146,20 @@ pub fn check_book(buffer: &[u8], len: usize) -> BookCheck
         return BookCheck::Size;
     }
     let book = &buffer[..len];
-    let scan = scanned(book);
-    match scan {
-        Scan::Sum => BookCheck::Sum,
-        Scan::Form => BookCheck::Form,
-        Scan::Right => {
+    match scanned(book) {
+        BookCheck::Valid => {
             if distinct(book, &mut marks) {
-                return BookCheck::Valid;
+                BookCheck::Valid
+            } else {
+                BookCheck::Doubled
             }
-            BookCheck::Doubled
         }
+        refused => refused,
     }
 }
 
 // Document 01's number of a refusal, 0 for none.
+#[tactic(auto, unfolding(crate::specs::Check::book_numbers))]
 pub fn refusal_of(check: BookCheck) -> u8
     ensures { result ≡ refusal_of (book_numbers check) }
 {
@@ -208,16 +172,13 @@ pub fn refusal_of(check: BookCheck) -> u8
     }
 }
 
+#[tactic(auto, unfolding(crate::specs::Check::root_of))]
 fn root_of(book: &[u8], root: u64) -> RootCheck
     requires { blocks_of book.now ≤ 65536 }
     ensures { result ≡ root_of book.now root }
 {
-    if root >= type_book::block::blocks(book) as u64 {
-        return RootCheck::Refused(5);
-    }
-    let n = root as u32;
-    if type_book::block::is_type(book, n) {
-        return RootCheck::Root(n);
+    if root < block::blocks(book) as u64 && block::is_type(book, root as u32) {
+        return RootCheck::Root(root as u32);
     }
     RootCheck::Refused(5)
 }
@@ -234,13 +195,11 @@ pub fn check_root(buffer: &[u8], len: usize, root: u64) -> RootCheck
 }
 
 // A root's name has 0 to 200 bytes, each of which may stand in a name.
+#[tactic(auto, unfolding(crate::specs::Given::is_root_name))]
 fn is_root_name(name: &[u8]) -> bool
     ensures { result ≡ is_root_name name.now }
 {
-    if name.len() > 200 {
-        return false;
-    }
-    all_printable(name)
+    name.len() <= 200 && all_printable(name)
 }
 
 fn named_root(book: &[u8], name: &[u8]) -> GivenRoot
@@ -249,8 +208,7 @@ fn named_root(book: &[u8], name: &[u8]) -> GivenRoot
     if !is_root_name(name) {
         return GivenRoot::Refused(23);
     }
-    let found = find(book, name);
-    match found {
+    match find(book, name) {
         Found::At(n) => GivenRoot::Block(n),
         Found::Nothing => GivenRoot::Lacking,
     }

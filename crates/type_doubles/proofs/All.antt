@@ -1,32 +1,17 @@
 -- A test of every block, from the first on. Assumes nothing.
 use mathlib.Core.Path.{◌≡◌, refl, sym, ◌∙◌}
-use mathlib.Core.Bool.{Bool, true, false, ◌&&◌}
-use Prim.Native.Nat.{ℕ, zero, suc, ◌+◌, ◌-◌, ◌≤◌, ◌<◌}
+use mathlib.Core.Bool.{Bool, true, false}
+use Prim.Native.Nat.{ℕ, zero, suc, ◌+◌, ◌≤◌, ◌<◌}
 use native.Mathlib.Omega.{arith}
 use lib.Dec.{eqb}
 use borrow.Author.Tests.{eqb-true, eqb-false}
 use Rattle.type_block_form.proofs.Bytes.{and_left, and_right}
+use lib.ListN.{length}
+use Rattle.std.proofs.Common.{zero-add}
+use Rattle.std.proofs.lemmas.List.FromFn.{length-range_with_len, get_or-range_with_len}
+use Rattle.std.specs.Bool.{MatchBool}
+use Rattle.std.specs.List.{range_with_len, AllWithin, HoldsAt}
 use Rattle.type_doubles.specs.Doubles.{all_from}
-
-module _ (p : ℕ → Bool) (n : ℕ) where
-  pub all_start : all_from p 0 n ≡ all_from p 0 (n - 0)
-  all_start = let k : n - 0 ≡ n = omega arith in rw k
-
-  module _ (i : ℕ) (inv : all_from p 0 n ≡ all_from p i (n - i)) (m : ℕ) (e : m ≡ n) where
-    module _ (l : i < m) where
-      turn : all_from p 0 n ≡ p i && all_from p (i + 1) (n - (i + 1))
-      unfolding all_from
-      turn = let k : n - i ≡ suc (n - (i + 1)) = omega arith in inv ∙ rw k
-
-      pub all-stop : p i ≡ false → false ≡ all_from p 0 n
-      all-stop h = sym (turn ∙ rw h)
-
-      pub all-again : p i ≡ true → all_from p 0 n ≡ all_from p (i + 1) (n - (i + 1))
-      all-again h = turn ∙ rw h
-
-    pub all_end : m ≤ i → true ≡ all_from p 0 n
-    unfolding all_from
-    all_end h = let k : n - i ≡ 0 = omega arith in sym (inv ∙ rw k)
 
 -- what every block passes, and back
 all-from : (p : ℕ → Bool) (i k : ℕ) → ((m : ℕ) → i ≤ m → m < i + k → p m ≡ true) → all_from p i k ≡ true
@@ -48,3 +33,20 @@ each_from p i (suc k) h m l g = by (eqb m i) refl (each_from p (i + 1) k (and_ri
 
 pub each_of : (p : ℕ → Bool) (n : ℕ) → all_from p 0 n ≡ true → (m : ℕ) → m < n → p m ≡ true
 each_of p n h m l = each_from p 0 n h m (omega arith) (omega arith)
+
+-- one block that fails
+pub all-fails : (p : ℕ → Bool) (n i : ℕ) → i < n → p i ≡ false → false ≡ all_from p 0 n
+all-fails p n i l f = by (all_from p 0 n) refl
+  where
+    by : (t : Bool) → all_from p 0 n ≡ t → false ≡ t
+    by false e = refl
+    by true e = sym f ∙ each_of p n e i l
+
+-- what a chain over the numbers of the blocks says: each passes, or one does not
+pub all-cases : (p : ℕ → Bool) (n : ℕ) (r : Bool)
+    → MatchBool r (AllWithin (λ m. p m ≡ true) (range_with_len 0 n) 0 (length (range_with_len 0 n))) ((k : ℕ) × (k < length (range_with_len 0 n)) × HoldsAt (λ m. p m ≡ false) (range_with_len 0 n) k)
+    → r ≡ all_from p 0 n
+all-cases p n true h =
+    sym (all_of p n (λ m l. rw (get_or-range_with_len 0 n m 0 l, zero-add m) at (h m 0 (omega arith) (omega (arith, length-range_with_len 0 n)))))
+all-cases p n false h =
+    all-fails p n h.0 (omega (arith, h.1, length-range_with_len 0 n)) (rw (get_or-range_with_len 0 n h.0 0 (omega (arith, h.1, length-range_with_len 0 n)), zero-add h.0) at (h.2 0))

@@ -2,7 +2,7 @@
 use mathlib.Core.Path.{◌≡◌, refl, sym, ◌∙◌}
 use mathlib.Core.Bool.{Bool, true, false, not, ◌||◌}
 use mathlib.Core.List.{List}
-use Prim.Native.Nat.{ℕ, ◌+◌, ◌-◌, ◌<◌}
+use Prim.Native.Nat.{ℕ, ◌+◌, ◌<◌}
 use native.Mathlib.Omega.{arith}
 use borrow.Author.Count.{below_more}
 use borrow.Author.Tests.{not-true, not-false}
@@ -14,17 +14,12 @@ use Rattle.type_order.specs.Names.{Apart, Twice, OrderDecided}
 use Rattle.type_doubles.specs.Doubles.{all_from, is_other, is_first, distinct}
 use Rattle.type_marks.specs.Marks.{hash_of, is_marked, Marked}
 use Rattle.type_doubles.specs.Met.{MarkedTo, MetIs}
-use Rattle.type_doubles.proofs.All.{all_of, each_of, all-again}
+use Rattle.type_doubles.proofs.All.{all_of, each_of}
 
 -- ---- comparing names
-module _ (book name : List ℕ) (n : ℕ) (t : Bool) (e : t ≡ is_named book name n) where
-  pub other_fails : t ≡ true → is_other book name n ≡ false
-  unfolding is_other
-  other_fails h = rw (← e, h)
-
-  pub other-holds : t ≡ false → is_other book name n ≡ true
-  unfolding is_other
-  other-holds h = rw (← e, h)
+pub other-holds : (book name : List ℕ) (n : ℕ) (t : Bool) → t ≡ is_named book name n → t ≡ false → is_other book name n ≡ true
+unfolding is_other
+other-holds book name n t e h = rw (← e, h)
 
 -- ---- the types met, by their marks
 pub marked-none : (book marks : List ℕ) → MarkedTo book marks 0
@@ -61,13 +56,6 @@ module _ (book marks : List ℕ) (n : ℕ) (to : MarkedTo book marks n) where
       yes : is_type book n ≡ true
       yes = sym e ∙ not-false t h
 
-      pub met-marked : g ≡ true → MetIs book n true marks
-      met-marked k =
-          record {
-            new = λ v. cc;
-            marked = one_more marks (λ u v. v) (λ v. rw (← q, ← o, ← w) k);
-          }
-
       pub met-new : g ≡ false → (marks' : List ℕ) → Marked marks s marks' → MetIs book n false marks'
       unfolding is_first
       met-new k marks' m =
@@ -75,22 +63,6 @@ module _ (book marks : List ℕ) (n : ℕ) (to : MarkedTo book marks n) where
             new = λ v. rw (yes, ← q) (all_of _ n (new book marks name n to (rw (← o, ← w) k)));
             marked = one_more marks' m.kept (λ v. rw (← q, ← o) m.here);
           }
-
-pub met-first : {book marks' : List ℕ} {n : ℕ} {r : Bool} → MetIs book n r marks' → not r ≡ true → is_first book n ≡ true
-met-first m h = m.new (not-true _ h)
-
--- ---- a type compared with all before it
-module _ (book : List ℕ) (n : ℕ) (t : Bool) (e : t ≡ is_type book n) where
-  pub alone-type : t ≡ true → (name : List ℕ) → name ≡ name_of book n → (r : Bool) → r ≡ all_from (is_other book name) 0 n → r ≡ is_first book n
-  unfolding is_first
-  alone-type h name q r p = rw (← e, h, ← q) p
-
-  pub alone-field : t ≡ false → true ≡ is_first book n
-  unfolding is_first
-  alone-field h = rw (← e, h)
-
-pub alone-again : (book : List ℕ) (i : ℕ) → distinct book ≡ all_from (is_first book) i (blocks book - i) → (m : ℕ) → m ≡ blocks book → i < m → (r : Bool) → r ≡ is_first book i → r ≡ true → distinct book ≡ all_from (is_first book) (i + 1) (blocks book - (i + 1))
-alone-again book i inv m em l r e h = all-again (is_first book) (blocks book) i inv m em l (sym e ∙ h)
 
 -- ---- what an order of the names decides
 first-apart : (book : List ℕ) → Apart book → (n : ℕ) → n < blocks book → is_first book n ≡ true

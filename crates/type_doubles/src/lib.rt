@@ -6,6 +6,7 @@ ghost use Rattle.type_book.specs.Book.{blocks as blocks_of};
 ghost use Rattle.type_doubles.specs.Doubles.{all_from, is_other, is_first, distinct as distinct_in};
 ghost use Rattle.type_doubles.specs.Met.{MarkedTo, MetIs};
 
+use type_book::block;
 use type_marks::{hash, is_marked, mark};
 use type_order::Order;
 
@@ -16,24 +17,15 @@ const COMPARED: u32 = 192;
 fn is_new(book: &[u8], name: &[u8], n: u32) -> bool
     ensures { result ≡ all_from (is_other book.now name.now) 0 n }
 {
-    let mut i: u32 = 0;
-    while i < n {
-        if type_provider::is_named(book, name, i) {
-            return false;
-        }
-        i += 1;
-    }
-    true
+    (0..n).all(|i| !type_provider::is_named(book, name, i))
 }
 
 // Whether block n is no type block, or no block before it has its name.
+#[tactic(auto, unfolding(crate::specs::Doubles::is_first))]
 fn is_alone(book: &[u8], n: u32) -> bool
     ensures { result ≡ is_first book.now n }
 {
-    if type_book::block::is_type(book, n) {
-        return is_new(book, type_book::block::name(book, n), n);
-    }
-    true
+    !block::is_type(book, n) || is_new(book, block::name(book, n), n)
 }
 
 // Whether the name of type block n has to be compared with those before it: a name whose hash is not marked is new, and is marked.
@@ -41,10 +33,10 @@ fn is_met(book: &[u8], marks: &mut [u32], n: u32) -> bool
     requires { (length marks.old ≡ 32768) × MarkedTo book.now marks.old n }
     ensures { MetIs book.now n result marks.new }
 {
-    if !type_book::block::is_type(book, n) {
+    if !block::is_type(book, n) {
         return false;
     }
-    let h = hash(type_book::block::name(book, n));
+    let h = hash(block::name(book, n));
     if is_marked(marks, h) {
         return true;
     }
@@ -57,24 +49,17 @@ fn all_compared(book: &[u8]) -> bool
     requires { blocks_of book.now ≤ 65536 }
     ensures { result ≡ distinct_in book.now }
 {
-    let n = type_book::block::blocks(book) as u32;
-    let mut i: u32 = 0;
-    while i < n {
-        if !is_alone(book, i) {
-            return false;
-        }
-        i += 1;
-    }
-    true
+    let n = block::blocks(book) as u32;
+    (0..n).all(|i| is_alone(book, i))
 }
 
 // By an order of the names, whose time does not go by their hashes. The marks are not needed any more and lend their room.
+#[tactic(auto, using(crate::proofs::Doubles::distinct_apart, crate::proofs::Doubles::distinct_twice))]
 fn by_order(book: &[u8], marks: &mut [u32]) -> bool
     requires { blocks_of book.now ≤ 65536 }
     ensures { result ≡ distinct_in book.now }
 {
-    let order = type_order::decide(book, marks);
-    match order {
+    match type_order::decide(book, marks) {
         Order::Distinct => true,
         Order::Doubled => false,
         Order::Unknown => all_compared(book),
@@ -87,12 +72,10 @@ pub fn distinct(book: &[u8], marks: &mut [u32]) -> bool
     requires { (length marks.old ≡ 32768) × (blocks_of book.now ≤ 65536) }
     ensures { result ≡ distinct_in book.now }
 {
-    let n = type_book::block::blocks(book) as u32;
+    let n = block::blocks(book) as u32;
     let mut left = COMPARED;
-    let mut i: u32 = 0;
-    while i < n {
+    for i in 0..n {
         if !is_met(book, marks, i) {
-            i += 1;
             continue;
         }
         if left == 0 {
@@ -102,7 +85,6 @@ pub fn distinct(book: &[u8], marks: &mut [u32]) -> bool
             return false;
         }
         left -= 1;
-        i += 1;
     }
     true
 }

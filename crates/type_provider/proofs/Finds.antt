@@ -3,7 +3,7 @@ use mathlib.Core.Path.{◌≡◌, refl, sym, ap, ◌∙◌}
 use mathlib.Core.Bool.{Bool, true, false, cond, ◌&&◌}
 use mathlib.Core.List.{List, ◌++◌}
 use mathlib.Core.Logic.{⊎_elim}
-use Prim.Native.Nat.{ℕ, zero, suc, ◌+◌, ◌-◌, ◌≤◌, ◌<◌}
+use Prim.Native.Nat.{ℕ, zero, suc, ◌+◌, ◌≤◌, ◌<◌}
 use native.Mathlib.Omega.{arith}
 use native.Mathlib.Nat.{eq-or-lt_of_le}
 use lib.ListN.{length-append}
@@ -16,14 +16,9 @@ use Rattle.type_book.proofs.Names.{same_eq, same_refl}
 -- ---- a type block of that name
 
 module _ (book name : List ℕ) (n : ℕ) where
-  module _ (t : Bool) (et : t ≡ is_type book n) where
-    pub named-type : t ≡ true → (s : List ℕ) → s ≡ name_of book n → (r : Bool) → r ≡ same_name s name → r ≡ is_named book name n
-    unfolding is_named
-    named-type h s es r er = er ∙ rw (← et, h, es)
-
-    pub named_other : t ≡ false → false ≡ is_named book name n
-    unfolding is_named
-    named_other h = rw (← et, h)
+  pub named-type : (t : Bool) → t ≡ is_type book n → t ≡ true → (s : List ℕ) → s ≡ name_of book n → (r : Bool) → r ≡ same_name s name → r ≡ is_named book name n
+  unfolding is_named
+  named-type t et h s es r er = er ∙ rw (← et, h, es)
 
   -- a type block of that name is a type block, and its name is that name
   parts : (g : Bool) → is_type book n ≡ g → g && same_name (name_of book n) name ≡ true → (is_type book n ≡ true) × (name_of book n ≡ name)
@@ -139,26 +134,14 @@ module _ (book name : List ℕ) where
   unfolding find
   find-lacks f = from-lacks (searched book) 0 (λ m a c. f m (omega arith))
 
-  -- ---- the loop of `find`
+  -- ---- the ways out of `find`, where none of the first i blocks has that name
 
-  pub find-start : (n : ℕ) → n ≡ searched book → find book name ≡ find_from book name 0 (n - 0)
-  unfolding find
-  find-start n e = let q : searched book ≡ n - 0 = omega arith in ap (find_from book name 0) q
+  module _ (i : ℕ) (none : (k : ℕ) → k < i → is_named book name k ≡ false) where
+    pub find-here : (n : ℕ) → n ≡ searched book → i < n → (t : Bool) → t ≡ is_named book name i → t ≡ true → At i ≡ find book name
+    find-here n q l t e h = sym (find-is i (record { below = rw (← q) l; named = sym e ∙ h }) none)
 
-  module _ (n i : ℕ) (inv : find book name ≡ find_from book name i (n - i)) where
-    module _ (l : i < n) (t : Bool) (e : t ≡ is_named book name i) where
-      turn : find book name ≡ cond t (At i) (find_from book name (i + 1) (n - (i + 1)))
-      turn = let k : n - i ≡ suc (n - (i + 1)) = omega arith in inv ∙ ap (find_from book name i) k ∙ step i (n - (i + 1)) t e
-
-      pub find-here : t ≡ true → At i ≡ find book name
-      find-here h = sym (turn ∙ rw h)
-
-      pub find-again : t ≡ false → find book name ≡ find_from book name (i + 1) (n - (i + 1))
-      find-again h = turn ∙ rw h
-
-    pub find-end : n ≤ i → Nothing ≡ find book name
-    unfolding find_from
-    find-end h = let k : n - i ≡ 0 = omega arith in sym (inv ∙ ap (find_from book name i) k)
+    pub find-end : (n : ℕ) → n ≡ searched book → n ≤ i → Nothing ≡ find book name
+    find-end n q l = sym (find-lacks (λ m h. none m (omega arith)))
 
 -- ---- books whose names are unique
 

@@ -21,21 +21,15 @@ const MAX_BLOCKS: usize = 65536;
 pub fn searched(book: &[u8]) -> u32
     ensures { result ≡ searched_of book.now }
 {
-    let n = block::blocks(book);
-    if n < MAX_BLOCKS {
-        return n as u32;
-    }
-    MAX_BLOCKS as u32
+    block::blocks(book).min(MAX_BLOCKS) as u32
 }
 
 // Whether block n is a type block of that name.
+#[tactic(auto, unfolding(type_book::specs::Book::is_named))]
 pub fn is_named(book: &[u8], name: &[u8], n: u32) -> bool
     ensures { result ≡ is_named book.now name.now n }
 {
-    if block::is_type(book, n) {
-        return block::same_name(block::name(book, n), name);
-    }
-    false
+    block::is_type(book, n) && block::same_name(block::name(book, n), name)
 }
 
 // The first type block of that name.
@@ -43,12 +37,10 @@ pub fn find(book: &[u8], name: &[u8]) -> Found
     ensures { found_numbers result ≡ found_numbers (find_in book.now name.now) }
 {
     let n = searched(book);
-    let mut i: u32 = 0;
-    while i < n {
+    for i in 0..n {
         if is_named(book, name, i) {
             return Found::At(i);
         }
-        i += 1;
     }
     Found::Nothing
 }

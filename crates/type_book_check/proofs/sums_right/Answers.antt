@@ -1,17 +1,15 @@
-use borrow.Author.Rules.{rules}
-use Prim.Native.Nat.{◌-◌}
-use Rattle.type_doubles.proofs.All.{all_start, all-stop, all-again, all_end}
+use mathlib.Core.Path.{sym}
+use borrow.Author.Count.{below_more}
+use native.Mathlib.Omega.{arith}
+use Rattle.type_doubles.proofs.All.{all-fails, all_of}
 use Rattle.type_book_check.proofs.Blocks.{sum_fails, sum-holds}
 use Rattle.type_book_check.proofs.sums_right.Goals as goal
 
-pub loop-i-init : goal.loop-i-init
-loop-i-init c = (search rules, search all_start)
-
 pub returns-then-not-sum_right : goal.returns-then-not-sum_right
-returns-then-not-sum_right c = search (all-stop, sum_fails)
+returns-then-not-sum_right c = all-fails _ _ c.loop-i.i (omega arith) (search sum_fails)
 
 pub loop-i-preserved : goal.loop-i-preserved
-loop-i-preserved c = (search rules, search (all-again, sum-holds))
+loop-i-preserved c = below_more _ _ c.loop-i.invariant (search sum-holds)
 
 pub returns : goal.returns
-returns c = search all_end
+returns c = sym (all_of _ _ (λ m l. c.loop-i.invariant m (omega arith)))

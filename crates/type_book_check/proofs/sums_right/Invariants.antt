@@ -1,12 +1,8 @@
 use mathlib.Core.Path.{◌≡◌}
-use Prim.Native.Nat.{◌≤◌, ◌-◌}
-use Rattle.type_book.specs.Book.{blocks}
-use Rattle.type_doubles.specs.Doubles.{all_from}
-use Rattle.type_book_check.specs.Check.{sums, sum_at}
+use mathlib.Core.Bool.{true}
+use Prim.Native.Nat.{ℕ, ◌<◌}
+use Rattle.type_book_check.specs.Check.{sum_at}
 use Rattle.type_book_check.proofs.sums_right.Given as goal
 
 abbrev pub invariant-loop-i : goal.invariant-loop-i
-invariant-loop-i l = (l.i ≤ l.n) × (sums l.book ≡ all_from (sum_at l.book) l.i (blocks l.book - l.i))
-
-abbrev pub decreases-loop-i : goal.decreases-loop-i
-decreases-loop-i l = l.n - l.i
+invariant-loop-i l = (m : ℕ) → m < l.i → sum_at l.book m ≡ true

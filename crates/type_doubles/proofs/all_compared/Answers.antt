@@ -1,18 +1,16 @@
 use borrow.Author.Rules.{rules}
-use Prim.Native.Nat.{◌-◌}
-use borrow.Author.Tests.{not-true, not-false}
-use Rattle.type_block_form.proofs.Bytes.{said}
-use Rattle.type_doubles.proofs.All.{all_start, all-stop, all-again, all_end}
+use native.Mathlib.Omega.{arith}
+use mathlib.Core.Path.{◌≡◌}
+use mathlib.Core.Bool.{true, false}
+use Rattle.std.proofs.lemmas.Iterator.{cases_from_all, YieldsList-from_range}
+use Rattle.type_doubles.specs.Doubles.{is_first}
+use Rattle.type_doubles.proofs.All.{all-cases}
 use Rattle.type_doubles.proofs.all_compared.Goals as goal
 
-pub loop-i-init : goal.loop-i-init
-loop-i-init c = (search rules, search all_start)
-
-pub returns-then-not-is_alone : goal.returns-then-not-is_alone
-returns-then-not-is_alone c = search (all-stop, said, not-true)
-
-pub loop-i-preserved : goal.loop-i-preserved
-loop-i-preserved c = (search rules, search (all-again, said, not-false))
-
 pub returns : goal.returns
-returns c = search all_end
+returns c =
+    rw c.blocks-n.ensures at
+    (all-cases (is_first c.args.book.now) c.blocks-n.result _
+    (cases_from_all _ _ _ (λ m. is_first c.args.book.now m ≡ true) (λ m. is_first c.args.book.now m ≡ false) c.all.ensures.ran
+    (YieldsList-from_range 0 c.blocks-n.result c.blocks-n.result (cc) (omega arith))
+    (λ x q k. search rules) (λ x q k. search rules)))

@@ -1,13 +1,10 @@
 use mathlib.Core.Path.{◌≡◌}
-use Prim.Native.Nat.{◌≤◌, ◌-◌}
+use mathlib.Core.Bool.{true}
+use Prim.Native.Nat.{ℕ, ◌<◌}
 use lib.ListN.{length}
-use Rattle.type_book.specs.Book.{blocks}
-use Rattle.type_doubles.specs.Doubles.{all_from, distinct, is_first}
+use Rattle.type_doubles.specs.Doubles.{is_first}
 use Rattle.type_doubles.specs.Met.{MarkedTo}
 use Rattle.type_doubles.proofs.distinct.Given as goal
 
 abbrev pub invariant-loop-i : goal.invariant-loop-i
-invariant-loop-i l = (l.i ≤ l.n) × (length l.marks ≡ 32768) × MarkedTo l.book l.marks l.i × (distinct l.book ≡ all_from (is_first l.book) l.i (blocks l.book - l.i))
-
-abbrev pub decreases-loop-i : goal.decreases-loop-i
-decreases-loop-i l = l.n - l.i
+invariant-loop-i l = (length l.marks ≡ 32768) × MarkedTo l.book l.marks l.i × ((m : ℕ) → m < l.i → is_first l.book m ≡ true)

@@ -1,17 +1,16 @@
 use borrow.Author.Rules.{rules}
-use Prim.Native.Nat.{◌-◌}
-use Rattle.type_doubles.proofs.All.{all_start, all-stop, all-again, all_end}
-use Rattle.type_doubles.proofs.Doubles.{other_fails, other-holds}
+use native.Mathlib.Omega.{arith}
+use mathlib.Core.Path.{◌≡◌}
+use mathlib.Core.Bool.{true, false}
+use Rattle.std.proofs.lemmas.Iterator.{cases_from_all, YieldsList-from_range}
+use Rattle.type_doubles.specs.Doubles.{is_other}
+use Rattle.type_doubles.proofs.All.{all-cases}
 use Rattle.type_doubles.proofs.is_new.Goals as goal
 
-pub loop-i-init : goal.loop-i-init
-loop-i-init c = (search rules, search all_start)
-
-pub returns-then-is_named : goal.returns-then-is_named
-returns-then-is_named c = search (all-stop, other_fails)
-
-pub loop-i-preserved : goal.loop-i-preserved
-loop-i-preserved c = (search rules, search (all-again, other-holds))
-
 pub returns : goal.returns
-returns c = search all_end
+unfolding is_other
+returns c =
+    all-cases (is_other c.args.book.now c.args.name.now) c.args.n _
+    (cases_from_all _ _ _ (λ m. is_other c.args.book.now c.args.name.now m ≡ true) (λ m. is_other c.args.book.now c.args.name.now m ≡ false) c.all.ensures.ran
+    (YieldsList-from_range 0 c.args.n c.args.n (cc) (omega arith))
+    (λ x q k. search rules) (λ x q k. search rules))
