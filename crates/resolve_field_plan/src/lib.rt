@@ -105,10 +105,7 @@ pub fn planned_field(book: &[u8], index: &[u32], width: u8, f: u32, entry: u64) 
 pub fn entry_at(plan: &[u64], i: u32) -> u64
     ensures { result ≡ get_or plan.now i 0 }
 {
-    if (i as usize) < plan.len() {
-        return plan[i as usize];
-    }
-    0
+    plan.get(i as usize).copied().unwrap_or(0)
 }
 
 // Stores the i-th field's entry, if the plan is long enough.
@@ -131,26 +128,23 @@ const SLOTS: usize = 32;
 fn recent(plan: &[u64], last: &[u32], i: u32, named: u32) -> u64
     ensures { Recent plan.now i named result }
 {
-    let slot = named as usize % SLOTS;
-    if slot < last.len() {
-        let j = last[slot];
-        if j < i {
-            let entry = entry_at(plan, j);
-            if entry != 0 {
-                if (entry - 1) / 1048576 == named as u64 {
-                    return entry;
-                }
-            }
-        }
+    let Some(&j) = last.get(named as usize % SLOTS) else {
+        return 0;
+    };
+    if j >= i {
+        return 0;
+    }
+    let entry = entry_at(plan, j);
+    if entry != 0 && (entry - 1) / 1048576 == u64::from(named) {
+        return entry;
     }
     0
 }
 
 // Remembers field i as the last of its type.
 fn remember(last: &mut [u32], named: u32, i: u32) {
-    let slot = named as usize % SLOTS;
-    if slot < last.len() {
-        last[slot] = i;
+    if let Some(field) = last.get_mut(named as usize % SLOTS) {
+        *field = i;
     }
 }
 
@@ -195,10 +189,8 @@ pub fn plan_fields_in(
     requires { ValidBook book.now × (is_type book.now t ≡ true) }
     ensures { FieldPlanIs book.now width t plan.old result plan.new }
 {
-    let n = block::fields(book, t);
     let mut last = [0u32; SLOTS];
-    let mut i: u32 = 0;
-    while i < n {
+    for i in 0..block::fields(book, t) {
         let found = plan_next(book, index, width, t + 1 + i, i, plan, &last);
         match found {
             Planned::Field(x) => {
@@ -208,7 +200,6 @@ pub fn plan_fields_in(
             Planned::NotFound(b) => return FieldsCheck::NotFound(b),
             Planned::TooLong => return FieldsCheck::TooLong,
         }
-        i += 1;
     }
     FieldsCheck::Fine
 }

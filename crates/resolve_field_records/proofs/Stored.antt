@@ -34,11 +34,13 @@ module _ (a : FieldAnswer) where
       → ◌≡◌ {A = Rec} (record { offset = x.offset; size = x.size; type_block = x.resolved; field_block = x.field }) (resolved_record a)
   record-field x h = rw h
 
-  pub record-lacks : (c : ℕ) → a ≡ answer.NotFound c → no_record ≡ resolved_record a
-  record-lacks c h = rw h
-
-  pub record-endless : a ≡ answer.TooLong → no_record ≡ resolved_record a
-  record-endless h = rw h
+  pub record-none : ((x : ResolvedField) → a ≡ answer.Field x → ⊥) → no_record ≡ resolved_record a
+  record-none other = by a refl
+    where
+      by : (b : FieldAnswer) → a ≡ b → no_record ≡ resolved_record a
+      by (answer.Field x) h = absurd (other x h)
+      by (answer.NotFound c) h = rw h
+      by answer.TooLong h = rw h
 
 -- ---- the records of a root
 

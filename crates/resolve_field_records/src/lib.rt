@@ -29,8 +29,7 @@ fn count_of(answer: FieldsAnswer) -> usize
 {
     match answer {
         FieldsAnswer::Done(n) => n,
-        FieldsAnswer::NotFound(_) => 0,
-        FieldsAnswer::Refused(_) => 0,
+        FieldsAnswer::NotFound(_) | FieldsAnswer::Refused(_) => 0,
     }
 }
 
@@ -53,13 +52,7 @@ fn record_of(answer: FieldAnswer) -> FieldRecord
             type_block: x.resolved,
             field_block: x.field,
         },
-        FieldAnswer::NotFound(_) => FieldRecord {
-            offset: 0,
-            size: 0,
-            type_block: 0,
-            field_block: 0,
-        },
-        FieldAnswer::TooLong => FieldRecord {
+        _ => FieldRecord {
             offset: 0,
             size: 0,
             type_block: 0,
@@ -98,10 +91,8 @@ fn fill_records(
     requires { AllResolvable buffer.now len width root n × (n ≤ length records.old) }
     ensures { records.new ≡ filled_at buffer.now len width root n records.old }
 {
-    let mut i: usize = 0;
-    while i < n {
+    for i in 0..n {
         records[i] = record_at(buffer, len, index, width, root, i);
-        i += 1;
     }
 }
 
@@ -130,9 +121,8 @@ fn block_of(root: GivenRoot) -> u64
     ensures { result ≡ root_block root }
 {
     match root {
-        GivenRoot::Block(t) => t as u64,
-        GivenRoot::Lacking => 0,
-        GivenRoot::Refused(_) => 0,
+        GivenRoot::Block(t) => u64::from(t),
+        GivenRoot::Lacking | GivenRoot::Refused(_) => 0,
     }
 }
 

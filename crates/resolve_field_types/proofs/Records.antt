@@ -127,17 +127,25 @@ module _ (book : List ℕ) (width t n : ℕ) (en : n ≡ fields_of book t) (reco
         left = omega arith
 
         -- no field left is refused
-        pub store-lacks : (c : ℕ) → a ≡ answer.NotFound c → now ≡ sets records 0 (field_records book width t)
+        store-lacks : (c : ℕ) → a ≡ answer.NotFound c → now ≡ sets records 0 (field_records book width t)
         store-lacks c h =
             let w : fields_from book width (t + 1 + i) (suc (n - (i + 1))) ≡ check.Fine = rw left at s.fine in
             let y = fields-lacks book width (t + 1 + i) (n - (i + 1)) c (sym (field_is _ _ q.is) ∙ h) in
             absurd (let z : ◌≡◌ {A = ℕ} 0 1 = cc in omega arith)
 
-        pub store-endless : a ≡ answer.TooLong → now ≡ sets records 0 (field_records book width t)
+        store-endless : a ≡ answer.TooLong → now ≡ sets records 0 (field_records book width t)
         store-endless h =
             let w : fields_from book width (t + 1 + i) (suc (n - (i + 1))) ≡ check.Fine = rw left at s.fine in
             let y = fields-endless book width (t + 1 + i) (n - (i + 1)) (sym (field_is _ _ q.is) ∙ h) in
             absurd (let z : ◌≡◌ {A = ℕ} 0 1 = cc in omega arith)
+
+        pub store-refused : ((x : ResolvedField) → a ≡ answer.Field x → ⊥) → now ≡ sets records 0 (field_records book width t)
+        store-refused other = by a refl
+          where
+            by : (b : FieldAnswer) → a ≡ b → now ≡ sets records 0 (field_records book width t)
+            by (answer.Field x) h = absurd (other x h)
+            by (answer.NotFound c) h = store-lacks c h
+            by answer.TooLong h = store-endless h
 
         pub store-again : (x : ResolvedField) → a ≡ answer.Field x → (later : List ℕ) → later ≡ sets now (i * 4) (field_record (answer.Field x))
             → Storing book width t n records (i + 1) later
@@ -170,13 +178,15 @@ records-length book width f (suc k) = by (resolve_field book width f) (records-l
     by answer.TooLong h = omega arith
 
 module _ (book : List ℕ) (width t : ℕ) (before : List ℕ) (r : FieldsAnswer) (e : r ≡ fields_answer book width t (length before / 4)) where
-  pub filled-lacks : (c : ℕ) → r ≡ fields.NotFound c → Filled (fields_answer book width t (length before / 4)) (field_records book width t) before (fields.NotFound c) before
+  -- a refusal leaves the records as they were
+  pub filled-refused : ((m : ℕ) → r ≡ fields.Done m → ⊥) → Filled (fields_answer book width t (length before / 4)) (field_records book width t) before r before
   unfolding stored_in
-  filled-lacks c h = record { is = fields-says _ _ (sym h ∙ e); records = rw (← e, h) }
-
-  pub filled-refused : (n : ℕ) → r ≡ fields.Refused n → Filled (fields_answer book width t (length before / 4)) (field_records book width t) before (fields.Refused n) before
-  unfolding stored_in
-  filled-refused n h = record { is = fields-says _ _ (sym h ∙ e); records = rw (← e, h) }
+  filled-refused other = record { is = fields-says _ _ e; records = rw (← e) (by r refl) }
+    where
+      by : (k : FieldsAnswer) → r ≡ k → before ≡ stored_in r (field_records book width t) before
+      by (fields.Done m) h = absurd (other m h)
+      by (fields.NotFound c) h = rw h
+      by (fields.Refused n) h = rw h
 
   module _ (m : ℕ) (h : r ≡ fields.Done m) where
     pub filled-fine : fields_check book width t ≡ check.Fine
@@ -186,14 +196,14 @@ module _ (book : List ℕ) (width t : ℕ) (before : List ℕ) (r : FieldsAnswer
     filled-room = let q : fields_of book t ≤ length before / 4 = (done-fit book width t (length before / 4) m (sym e ∙ h)).room-is in omega arith
 
     pub filled-done : (after : List ℕ) → after ≡ sets before 0 (field_records book width t)
-        → Filled (fields_answer book width t (length before / 4)) (field_records book width t) before (fields.Done m) after
+        → Filled (fields_answer book width t (length before / 4)) (field_records book width t) before r after
     unfolding stored_in field_records
     filled-done after q =
         let a : length (records_from book width (t + 1) (fields_of book t)) ≤ fields_of book t * 4 = records-length book width (t + 1) (fields_of book t) in
         let b : fields_of book t * 4 ≤ length before = filled-room in
         let l : 0 + length (records_from book width (t + 1) (fields_of book t)) ≤ length before = omega arith in
         let z : 0 + length (records_from book width (t + 1) (fields_of book t)) ≡ length (records_from book width (t + 1) (fields_of book t)) = omega arith in
-        record { is = fields-says _ _ (sym h ∙ e); records = rw (← e, h) (q ∙ sets-eq (records_from book width (t + 1) (fields_of book t)) before 0 l ∙ rw z) }
+        record { is = fields-says _ _ e; records = rw (← e, h) (q ∙ sets-eq (records_from book width (t + 1) (fields_of book t)) before 0 l ∙ rw z) }
 
 -- ---- the root
 

@@ -82,15 +82,13 @@ fn check_first(book: &[u8], index: &[u32], width: u8, t: u32, n: u32) -> FieldsC
     requires { ValidBook book.now × (is_type book.now t ≡ true) × (n ≤ fields_of book.now t) }
     ensures { result ≡ fields_from book.now width (t + 1) n }
 {
-    let mut i: u32 = 0;
-    while i < n {
+    for i in 0..n {
         let answer = resolve_field_in(book, index, width, t + 1 + i);
         match answer {
             FieldAnswer::Field(_) => {}
             FieldAnswer::NotFound(c) => return FieldsCheck::NotFound(c),
             FieldAnswer::TooLong => return FieldsCheck::TooLong,
         }
-        i += 1;
     }
     FieldsCheck::Fine
 }
@@ -109,10 +107,7 @@ pub fn check_fields_in(book: &[u8], index: &[u32], width: u8, t: u32) -> FieldsC
 fn fitting(n: u32, room: usize) -> u32
     ensures { result ≡ records_that_fit n room }
 {
-    if n as usize <= room {
-        return n;
-    }
-    room as u32
+    room.min(n as usize) as u32
 }
 
 // What resolving the fields of type block t answers, with room for that many records. A record that does not fit is refused
@@ -150,16 +145,11 @@ fn store_fields(book: &[u8], index: &[u32], width: u8, t: u32, records: &mut [u3
     requires { ValidBook book.now × (is_type book.now t ≡ true) × (fields_check book.now width t ≡ FieldsCheck.Fine) × (fields_of book.now t * 4 ≤ length records.old) }
     ensures { records.new ≡ sets records.old 0 (field_records book.now width t) }
 {
-    let n = block::fields(book, t);
-    let mut i: u32 = 0;
-    while i < n {
-        let answer = resolve_field_in(book, index, width, t + 1 + i);
-        match answer {
-            FieldAnswer::Field(field) => store_field(records, i as usize * RECORD, field),
-            FieldAnswer::NotFound(_) => return,
-            FieldAnswer::TooLong => return,
-        }
-        i += 1;
+    for i in 0..block::fields(book, t) {
+        let FieldAnswer::Field(field) = resolve_field_in(book, index, width, t + 1 + i) else {
+            return;
+        };
+        store_field(records, i as usize * RECORD, field);
     }
 }
 
@@ -175,14 +165,10 @@ pub fn resolve_fields_in(
     ensures { Filled (fields_answer book.now width t (record_room (length records.old))) (field_records book.now width t) records.old result records.new }
 {
     let answer = fields_answer(book, index, width, t, records.len() / RECORD);
-    match answer {
-        FieldsAnswer::Done(n) => {
-            store_fields(book, index, width, t, records);
-            FieldsAnswer::Done(n)
-        }
-        FieldsAnswer::NotFound(c) => FieldsAnswer::NotFound(c),
-        FieldsAnswer::Refused(n) => FieldsAnswer::Refused(n),
+    if let FieldsAnswer::Done(_) = answer {
+        store_fields(book, index, width, t, records);
     }
+    answer
 }
 
 // `resolve_fields_in` with an index on the stack.

@@ -17,8 +17,8 @@ use Rattle.resolve_walk.specs.Walk.{Walk, met, walk_of}
 use Rattle.resolve_walk.specs.Reads.{names, count, listed, whole}
 use Rattle.resolve_walk.specs.State.{LeftToWalk, After, Falls, DueAfter, IsDue, work, Stepped, Started}
 use Rattle.resolve_walk.proofs.States.{step-due, due_as, due-new, due-lacking, due-long, over-is}
-use Rattle.resolve_missing_types.specs.declared.Turn.{Turn}
-use Rattle.resolve_missing_types.specs.declared.Turn.TheVariants as turn
+use Rattle.std.specs.Prelude.{Option, Some, None}
+use Rattle.resolve_missing_types.specs.declared.Progress.{Progress}
 use Rattle.resolve_missing_types.specs.declared.Missing.TheVariants as missing
 use Rattle.resolve_missing_types.specs.State.{OneMore, ReadSoFar, Pending, pend, MissingNow, Stopped, MissingThen, LessWork, Applied}
 use Rattle.resolve_missing_types.specs.Calls.{WalkedTo, missing_answer, missing_list}
@@ -62,14 +62,14 @@ pub due-room : (left : ℕ) {e : Event} → IsDue left e → (c d : ℕ) {n m : 
 due-room left p c d h r z = let q = due-lacking left p c d h in omega arith
 
 module _ (list : List ℕ) (left n : ℕ) (ok : Bool) {e : Event} (p : IsDue left e) where
-  pub apply_old : (d : ℕ) → e ≡ Old d → Applied e list left n ok (turn.More left d n ok) list
+  pub apply_old : (d : ℕ) → e ≡ Old d → Applied e list left n ok (Some (record { left = left; depth = d; n = n; ok = ok })) list
   apply_old d h =
       record {
         goes = λ book width all list₀ sc w q a. record { rest = w; left_over = subst (λ (y : Event). After book width sc (take n list) left w y) h a; reading = q };
         falls = λ sc m f. subst (λ (y : Event). Falls sc left m y) h f;
       }
 
-  pub apply_new : (t d : ℕ) (c : AdsTypeCategory) → e ≡ New t d c → Applied e list left n ok (turn.More (left - 1) d n ok) list
+  pub apply_new : (t d : ℕ) (c : AdsTypeCategory) → e ≡ New t d c → Applied e list left n ok (Some (record { left = left - 1; depth = d; n = n; ok = ok })) list
   apply_new t d c h =
       let l = due-new left p t d c h in
       record {
@@ -92,7 +92,7 @@ module _ (list : List ℕ) (left n : ℕ) (ok : Bool) {e : Event} (p : IsDue lef
         falls = λ sc m f. (subst (λ (y : Event). Falls sc left m y) h f).1;
       }
 
-  pub apply_long : (d : ℕ) → e ≡ event.TooLong d → Applied e list left n ok (turn.More (left - 1) d n false) list
+  pub apply_long : (d : ℕ) → e ≡ event.TooLong d → Applied e list left n ok (Some (record { left = left - 1; depth = d; n = n; ok = false })) list
   apply_long d h =
       let l = due-long left p d h in
       record {
@@ -115,7 +115,7 @@ module _ (list : List ℕ) (left n : ℕ) (ok : Bool) {e : Event} (p : IsDue lef
         falls = λ sc m f. (subst (λ (y : Event). Falls sc left m y) h f).1;
       }
 
-  listed-block : (b d : ℕ) → e ≡ event.NotFound b d → 4096 ≤ length list → n + left ≤ 4096 → Applied e list left n ok (turn.More (left - 1) d (n + 1) ok) (set list n b)
+  listed-block : (b d : ℕ) → e ≡ event.NotFound b d → 4096 ≤ length list → n + left ≤ 4096 → Applied e list left n ok (Some (record { left = left - 1; depth = d; n = n + 1; ok = ok })) (set list n b)
   listed-block b d h z r =
       let l = due-lacking left p b d h in
       let i : n < length list = omega arith in
@@ -142,10 +142,10 @@ module _ (list : List ℕ) (left n : ℕ) (ok : Bool) {e : Event} (p : IsDue lef
         falls = λ sc m f. (subst (λ (y : Event). Falls sc left m y) h f).1;
       }
 
-  pub apply_lacking : (b d : ℕ) → e ≡ event.NotFound b d → 4096 ≤ length list → n + left ≤ 4096 → {k : ℕ} {list' : List ℕ} → OneMore list n b k list' → Applied e list left n ok (turn.More (left - 1) d k ok) list'
+  pub apply_lacking : (b d : ℕ) → e ≡ event.NotFound b d → 4096 ≤ length list → n + left ≤ 4096 → {k : ℕ} {list' : List ℕ} → OneMore list n b k list' → Applied e list left n ok (Some (record { left = left - 1; depth = d; n = k; ok = ok })) list'
   apply_lacking b d h z r o = rw (o.count, o.blocks) (listed-block b d h z r)
 
-  pub apply_full : e ≡ Full → Applied e list left n ok turn.Full list
+  pub apply_full : e ≡ Full → Applied e list left n ok None list
   unfolding names listed whole
   apply_full h =
       let z = due_as left p Full h in
@@ -226,38 +226,38 @@ pending-start book width root list s = record { rest = walk_of book width root; 
 pub pending-due : (book : List ℕ) (width root : ℕ) {list₀ sc list : List ℕ} {left n : ℕ} {ok : Bool} {e : Event} → Pending book width (walk_of book width root) list₀ sc list left n ok e → IsDue left e
 pending-due book width root q = q.due
 
-module _ (book : List ℕ) (width root : ℕ) {list₀ sc list list' : List ℕ} {left n : ℕ} {ok : Bool} {e : Event} {r : Turn} (q : Pending book width (walk_of book width root) list₀ sc list left n ok e)
+module _ (book : List ℕ) (width root : ℕ) {list₀ sc list list' : List ℕ} {left n : ℕ} {ok : Bool} {e : Event} {r : Option Progress} (q : Pending book width (walk_of book width root) list₀ sc list left n ok e)
     (a : Applied e list left n ok r list') where
-  then_as : (x : Turn) → r ≡ x → MissingThen book width (walk_of book width root) list₀ sc list' n x
-  then_as x h = subst (λ (y : Turn). MissingThen book width (walk_of book width root) list₀ sc list' n y) h (a.goes book width (walk_of book width root) list₀ sc q.rest q.reading q.after)
+  then_as : (x : Option Progress) → r ≡ x → MissingThen book width (walk_of book width root) list₀ sc list' n x
+  then_as x h = subst (λ (y : Option Progress). MissingThen book width (walk_of book width root) list₀ sc list' n y) h (a.goes book width (walk_of book width root) list₀ sc q.rest q.reading q.after)
 
-  pub pending-stop : r ≡ turn.Full → 4096 ≤ length list₀ → WalkedTo book width root list₀ (missing.Listed n false 4097) list'
-  pending-stop h z = walk-stops book width root (then_as turn.Full h) z
+  pub pending-stop : r ≡ None → 4096 ≤ length list₀ → WalkedTo book width root list₀ (missing.Listed n false 4097) list'
+  pending-stop h z = walk-stops book width root (then_as None h) z
 
-  module _ (l d k : ℕ) (o : Bool) (h : r ≡ turn.More l d k o) where
-    pub pending-now : MissingNow book width (walk_of book width root) list₀ sc list' l d k o
-    pending-now = then_as (turn.More l d k o) h
+  module _ (x : Progress) (h : r ≡ Some x) where
+    pub pending-now : MissingNow book width (walk_of book width root) list₀ sc list' x.left x.depth x.n x.ok
+    pending-now = then_as (Some x) h
 
-    pub pending-end : d ≡ 0 → 4096 ≤ length list₀ → WalkedTo book width root list₀ (missing.Listed k o (4096 - l)) list'
+    pub pending-end : x.depth ≡ 0 → 4096 ≤ length list₀ → WalkedTo book width root list₀ (missing.Listed x.n x.ok (4096 - x.left)) list'
     pending-end z w = walk_ends book width root pending-now (omega arith) w
 
-    pub pending-room : d + l ≤ 4096
+    pub pending-room : x.depth + x.left ≤ 4096
     pending-room = pending-now.left_over.room
 
-    pub pending-left : l ≤ 4096
+    pub pending-left : x.left ≤ 4096
     pending-left = let m = pending-room in omega arith
 
-    pub pending-list : 4096 ≤ length list₀ → k ≤ length list'
+    pub pending-list : 4096 ≤ length list₀ → x.n ≤ length list'
     pending-list z = let m = pending-now.reading.room in let g = pending-now.reading.long in omega arith
 
-    module _ {sc' : List ℕ} {e' : Event} (s : Stepped book width sc (take k list') l d e' sc') where
-      pub pending-again : Pending book width (walk_of book width root) list₀ sc' list' l k o e'
+    module _ {sc' : List ℕ} {e' : Event} (s : Stepped book width sc (take x.n list') x.left x.depth e' sc') where
+      pub pending-again : Pending book width (walk_of book width root) list₀ sc' list' x.left x.n x.ok e'
       pending-again =
           let p = pending-now in
-          record { rest = p.rest; reading = p.reading; after = s.goes p.rest p.left_over; due = step-due book width (take k list') l s }
+          record { rest = p.rest; reading = p.reading; after = s.goes p.rest p.left_over; due = step-due book width (take x.n list') x.left s }
 
-      pub pending-falls : pend sc' l e' < pend sc left e
+      pub pending-falls : pend sc' x.left e' < pend sc left e
       pending-falls =
-          let f = falls-pend sc' l (work sc l d) e' s.falls in
-          let g : work sc l d < pend sc left e = subst (λ (y : Turn). LessWork sc (pend sc left e) y) h (a.falls sc (pend sc left e) (pend-falls sc left e q.due.due)) in
+          let f = falls-pend sc' x.left (work sc x.left x.depth) e' s.falls in
+          let g : work sc x.left x.depth < pend sc left e = subst (λ (y : Option Progress). LessWork sc (pend sc left e) y) h (a.falls sc (pend sc left e) (pend-falls sc left e q.due.due)) in
           omega arith

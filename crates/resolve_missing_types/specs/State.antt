@@ -1,6 +1,6 @@
 -- What is known of the missing list in the midst of the walk `all`, of which w is left. No contract of a public function cites this.
 -- Assumes nothing.
-use Rattle.std.specs.Prelude.{◌≡◌, Bool, false, cond, ◌&&◌, List, ◌++◌, ℕ, ◌+◌, ◌-◌, ◌≤◌, ◌<◌, length, take, drop, set, eqb}
+use Rattle.std.specs.Prelude.{◌≡◌, Bool, false, cond, Option, Some, None, ◌&&◌, List, ◌++◌, ℕ, ◌+◌, ◌-◌, ◌≤◌, ◌<◌, length, take, drop, set, eqb}
 use Rattle.type_index.specs.declared.Trust.{Trust}
 use Rattle.type_index.specs.Trust.{trust_then, Trusted}
 use Rattle.resolve_walk_events.specs.declared.Event.{Event}
@@ -9,8 +9,7 @@ use Rattle.resolve_walk_events.specs.declared.Event.TheVariants as event
 use Rattle.resolve_walk.specs.Walk.{Walk}
 use Rattle.resolve_walk.specs.Reads.{count, listed, whole}
 use Rattle.resolve_walk.specs.State.{LeftToWalk, After, work, Falls, IsDue}
-use Rattle.resolve_missing_types.specs.declared.Turn.{Turn}
-use Rattle.resolve_missing_types.specs.declared.Turn.TheVariants as turn
+use Rattle.resolve_missing_types.specs.declared.Progress.{Progress}
 
 -- what was read of the walk stands in the count, the list and the mark; what is left to read is w
 pub record ReadSoFar (all : Walk) (list₀ list : List ℕ) (left n : ℕ) (ok : Bool) (w : Walk) : Type 0 where
@@ -42,17 +41,17 @@ pub record OneMore (list : List ℕ) (n b r : ℕ) (list' : List ℕ) : Type 0 w
   pub blocks : list' ≡ set list n b
 
 -- what the state is after an event was applied
-abbrev pub MissingThen : List ℕ → ℕ → Walk → List ℕ → List ℕ → List ℕ → ℕ → Turn → Type 0
-MissingThen book width all list₀ sc list n (turn.More l d k o) = MissingNow book width all list₀ sc list l d k o
-MissingThen book width all list₀ sc list n turn.Full = Stopped all list₀ list n
+abbrev pub MissingThen : List ℕ → ℕ → Walk → List ℕ → List ℕ → List ℕ → ℕ → Option Progress → Type 0
+MissingThen book width all list₀ sc list n (Some x) = MissingNow book width all list₀ sc list x.left x.depth x.n x.ok
+MissingThen book width all list₀ sc list n None = Stopped all list₀ list n
 
 -- less than m is left to do then
-abbrev pub LessWork : List ℕ → ℕ → Turn → Type 0
-LessWork sc m (turn.More l d k o) = work sc l d < m
-LessWork sc m turn.Full = Unit {0}
+abbrev pub LessWork : List ℕ → ℕ → Option Progress → Type 0
+LessWork sc m (Some x) = work sc x.left x.depth < m
+LessWork sc m None = Unit {0}
 
 -- an event is applied to list, mark and count
-pub record Applied (e : Event) (list : List ℕ) (left n : ℕ) (ok : Bool) (r : Turn) (list' : List ℕ) : Type 0 where
+pub record Applied (e : Event) (list : List ℕ) (left n : ℕ) (ok : Bool) (r : Option Progress) (list' : List ℕ) : Type 0 where
   pub goes : (book : List ℕ) (width : ℕ) (all : Walk) (list₀ sc : List ℕ) (w : Walk) → ReadSoFar all list₀ list left n ok w → After book width sc (take n list) left w e → MissingThen book width all list₀ sc list' n r
   pub falls : (sc : List ℕ) (m : ℕ) → Falls sc left m e → LessWork sc m r
 

@@ -28,11 +28,13 @@ pub enum Missing {
     Refused(u8),
 }
 
-// The state of `missing_walk` after an event: names left, entries on the stack, blocks listed, whether still whole.
+// The state of `missing_walk`: names left, entries on the stack, blocks listed, whether still whole.
 #[derive(Clone, Copy)]
-enum Turn {
-    More(usize, usize, usize, bool),
-    Full,
+struct Progress {
+    left: usize,
+    depth: usize,
+    n: usize,
+    ok: bool,
 }
 
 // Lists block b after n others, also where one of them names the same type: how many are listed then.
@@ -44,26 +46,31 @@ fn list_block(list: &mut [u32], n: usize, b: u32) -> usize
     n + 1
 }
 
-// What an event is for the missing list.
-fn apply(e: Event, list: &mut [u32], left: usize, n: usize, ok: bool) -> Turn
-    requires { IsDue left e × (4096 ≤ length list.old) × (n + left ≤ 4096) }
-    ensures { Applied e list.old left n ok result list.new }
+// The state after an event; none after a name too many.
+fn apply(e: Event, list: &mut [u32], at: Progress) -> Option<Progress>
+    requires { IsDue at.left e × (4096 ≤ length list.old) × (at.n + at.left ≤ 4096) }
+    ensures { Applied e list.old at.left at.n at.ok result list.new }
 {
     match e {
-        Event::Old(d) => Turn::More(left, d, n, ok),
-        Event::New(_, d, _) => {
-            let rest = left - 1;
-            Turn::More(rest, d, n, ok)
-        }
-        Event::NotFound(b, d) => {
-            let rest = left - 1;
-            Turn::More(rest, d, list_block(list, n, b), ok)
-        }
-        Event::TooLong(d) => {
-            let rest = left - 1;
-            Turn::More(rest, d, n, false)
-        }
-        Event::Full => Turn::Full,
+        Event::Old(depth) => Some(Progress { depth, ..at }),
+        Event::New(_, depth, _) => Some(Progress {
+            left: at.left - 1,
+            depth,
+            ..at
+        }),
+        Event::NotFound(b, depth) => Some(Progress {
+            left: at.left - 1,
+            depth,
+            n: list_block(list, at.n, b),
+            ok: at.ok,
+        }),
+        Event::TooLong(depth) => Some(Progress {
+            left: at.left - 1,
+            depth,
+            ok: false,
+            ..at
+        }),
+        Event::Full => None,
     }
 }
 
@@ -92,25 +99,26 @@ fn missing_walk(
     ensures { WalkedTo book.now width root list.old result list.new }
 {
     let mut e = start(book, index, width, root, scratch);
-    let mut left = MAX_TYPES_VISITED;
-    let mut n: usize = 0;
-    let mut ok = true;
+    let mut at = Progress {
+        left: MAX_TYPES_VISITED,
+        depth: 0,
+        n: 0,
+        ok: true,
+    };
     let mut trust = Trust::Unknown;
-    loop {
-        let turn = apply(e, list, left, n, ok);
-        let Turn::More(l, d, k, o) = turn else {
-            return Missing::Listed(n, false, MAX_TYPES_VISITED + 1);
-        };
-        if d == 0 {
-            return Missing::Listed(k, o, MAX_TYPES_VISITED - l);
+    while let Some(now) = apply(e, list, at) {
+        if now.depth == 0 {
+            return Missing::Listed(now.n, now.ok, MAX_TYPES_VISITED - now.left);
         }
-        trust = learn(book, index, trust, n, k);
-        left = l;
-        n = k;
-        ok = o;
-        let rest = Rest { left, depth: d };
-        e = step(book, index, trust, width, scratch, list, n, rest);
+        trust = learn(book, index, trust, at.n, now.n);
+        let rest = Rest {
+            left: now.left,
+            depth: now.depth,
+        };
+        e = step(book, index, trust, width, scratch, list, now.n, rest);
+        at = now;
     }
+    Missing::Listed(at.n, false, MAX_TYPES_VISITED + 1)
 }
 
 // `missing_types` for a book that was checked, with an index.

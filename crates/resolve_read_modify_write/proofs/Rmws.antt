@@ -14,8 +14,9 @@ use Rattle.resolve_walk_events.specs.declared.Event.TheVariants as event
 use Rattle.resolve_walk.specs.Walk.{Walk, full, met, walk_of}
 use Rattle.resolve_walk.specs.State.{After, Falls, Stepped, Started, work}
 use Rattle.resolve_walk.proofs.States.{over-is}
-use Rattle.resolve_read_modify_write.specs.declared.Turn.{Turn}
-use Rattle.resolve_read_modify_write.specs.declared.Turn.TheVariants as turn
+use Rattle.std.specs.declared.ops.ControlFlow.{ControlFlow}
+use Rattle.std.specs.declared.ops.ControlFlow.TheVariants.{Continue, Break}
+use Rattle.resolve_walk.specs.declared.Rest.{Rest}
 use Rattle.resolve_read_modify_write.specs.declared.Rmw.{Rmw}
 use Rattle.resolve_read_modify_write.specs.declared.Rmw.TheVariants as rmw
 use Rattle.resolve_read_modify_write.specs.Reads.{keeps_state, rmw_of}
@@ -54,7 +55,7 @@ module _ (left : ℕ) {e : Event} where
   falls_as : (x : Event) → e ≡ x → (sc : List ℕ) (m : ℕ) → Falls sc left m e → Falls sc left m x
   falls_as x h sc m f = subst (λ (y : Event). Falls sc left m y) h f
 
-  pub decide-old : (d : ℕ) → e ≡ Old d → Decided e left (turn.More left d)
+  pub decide-old : (d : ℕ) → e ≡ Old d → Decided e left (Continue (record { left = left; depth = d }))
   unfolding loop_work
   decide-old d h =
       record {
@@ -63,7 +64,7 @@ module _ (left : ℕ) {e : Event} where
       }
 
   module _ (t d : ℕ) (c : AdsTypeCategory) (h : e ≡ New t d c) (g : Bool) (eg : g ≡ keeps_state c) where
-    pub decide-block : g ≡ true → Decided e left (turn.Is rmw.Yes)
+    pub decide-block : g ≡ true → Decided e left (Break rmw.Yes)
     unfolding loop_work
     decide-block k =
         record {
@@ -73,7 +74,7 @@ module _ (left : ℕ) {e : Event} where
           falls = λ sc m f. omega arith;
         }
 
-    pub decide-new : g ≡ false → Decided e left (turn.More (left - 1) d)
+    pub decide-new : g ≡ false → Decided e left (Continue (record { left = left - 1; depth = d }))
     unfolding loop_work
     decide-new k =
         record {
@@ -83,7 +84,7 @@ module _ (left : ℕ) {e : Event} where
           falls = λ sc m f. omega (arith, (falls_as (New t d c) h sc m f).1);
         }
 
-  pub decide-lacking : (c d : ℕ) → e ≡ event.NotFound c d → Decided e left (turn.Is (rmw.NotFound c))
+  pub decide-lacking : (c d : ℕ) → e ≡ event.NotFound c d → Decided e left (Break (rmw.NotFound c))
   unfolding loop_work
   decide-lacking c d h =
       record {
@@ -91,7 +92,7 @@ module _ (left : ℕ) {e : Event} where
         falls = λ sc m f. omega arith;
       }
 
-  pub decide-long : (d : ℕ) → e ≡ event.TooLong d → Decided e left (turn.Is (rmw.Refused 8))
+  pub decide-long : (d : ℕ) → e ≡ event.TooLong d → Decided e left (Break (rmw.Refused 8))
   unfolding loop_work
   decide-long d h =
       record {
@@ -99,7 +100,7 @@ module _ (left : ℕ) {e : Event} where
         falls = λ sc m f. omega arith;
       }
 
-  pub decide-full : e ≡ Full → Decided e left (turn.Is (rmw.Refused 9))
+  pub decide-full : e ≡ Full → Decided e left (Break (rmw.Refused 9))
   unfolding loop_work
   decide-full h =
       record {
@@ -109,33 +110,33 @@ module _ (left : ℕ) {e : Event} where
 
 -- ---- the loop
 
-pub here-start : (book : List ℕ) (width root : ℕ) {sc₀ sc : List ℕ} {e : Event} {r : Turn} → Started book width root sc₀ e sc → Decided e 4096 r → Here book width (walk_of book width root) sc r
+pub here-start : (book : List ℕ) (width root : ℕ) {sc₀ sc : List ℕ} {e : Event} {r : ControlFlow Rmw Rest} → Started book width root sc₀ e sc → Decided e 4096 r → Here book width (walk_of book width root) sc r
 here-start book width root {sc} s d = record { so = d.goes book width (walk_of book width root) sc (walk_of book width root) refl s.goes }
 
-module _ (book : List ℕ) (width root : ℕ) {sc : List ℕ} {here : Turn} (q : Here book width (walk_of book width root) sc here) where
-  here_as : (x : Turn) → here ≡ x → RmwThen book width (walk_of book width root) sc x
-  here_as x h = subst (λ (y : Turn). RmwThen book width (walk_of book width root) sc y) h q.so
+module _ (book : List ℕ) (width root : ℕ) {sc : List ℕ} {here : ControlFlow Rmw Rest} (q : Here book width (walk_of book width root) sc here) where
+  here_as : (x : ControlFlow Rmw Rest) → here ≡ x → RmwThen book width (walk_of book width root) sc x
+  here_as x h = subst (λ (y : ControlFlow Rmw Rest). RmwThen book width (walk_of book width root) sc y) h q.so
 
-  pub here-is : (x : Rmw) → here ≡ turn.Is x → x ≡ rmw_answer true book width root
+  pub here-is : (x : Rmw) → here ≡ Break x → x ≡ rmw_answer true book width root
   unfolding rmw_answer
-  here-is x h = here_as (turn.Is x) h
+  here-is x h = here_as (Break x) h
 
-  module _ (left depth : ℕ) (h : here ≡ turn.More left depth) where
-    pub here-room : depth + left ≤ 4096
-    here-room = (here_as (turn.More left depth) h).left_over.room
+  module _ (x : Rest) (h : here ≡ Continue x) where
+    pub here-room : x.depth + x.left ≤ 4096
+    here-room = (here_as (Continue x) h).left_over.room
 
-    pub here_end : depth ≡ 0 → rmw.No ≡ rmw_answer true book width root
+    pub here_end : x.depth ≡ 0 → rmw.No ≡ rmw_answer true book width root
     unfolding rmw_answer rmw_of
     here_end z =
-        let a = here_as (turn.More left depth) h in
+        let a = here_as (Continue x) h in
         sym (a.reads ∙ ap (rmw_of book width) (over-is book width [] a.left_over (omega arith)))
 
-    module _ {sc' : List ℕ} {e : Event} {r : Turn} (s : Stepped book width sc [] left depth e sc') (d : Decided e left r) where
+    module _ {sc' : List ℕ} {e : Event} {r : ControlFlow Rmw Rest} (s : Stepped book width sc [] x.left x.depth e sc') (d : Decided e x.left r) where
       pub here-again : Here book width (walk_of book width root) sc' r
       here-again =
-          let a = here_as (turn.More left depth) h in
+          let a = here_as (Continue x) h in
           record { so = d.goes book width (walk_of book width root) sc' a.rest a.reads (s.goes a.rest a.left_over) }
 
       pub here-falls : loop_work sc' r < loop_work sc here
       unfolding loop_work
-      here-falls = rw h (d.falls sc' (work sc left depth) s.falls)
+      here-falls = rw h (d.falls sc' (work sc x.left x.depth) s.falls)

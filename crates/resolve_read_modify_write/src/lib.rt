@@ -16,6 +16,7 @@ ghost use Rattle.resolve_read_modify_write.specs.State.{Decided};
 use enc_zeros::clear_numbers;
 use resolve_walk::{MAX_TYPES_VISITED, Rest, scratch_fits, start, step};
 use resolve_walk_events::Event;
+use std::ops::ControlFlow;
 use type_book_check::{GivenRoot, LACKING_ROOT, RootCheck};
 use type_category::type_category::AdsTypeCategory;
 use type_index::{Trust, index_fits};
@@ -31,54 +32,36 @@ pub enum Rmw {
     Refused(u8),
 }
 
-// The state of `rmw_walk` after an event: names left and entries on the stack, or the answer.
-#[derive(Clone, Copy)]
-enum Turn {
-    More(usize, usize),
-    Is(Rmw),
-}
-
 // Function blocks and programs keep state that no field shows, as the pointer to their methods: to write zeros there would destroy
 // it.
 fn keeps_state(category: AdsTypeCategory) -> bool
     ensures { result ≡ keeps_state category }
 {
-    match category {
-        AdsTypeCategory::FunctionBlock => true,
-        AdsTypeCategory::Program => true,
-        AdsTypeCategory::None => false,
-        AdsTypeCategory::Primitive => false,
-        AdsTypeCategory::Alias => false,
-        AdsTypeCategory::Enum => false,
-        AdsTypeCategory::Array => false,
-        AdsTypeCategory::Struct => false,
-        AdsTypeCategory::Function => false,
-        AdsTypeCategory::SubRange => false,
-        AdsTypeCategory::String => false,
-        AdsTypeCategory::Bitset => false,
-        AdsTypeCategory::Pointer => false,
-        AdsTypeCategory::Union => false,
-        AdsTypeCategory::Reference => false,
-        AdsTypeCategory::Interface => false,
-    }
+    matches!(
+        category,
+        AdsTypeCategory::FunctionBlock | AdsTypeCategory::Program
+    )
 }
 
-// What an event is for read-modify-write.
-fn decide(e: Event, left: usize) -> Turn
+// What an event is for read-modify-write: what the walk has left after it, or the answer.
+fn decide(e: Event, left: usize) -> ControlFlow<Rmw, Rest>
     requires { IsDue left e }
     ensures { Decided e left result }
 {
     match e {
-        Event::Old(d) => Turn::More(left, d),
-        Event::New(_, d, category) => {
+        Event::Old(depth) => ControlFlow::Continue(Rest { left, depth }),
+        Event::New(_, depth, category) => {
             if keeps_state(category) {
-                return Turn::Is(Rmw::Yes);
+                return ControlFlow::Break(Rmw::Yes);
             }
-            Turn::More(left - 1, d)
+            ControlFlow::Continue(Rest {
+                left: left - 1,
+                depth,
+            })
         }
-        Event::NotFound(b, _) => Turn::Is(Rmw::NotFound(b)),
-        Event::TooLong(_) => Turn::Is(Rmw::Refused(8)),
-        Event::Full => Turn::Is(Rmw::Refused(9)),
+        Event::NotFound(b, _) => ControlFlow::Break(Rmw::NotFound(b)),
+        Event::TooLong(_) => ControlFlow::Break(Rmw::Refused(8)),
+        Event::Full => ControlFlow::Break(Rmw::Refused(9)),
     }
 }
 
@@ -88,21 +71,17 @@ fn rmw_walk(book: &[u8], index: &[u32], width: u8, root: u32, scratch: &mut [u32
     requires { ValidBook book.now × (is_type book.now root ≡ true) × (8192 ≤ length scratch.old) × (scratch.old ≡ replicate (length scratch.old) 0) }
     ensures { result ≡ rmw_answer true book.now width root }
 {
-    let none: [u32; 1] = [0];
     let e = start(book, index, width, root, scratch);
     let mut here = decide(e, MAX_TYPES_VISITED);
     loop {
         match here {
-            Turn::Is(answer) => {
-                return answer;
-            }
-            Turn::More(left, depth) => {
-                if depth == 0 {
+            ControlFlow::Break(answer) => return answer,
+            ControlFlow::Continue(rest) => {
+                if rest.depth == 0 {
                     return Rmw::No;
                 }
-                let rest = Rest { left, depth };
-                let e = step(book, index, Trust::Unknown, width, scratch, &none, 0, rest);
-                here = decide(e, left);
+                let e = step(book, index, Trust::Unknown, width, scratch, &[], 0, rest);
+                here = decide(e, rest.left);
             }
         }
     }

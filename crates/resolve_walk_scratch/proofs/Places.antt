@@ -1,6 +1,6 @@
 -- Blocks of a valid book: where types and fields stand, which blocks name a type as a part, and names among the listed. Assumes nothing.
 use mathlib.Core.Path.{◌≡◌, refl, sym, ◌∙◌}
-use mathlib.Core.Bool.{Bool, true, false, ◌&&◌, ◌||◌}
+use mathlib.Core.Bool.{Bool, true, false, not, ◌&&◌, ◌||◌}
 use mathlib.Core.List.{List}
 use Prim.Native.Nat.{ℕ, ◌+◌, ◌*◌, ◌/◌, ◌%◌, ◌≤◌, ◌<◌}
 use native.Mathlib.Omega.{arith}
@@ -46,11 +46,11 @@ module _ (book : List ℕ) (t : ℕ) (v : ValidBook book) (y : is_type book t �
 -- ---- parts
 
 module _ (book : List ℕ) (b : ℕ) (t : Bool) (et : t ≡ is_type book b) where
-  pub part_field : t ≡ false → true ≡ is_part book b
+  pub part_field : not t ≡ true → not t ≡ is_part book b
   unfolding is_part
   part_field h = rw (← et, h)
 
-  pub part-dimensions : t ≡ true → (n : ℕ) → n ≡ dimensions_of book b → ltb 0 n ≡ is_part book b
+  pub part-dimensions : not t ≡ false → (n : ℕ) → n ≡ dimensions_of book b → ltb 0 n ≡ is_part book b
   unfolding is_part
   part-dimensions h n en = rw (← et, h, ← en)
 
@@ -61,33 +61,26 @@ module _ (book : List ℕ) (b : ℕ) (name : List ℕ) (s : List ℕ) (es : s �
   unfolding names_it
   names_same h r er = rw (← es, ← eg, h) er
 
-  pub names-other : g ≡ false → false ≡ names_it book b name
+  pub names-other : g ≡ false → g ≡ names_it book b name
   unfolding names_it
   names-other h = rw (← es, ← eg, h)
 
-module _ (book list : List ℕ) (n : ℕ) (name : List ℕ) (w : n ≤ length list) where
-  pub in_start : has_ref book (take n list) name ≡ has_ref book (drop 0 (take n list)) name
-  in_start = refl
-
-  module _ (i : ℕ) (inv : has_ref book (take n list) name ≡ has_ref book (drop i (take n list)) name) where
-    module _ (l : i < n) (g : Bool) (eg : g ≡ names_it book (get_or list i 0) name) where
-      turn : has_ref book (take n list) name ≡ g || has_ref book (drop (i + 1) (take n list)) name
+module _ (book bs name : List ℕ) where
+  module _ (i : ℕ) (inv : has_ref book bs name ≡ has_ref book (drop i bs) name) where
+    module _ (l : i < length bs) (g : Bool) (eg : g ≡ names_it book (get_or bs i 0) name) where
+      turn : has_ref book bs name ≡ g || has_ref book (drop (i + 1) bs) name
       unfolding has_ref
-      turn =
-          let q : i < length (take n list) = rw (length-take-le n list w) l in
-          inv ∙ rw (add-one, drop-cons (take n list) i 0 q, get_or-take n list i 0 l, eg)
+      turn = inv ∙ rw (add-one, drop-cons bs i 0 l, eg)
 
-      pub in_here : g ≡ true → true ≡ has_ref book (take n list) name
+      pub in_here : g ≡ true → true ≡ has_ref book bs name
       in_here h = sym (turn ∙ rw h)
 
-      pub in_again : g ≡ false → has_ref book (take n list) name ≡ has_ref book (drop (i + 1) (take n list)) name
+      pub in_again : g ≡ false → has_ref book bs name ≡ has_ref book (drop (i + 1) bs) name
       in_again h = turn ∙ rw h
 
-    pub in_none : n ≤ i → false ≡ has_ref book (take n list) name
+    pub in_none : length bs ≤ i → false ≡ has_ref book bs name
     unfolding has_ref
-    in_none h =
-        let q : length (take n list) ≤ i = rw (length-take-le n list w) h in
-        sym (inv ∙ rw (drop_of_length-le (take n list) q))
+    in_none h = sym (inv ∙ rw (drop_of_length-le bs h))
 
 -- ---- the bit of a name that the book lacks
 
@@ -109,6 +102,6 @@ module _ (book sc ls name : List ℕ) (b : ℕ) (eb : b ≡ lacking_bit name) (g
   unfolding was_listed
   listed_maybe h r er = rw (← eb, ← eg, h) er
 
-  pub listed-not : g ≡ false → false ≡ was_listed book sc ls name
+  pub listed-not : g ≡ false → g ≡ was_listed book sc ls name
   unfolding was_listed
   listed-not h = rw (← eb, ← eg, h)

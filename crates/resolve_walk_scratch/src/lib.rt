@@ -89,18 +89,7 @@ pub fn parts_of(category: AdsTypeCategory) -> ScratchParts
         AdsTypeCategory::Struct => ScratchParts::Fields,
         AdsTypeCategory::Union => ScratchParts::Fields,
         AdsTypeCategory::FunctionBlock => ScratchParts::Fields,
-        AdsTypeCategory::None => ScratchParts::Nothing,
-        AdsTypeCategory::Primitive => ScratchParts::Nothing,
-        AdsTypeCategory::Alias => ScratchParts::Nothing,
-        AdsTypeCategory::Enum => ScratchParts::Nothing,
-        AdsTypeCategory::Program => ScratchParts::Nothing,
-        AdsTypeCategory::Function => ScratchParts::Nothing,
-        AdsTypeCategory::SubRange => ScratchParts::Nothing,
-        AdsTypeCategory::String => ScratchParts::Nothing,
-        AdsTypeCategory::Bitset => ScratchParts::Nothing,
-        AdsTypeCategory::Pointer => ScratchParts::Nothing,
-        AdsTypeCategory::Reference => ScratchParts::Nothing,
-        AdsTypeCategory::Interface => ScratchParts::Nothing,
+        _ => ScratchParts::Nothing,
     }
 }
 
@@ -156,19 +145,13 @@ pub fn expand(
 pub fn is_part(book: &[u8], b: u32) -> bool
     ensures { result ≡ is_part book.now b }
 {
-    if block::is_type(book, b) {
-        return block::dimensions(book, b) > 0;
-    }
-    true
+    !block::is_type(book, b) || block::dimensions(book, b) > 0
 }
 
 pub fn names_it(book: &[u8], b: u32, name: &[u8]) -> bool
     ensures { result ≡ names_it book.now b name.now }
 {
-    if block::same_name(block::type_name(book, b), name) {
-        return is_part(book, b);
-    }
-    false
+    block::same_name(block::type_name(book, b), name) && is_part(book, b)
 }
 
 // Whether one of the first n listed blocks names it: a name that the book lacks was visited.
@@ -176,12 +159,10 @@ pub fn in_list(book: &[u8], list: &[u32], n: usize, name: &[u8]) -> bool
     requires { n ≤ length list.now }
     ensures { result ≡ has_ref book.now (first n list.now) name.now }
 {
-    let mut i = 0;
-    while i < n {
-        if names_it(book, list[i], name) {
+    for b in &list[..n] {
+        if names_it(book, *b, name) {
             return true;
         }
-        i += 1;
     }
     false
 }
@@ -198,8 +179,5 @@ pub fn was_listed(book: &[u8], scratch: &[u32], list: &[u32], n: usize, name: &[
     requires { (n ≤ length list.now) × (8192 ≤ length scratch.now) }
     ensures { result ≡ was_listed book.now scratch.now (first n list.now) name.now }
 {
-    if marked(scratch, lacking_bit(name)) {
-        return in_list(book, list, n, name);
-    }
-    false
+    marked(scratch, lacking_bit(name)) && in_list(book, list, n, name)
 }

@@ -1,11 +1,10 @@
 -- The calls, after 1 to 5: one law for each way out. Assumes nothing.
-use mathlib.Core.Path.{◌≡◌, refl, sym, ◌∙◌}
+use mathlib.Core.Path.{◌≡◌, sym, ◌∙◌}
 use mathlib.Core.Bool.{Bool, true}
 use mathlib.Core.List.{List}
 use Prim.Native.Nat.{ℕ, ◌≤◌}
 use lib.ListN.{length, take}
 use lib.Seq.{length-take-le}
-use Rattle.enc_number.specs.Answer.{refusal_of}
 use Rattle.type_book.specs.Book.{is_type}
 use Rattle.type_book_check.specs.declared.RootCheck.{RootCheck}
 use Rattle.type_book_check.specs.declared.RootCheck.TheVariants as checked

@@ -2,7 +2,7 @@
 use mathlib.Core.Path.{◌≡◌, refl, sym, ap, ◌∙◌}
 use mathlib.Core.Bool.{Bool, true, false, not}
 use mathlib.Core.List.{List}
-use Prim.Native.Nat.{ℕ, zero, suc, ◌-◌, ◌≤◌, ◌<◌}
+use Prim.Native.Nat.{ℕ, zero, suc, ◌+◌, ◌-◌, ◌≤◌, ◌<◌}
 use native.Mathlib.Omega.{arith}
 use borrow.Author.Tests.{not-true, not-false}
 use Rattle.type_provider.specs.declared.Found.{Found}
@@ -18,7 +18,7 @@ use Rattle.type_book_check.specs.Check.{ValidBook}
 use Rattle.type_book_check.proofs.Valid.{valid-unique}
 use Rattle.resolvers.specs.declared.Resolved.{Resolved}
 use Rattle.resolvers.specs.declared.Resolved.TheVariants.{Base, NotFound, TooLong}
-use Rattle.resolvers.proofs.Numbers.{resolved-is, resolved-says}
+use Rattle.resolvers.proofs.Numbers.{resolved-says}
 use Rattle.resolvers.specs.Resolve.{goes_on, is_followed, chain_onward, follow, resolve_alias, look_up, ResolvedIs, LookedUp}
 
 -- ---- the categories that are followed
@@ -144,24 +144,24 @@ found-typed book b f ef u h = found_type book (type_name_of book b) u (sym ef �
 
 -- ---- the loop of `follow`
 
-module _ (references : Bool) (book : List ℕ) (width : ℕ) (whole : Resolved) (at left : ℕ)
-    (inv : whole ≡ follow (is_followed references book width) book left at) where
-  pub chain-end : left ≤ 0 → ResolvedIs book whole TooLong
+module _ (references : Bool) (book : List ℕ) (width : ℕ) (whole : Resolved) (at i : ℕ)
+    (inv : whole ≡ follow (is_followed references book width) book (32 - i) at) where
+  pub chain-end : 32 ≤ i → ResolvedIs book whole TooLong
   chain-end h =
-      let z : left ≡ 0 = omega arith in
+      let z : 32 - i ≡ 0 = omega arith in
       record {
         is = resolved-says _ _ (sym (inv ∙ rw z (follow-none (is_followed references book width) book at)));
         typed = λ u e. absurd (let z : ◌≡◌ {A = ℕ} 0 1 = cc in omega arith);
       }
 
-  module _ (l : 0 < left) (g : Bool) (eg : g ≡ is_followed references book width at) where
-    turn : whole ≡ follow (is_followed references book width) book (suc (left - 1)) at
-    turn = let q : left ≡ suc (left - 1) = omega arith in inv ∙ ap (λ (n : ℕ). follow (is_followed references book width) book n at) q
+  module _ (l : i < 32) (g : Bool) (eg : g ≡ is_followed references book width at) where
+    turn : whole ≡ follow (is_followed references book width) book (suc (32 - (i + 1))) at
+    turn = let q : 32 - i ≡ suc (32 - (i + 1)) = omega arith in inv ∙ ap (λ (n : ℕ). follow (is_followed references book width) book n at) q
 
     pub chain-base : not g ≡ true → is_type book at ≡ true → ResolvedIs book whole (Base at)
     chain-base h y =
         record {
-          is = resolved-says _ _ (sym (turn ∙ follow-base (is_followed references book width) book (left - 1) at (sym eg ∙ not-true g h)));
+          is = resolved-says _ _ (sym (turn ∙ follow-base (is_followed references book width) book (32 - (i + 1)) at (sym eg ∙ not-true g h)));
           typed = λ u e. let q : at ≡ u = cc in rw (← q) y;
         }
 
@@ -172,12 +172,12 @@ module _ (references : Bool) (book : List ℕ) (width : ℕ) (whole : Resolved) 
       pub chain-lacks : f ≡ Nothing → ResolvedIs book whole (NotFound at)
       chain-lacks n =
           record {
-            is = resolved-says _ _ (sym (turn ∙ follow-lacks (is_followed references book width) book (left - 1) at goes_on_lem (sym ef ∙ n)));
+            is = resolved-says _ _ (sym (turn ∙ follow-lacks (is_followed references book width) book (32 - (i + 1)) at goes_on_lem (sym ef ∙ n)));
             typed = λ u e. absurd (let z : ◌≡◌ {A = ℕ} 0 1 = cc in omega arith);
           }
 
-      pub chain-again : (u : ℕ) → f ≡ At u → whole ≡ follow (is_followed references book width) book (left - 1) u
-      chain-again u n = turn ∙ follow-on (is_followed references book width) book (left - 1) at u goes_on_lem (sym ef ∙ n)
+      pub chain-again : (u : ℕ) → f ≡ At u → whole ≡ follow (is_followed references book width) book (32 - (i + 1)) u
+      chain-again u n = turn ∙ follow-on (is_followed references book width) book (32 - (i + 1)) at u goes_on_lem (sym ef ∙ n)
 
 -- ---- the look-up of what a block names
 

@@ -9,7 +9,7 @@ ghost use Rattle.type_index.specs.Trust.{Trusted};
 ghost use Rattle.type_book_check.specs.Check.{ValidBook};
 ghost use Rattle.resolvers.specs.Resolve.{goes_on, is_followed, resolve_type, resolve_alias, resolve_indirection, ResolvedIs, LookedUp};
 ghost use Rattle.type_book_check.specs.Given.{name as by_name};
-ghost use Rattle.resolvers.specs.Calls.{resolution_numbers, resolution, root_alias, root_indirection, given_resolution};
+ghost use Rattle.resolvers.specs.Calls.{resolution_numbers, resolution, root_resolution, root_alias, root_indirection, given_resolution};
 
 use type_book_check::{GivenRoot, LACKING_ROOT, RootCheck};
 use type_category::type_category::AdsTypeCategory;
@@ -50,20 +50,7 @@ pub fn goes_on(category: AdsTypeCategory, references: bool) -> bool
     match category {
         AdsTypeCategory::Alias => true,
         AdsTypeCategory::Reference => references,
-        AdsTypeCategory::None => false,
-        AdsTypeCategory::Primitive => false,
-        AdsTypeCategory::Enum => false,
-        AdsTypeCategory::Array => false,
-        AdsTypeCategory::Struct => false,
-        AdsTypeCategory::FunctionBlock => false,
-        AdsTypeCategory::Program => false,
-        AdsTypeCategory::Function => false,
-        AdsTypeCategory::SubRange => false,
-        AdsTypeCategory::String => false,
-        AdsTypeCategory::Bitset => false,
-        AdsTypeCategory::Pointer => false,
-        AdsTypeCategory::Union => false,
-        AdsTypeCategory::Interface => false,
+        _ => false,
     }
 }
 
@@ -95,8 +82,7 @@ fn follow(book: &[u8], index: &[u32], trust: Trust, width: u8, t: u32, reference
     ensures { ResolvedIs book.now (resolve_type references book.now width t) result }
 {
     let mut at = t;
-    let mut left: usize = MAX_ALIAS_DEPTH;
-    while left > 0 {
+    for _ in 0..MAX_ALIAS_DEPTH {
         if !is_followed(book, width, at, references) {
             return Resolved::Base(at);
         }
@@ -105,7 +91,6 @@ fn follow(book: &[u8], index: &[u32], trust: Trust, width: u8, t: u32, reference
             return Resolved::NotFound(at);
         };
         at = u;
-        left -= 1;
     }
     Resolved::TooLong
 }
@@ -162,26 +147,29 @@ fn resolve_root(book: &[u8], width: u8, t: u32, references: bool) -> Resolution
     }
 }
 
+// The chain from a root that is given by its number.
+fn resolve_numbered(buffer: &[u8], len: usize, width: u8, root: u64, references: bool) -> Resolution
+    ensures { resolution_numbers result ≡ resolution_numbers (root_resolution references buffer.now len width root) }
+{
+    let check = type_book_check::check_root(buffer, len, root);
+    match check {
+        RootCheck::Root(t) => resolve_root(&buffer[..len], width, t, references),
+        RootCheck::Refused(n) => Resolution::Refused(n),
+    }
+}
+
 // Resolves the root, an alias or not, down to a type that is no alias. The book fills the first `len` bytes of the buffer.
 pub fn resolve_alias(buffer: &[u8], len: usize, width: u8, root: u64) -> Resolution
     ensures { resolution_numbers result ≡ resolution_numbers (root_alias buffer.now len width root) }
 {
-    let check = type_book_check::check_root(buffer, len, root);
-    match check {
-        RootCheck::Root(t) => resolve_root(&buffer[..len], width, t, false),
-        RootCheck::Refused(n) => Resolution::Refused(n),
-    }
+    resolve_numbered(buffer, len, width, root, false)
 }
 
 // The same down to a type that is neither an alias nor a reference.
 pub fn resolve_indirection(buffer: &[u8], len: usize, width: u8, root: u64) -> Resolution
     ensures { resolution_numbers result ≡ resolution_numbers (root_indirection buffer.now len width root) }
 {
-    let check = type_book_check::check_root(buffer, len, root);
-    match check {
-        RootCheck::Root(t) => resolve_root(&buffer[..len], width, t, true),
-        RootCheck::Refused(n) => Resolution::Refused(n),
-    }
+    resolve_numbered(buffer, len, width, root, true)
 }
 
 // The chain from a root that is given by its name.

@@ -6,7 +6,7 @@ use Rattle.resolve_field_plan.proofs.plan_fields_in.Goals as goal
 ruleset exits = (planning_end, planning_lacks, planning_endless)
 
 pub loop-i-init : goal.loop-i-init
-loop-i-init c = (search rules, search rules, search rules, search planning_start)
+loop-i-init c = (search rules, search rules, search planning_start)
 
 pub overflow_add-t : goal.overflow_add-t
 overflow_add-t c = search field-first
@@ -27,7 +27,7 @@ pub returns-in-TooLong : goal.returns-in-TooLong
 returns-in-TooLong c = search exits
 
 pub loop-i-preserved : goal.loop-i-preserved
-loop-i-preserved c = (search rules, search rules, search rules, search planning_again)
+loop-i-preserved c = (search rules, search rules, search planning_again)
 
 pub returns : goal.returns
 returns c = search exits

@@ -8,8 +8,5 @@ use Rattle.resolve_field_records.proofs.fill_records.Given as goal
 -- the records that are left, stored from field i on, give the whole
 abbrev pub invariant-loop-i : goal.invariant-loop-i
 invariant-loop-i l =
-    (l.i ≤ l.n) × (length l.records ≡ length l.initial.records)
+    (length l.records ≡ length l.initial.records)
     × (sets l.records l.i (resolved_records_at l.buffer l.len l.width l.root l.i (l.n - l.i)) ≡ sets l.initial.records 0 (resolved_records_at l.buffer l.len l.width l.root 0 l.n))
-
-abbrev pub decreases-loop-i : goal.decreases-loop-i
-decreases-loop-i l = l.n - l.i

@@ -1,14 +1,9 @@
 -- `record_of` meets its contract. Assumes nothing.
-use Rattle.resolve_field_records.proofs.Stored.{record-field, record-lacks, record-endless}
+use Rattle.resolve_field_records.proofs.Stored.{record-field, record-none}
 use Rattle.resolve_field_records.proofs.record_of.Goals as goal
 
-ruleset exits = (record-field, record-lacks, record-endless)
-
 pub returns-in-Field : goal.returns-in-Field
-returns-in-Field c = search exits
+returns-in-Field c = search record-field
 
-pub returns-in-NotFound : goal.returns-in-NotFound
-returns-in-NotFound c = search exits
-
-pub returns-in-TooLong : goal.returns-in-TooLong
-returns-in-TooLong c = search exits
+pub returns-in_default : goal.returns-in_default
+returns-in_default c = search record-none

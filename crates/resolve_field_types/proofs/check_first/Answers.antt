@@ -7,7 +7,7 @@ use Rattle.resolve_field_types.proofs.check_first.Goals as goal
 ruleset exits = (first-end, first-lacks, first-endless)
 
 pub loop-i-init : goal.loop-i-init
-loop-i-init c = (search rules, search first-start)
+loop-i-init c = search first-start
 
 pub overflow_add-t : goal.overflow_add-t
 overflow_add-t c = search field-first
@@ -22,7 +22,7 @@ pub returns-in-TooLong : goal.returns-in-TooLong
 returns-in-TooLong c = search exits
 
 pub loop-i-preserved : goal.loop-i-preserved
-loop-i-preserved c = (search rules, search first-again)
+loop-i-preserved c = search first-again
 
 pub returns : goal.returns
 returns c = search exits

@@ -6,38 +6,20 @@ ruleset exits = (apply_old, apply_new, apply_lacking, apply_long, apply_full)
 
 ruleset due = (due-new, due-lacking, due-long)
 
--- src/lib.rt:54:24
-pub overflow_sub-rest : goal.overflow_sub-rest
-overflow_sub-rest c = search due
-
--- src/lib.rt:58:24
-pub overflow_sub-rest-in-NotFound : goal.overflow_sub-rest-in-NotFound
-overflow_sub-rest-in-NotFound c = search due
-
--- src/lib.rt:59:33
 pub list_block-requires : goal.list_block-requires
 list_block-requires c = search due-room
 
--- src/lib.rt:62:24
-pub overflow_sub-rest-in-TooLong : goal.overflow_sub-rest-in-TooLong
-overflow_sub-rest-in-TooLong c = search due
-
--- src/lib.rt:47:1
 pub returns-in-Old : goal.returns-in-Old
 returns-in-Old c = search exits
 
--- src/lib.rt:47:1
 pub returns-in-New : goal.returns-in-New
 returns-in-New c = search exits
 
--- src/lib.rt:47:1
 pub returns-in-NotFound : goal.returns-in-NotFound
 returns-in-NotFound c = search exits
 
--- src/lib.rt:47:1
 pub returns-in-TooLong : goal.returns-in-TooLong
 returns-in-TooLong c = search exits
 
--- src/lib.rt:47:1
 pub returns-in-Full : goal.returns-in-Full
 returns-in-Full c = search exits

@@ -13,17 +13,17 @@ decide-here-requires c = search start-due
 pub loop-here-init : goal.loop-here-init
 loop-here-init c = (search here-start, search rules)
 
-pub returns-in-Is : goal.returns-in-Is
-returns-in-Is c = search exits
+pub returns-in-Break : goal.returns-in-Break
+returns-in-Break c = search exits
 
-pub returns-then-depth-eq0 : goal.returns-then-depth-eq0
-returns-then-depth-eq0 c = search exits
+pub returns-then-rest-eq0 : goal.returns-then-rest-eq0
+returns-then-rest-eq0 c = search exits
 
 pub step-e-requires : goal.step-e-requires
 step-e-requires c = (search rules, search unknown-trusted, search rules, search rules, search rules, search here-room)
 
-pub decide-here-requires-in-More : goal.decide-here-requires-in-More
-decide-here-requires-in-More c = search step-due
+pub decide-here-requires-in-Continue : goal.decide-here-requires-in-Continue
+decide-here-requires-in-Continue c = search step-due
 
 pub loop-here-smaller : goal.loop-here-smaller
 loop-here-smaller c = search here-falls

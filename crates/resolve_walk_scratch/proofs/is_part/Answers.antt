@@ -2,10 +2,8 @@
 use Rattle.resolve_walk_scratch.proofs.Places.{part_field, part-dimensions}
 use Rattle.resolve_walk_scratch.proofs.is_part.Goals as goal
 
-ruleset exits = (part_field, part-dimensions)
+pub returns-then-not-is_type : goal.returns-then-not-is_type
+returns-then-not-is_type c = search part_field
 
-pub returns-then-is_type : goal.returns-then-is_type
-returns-then-is_type c = search exits
-
-pub returns : goal.returns
-returns c = search exits
+pub returns-else-not-is_type : goal.returns-else-not-is_type
+returns-else-not-is_type c = search part-dimensions

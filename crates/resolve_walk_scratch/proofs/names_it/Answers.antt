@@ -2,10 +2,8 @@
 use Rattle.resolve_walk_scratch.proofs.Places.{names_same, names-other}
 use Rattle.resolve_walk_scratch.proofs.names_it.Goals as goal
 
-ruleset exits = (names_same, names-other)
-
 pub returns-then-same_name : goal.returns-then-same_name
-returns-then-same_name c = search exits
+returns-then-same_name c = search names_same
 
-pub returns : goal.returns
-returns c = search exits
+pub returns-else-same_name : goal.returns-else-same_name
+returns-else-same_name c = search names-other

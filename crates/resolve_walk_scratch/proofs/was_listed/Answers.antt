@@ -6,7 +6,7 @@ pub marked-requires : goal.marked-requires
 marked-requires c = search bit_in
 
 pub returns-then-marked : goal.returns-then-marked
-returns-then-marked c = search (listed_maybe, listed-not)
+returns-then-marked c = search listed_maybe
 
-pub returns : goal.returns
-returns c = search (listed_maybe, listed-not)
+pub returns-else-marked : goal.returns-else-marked
+returns-else-marked c = search listed-not

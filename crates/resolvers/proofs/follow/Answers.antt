@@ -7,8 +7,8 @@ use Rattle.resolvers.proofs.follow.Goals as goal
 
 ruleset exits = (chain-end, chain-base, chain-lacks, found-is)
 
-pub loop-left-init : goal.loop-left-init
-loop-left-init c = (refl, search rules)
+pub loop-init : goal.loop-init
+loop-init c = (refl, search rules)
 
 pub returns-then-not-is_followed : goal.returns-then-not-is_followed
 returns-then-not-is_followed c = search exits
@@ -16,8 +16,8 @@ returns-then-not-is_followed c = search exits
 pub returns-in_default : goal.returns-in_default
 returns-in_default c = search exits
 
-pub loop-left-preserved : goal.loop-left-preserved
-loop-left-preserved c = (search (chain-again, found-is), search (found-typed, found-is))
+pub loop-preserved : goal.loop-preserved
+loop-preserved c = (search (chain-again, found-is), search (found-typed, found-is))
 
 pub returns : goal.returns
 returns c = search exits

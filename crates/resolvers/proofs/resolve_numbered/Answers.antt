@@ -1,8 +1,8 @@
--- `resolve_alias` meets its contract. Assumes nothing.
+-- `resolve_numbered` meets its contract. Assumes nothing.
 use Rattle.resolvers.proofs.Calls.{root-cut, root-book, root-type, call_refused, call_root}
 use Rattle.resolvers.proofs.Numbers.{resolution-is, resolution-says}
 use Rattle.type_book_check.proofs.Numbers.{root_is}
-use Rattle.resolvers.proofs.resolve_alias.Goals as goal
+use Rattle.resolvers.proofs.resolve_numbered.Goals as goal
 
 ruleset exits = (call_refused, call_root, resolution-is, root_is)
 
