@@ -1,23 +1,23 @@
 -- What a record or a text that is put does, as a trace of one event. Assumes nothing.
 use mathlib.Core.Path.{◌≡◌, refl, sym, ◌∙◌}
-use mathlib.Core.Bool.{Bool, true, false, cond, ◌&&◌}
+use mathlib.Core.Bool.{Bool, true, false, cond}
 use mathlib.Core.List.{List, [], ◌∷◌, ◌++◌, append-nil}
 use Prim.Native.Nat.{ℕ, ◌+◌, ◌-◌, ◌≤◌, ◌<◌}
 use native.Mathlib.Omega.{arith}
 use lib.ListN.{length}
+use Rattle.std.proofs.lemmas.Bool.{and_right}
 use Rattle.enc_utf_8.specs.Buffer.{splice, fits_in, Wrote}
 use Rattle.enc_utf_8.specs.declared.Put.{Put}
 use Rattle.enc_utf_8.specs.declared.Put.TheVariants as put
 use Rattle.enc_utf_8.proofs.Splices.{splice-none, fits-none, fits_not, next-full, Went, went, stayed}
-use Rattle.tape.specs.Record.{record_bytes, declaring}
+use Rattle.tape.specs.Record.{record_bytes}
 use Rattle.tape.specs.declared.record.Record.{Record}
 use Rattle.tape.proofs.Records.{length-record}
 use lib.Dec.{leb}
-use borrow.Author.Tests.{leb-true, leb-false, le-leb, lt-leb}
-use Rattle.de_output.specs.declared.Step.{Step}
+use borrow.Author.Tests.{leb-true, leb-false}
 use Rattle.de_output.specs.declared.Step.TheVariants.{Next, Stop}
-use Rattle.de_output.specs.Trace.{TapeEvent, rec, text, text_record, text_bytes, tape_bytes, Trace, events_of, end_of, one, fits, step_of, fitting, Ran, From}
-use Rattle.de_output.proofs.Runs.{fitting-all, from_next}
+use Rattle.de_output.specs.Trace.{TapeEvent, rec, text, text_record, text_bytes, tape_bytes, events_of, end_of, one, fits, step_of, fitting, Ran}
+use Rattle.de_output.proofs.Runs.{fitting-all}
 
 not-fits : (b : Bool) (xs out : List ℕ) (at : ℕ) → fits_in xs at (length out) ≡ b → put.Full ≡ cond b (put.Next (at + length xs)) put.Full → b ≡ false
 not-fits true xs out at e a = next-full (sym a)
@@ -25,10 +25,6 @@ not-fits false xs out at e a = refl
 
 over : {xs out out' : List ℕ} {at : ℕ} {p : Put} → Wrote xs out at p out' → p ≡ put.Full → fits_in xs at (length out) ≡ false
 over {xs} {out} {out'} {at} {p} w e = not-fits (fits_in xs at (length out)) xs out at refl (sym e ∙ w.answer)
-
-and-false : (a : Bool) → a && false ≡ false
-and-false true = refl
-and-false false = refl
 
 -- one event that does not fit: nothing is put
 none_put : (e : TapeEvent) (tape txt : List ℕ) (at from : ℕ) → fits (e ∷ []) at from (length tape) (length txt) ≡ false → Ran (one e) tape txt at from (Stop 15 0) tape txt
@@ -88,7 +84,7 @@ text-short w d xs tape txt at from b e h =
 module _ (w d : ℕ) (xs tape txt : List ℕ) (at from : ℕ) {p : Put} {txt' : List ℕ} (h : Wrote xs txt from p txt') where
   text-over : p ≡ put.Full → fits (text w d xs ∷ []) at from (length tape) (length txt) ≡ false
   unfolding fits tape_bytes text_bytes
-  text-over e = rw (append-nil xs, over h e, and-false (fits_in (record_bytes (text_record w d from (length xs)) ++ []) at (length tape)))
+  text-over e = rw (append-nil xs, over h e, and_right (fits_in (record_bytes (text_record w d from (length xs)) ++ []) at (length tape)) false refl)
 
   pub text-full : p ≡ put.Full → Ran (one (text w d xs)) tape txt at from (Stop 15 0) tape txt'
   text-full e = rw (stayed h e).buffer (none_put (text w d xs) tape txt at from (text-over e))
@@ -137,24 +133,3 @@ module _ (w d : ℕ) (xs tape txt : List ℕ) (at from : ℕ) {p : Put} {txt' : 
 -- the text of an earlier place comes before a later one
 pub text-order : {xs txt txt' : List ℕ} {from to : ℕ} {p : Put} → Wrote xs txt from p txt' → p ≡ put.Next to → from ≤ to
 text-order h e = omega (arith, (went h e).place)
-
--- ---- after a step
-
-pub put_next : {t : Trace} {tape tape' txt txt' : List ℕ} {s r : Step} (at from : ℕ) → s ≡ Next at from → Ran t tape txt at from r tape' txt' → From t tape txt s r tape' txt'
-put_next at from e h = from_next at from e h
-
--- a record that was made, and declares a block, is put
-pub put_declared : {t : Record} {n : ℕ} {tape tape' txt txt' : List ℕ} {s next : Step} (r q : Record) → r ≡ t → q ≡ declaring n r → From (one (rec q)) tape txt s next tape' txt' → From (one (rec (declaring n t))) tape txt s next tape' txt'
-put_declared r q e d h = rw (d, e) at h
-
--- ---- room for a record
-
-pub room-past : (tape : List ℕ) (at : ℕ) → length tape < at → false ≡ leb (at + 24) (length tape)
-room-past tape at h = sym (lt-leb (at + 24) (length tape) (omega arith))
-
-pub room_after : (tape : List ℕ) (at : ℕ) → at ≤ length tape → leb 24 (length tape - at) ≡ leb (at + 24) (length tape)
-room_after tape at h = by (leb 24 (length tape - at)) refl
-  where
-    by : (b : Bool) → leb 24 (length tape - at) ≡ b → b ≡ leb (at + 24) (length tape)
-    by true e = let l : 24 ≤ length tape - at = leb-true 24 (length tape - at) e in sym (le-leb (at + 24) (length tape) (omega arith))
-    by false e = let l : length tape - at < 24 = leb-false 24 (length tape - at) e in sym (lt-leb (at + 24) (length tape) (omega arith))

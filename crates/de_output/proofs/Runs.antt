@@ -2,11 +2,11 @@
 use mathlib.Core.Path.{◌≡◌, refl, sym, ap, ◌∙◌}
 use mathlib.Core.Bool.{Bool, true, false, cond, ◌&&◌}
 use mathlib.Core.List.{List, [], ◌∷◌, ◌++◌, append_assoc, append-nil}
-use Prim.Native.Nat.{ℕ, ◌+◌, ◌-◌}
+use Prim.Native.Nat.{ℕ, ◌+◌}
 use native.Mathlib.Omega.{arith}
 use lib.ListN.{length, length-append}
+use Rattle.std.proofs.lemmas.Bool.{and_parts, and_right}
 use Rattle.enc_utf_8.specs.Buffer.{splice, fits_in}
-use Rattle.enc_utf_8.specs.declared.Put.TheVariants as put
 use Rattle.enc_utf_8.proofs.Splices.{length-splice, splice-none, splice-both, fits-none, fits_in-then, unfits_in_then}
 use Rattle.tape.specs.Record.{record_bytes}
 use Rattle.de_output.specs.declared.Step.{Step}
@@ -32,14 +32,6 @@ tape-then from (text w d t ∷ xs) ys =
     let e : from + length t + length (text_bytes xs) ≡ from + length (t ++ text_bytes xs) = simp length-append (omega arith) in
     rw (tape-then (from + length t) xs ys, e) (sym (append_assoc (record_bytes (text_record w d from (length t))) (tape_bytes (from + length t) xs) (tape_bytes (from + length (t ++ text_bytes xs)) ys)))
 
-and_left : (a b : Bool) → a && b ≡ true → a ≡ true
-and_left true b h = refl
-and_left false b h = h
-
-and_right : (a b : Bool) → a && b ≡ true → b ≡ true
-and_right true b h = h
-and_right false b h = absurd (let z : ◌≡◌ {A = ℕ} 0 1 = cc in omega arith)
-
 -- the events fit, buffer by buffer
 pub record Fit (es : List TapeEvent) (at from tape_room text_room : ℕ) : Type 0 where
   pub tape : fits_in (tape_bytes from es) at tape_room ≡ true
@@ -50,7 +42,8 @@ unfolding fits
 fit es at from tape_room text_room h =
     let a = fits_in (tape_bytes from es) at tape_room in
     let b = fits_in (text_bytes es) from text_room in
-    record { tape = and_left a b h; txt = and_right a b h }
+    let p = and_parts a b h in
+    record { tape = p.0; txt = p.1 }
 
 fits-then : (xs ys : List TapeEvent) (at from tape_room text_room : ℕ) → Fit xs at from tape_room text_room
     → fits (xs ++ ys) at from tape_room text_room ≡ fits ys (at + length (tape_bytes from xs)) (from + length (text_bytes xs)) tape_room text_room
@@ -63,14 +56,10 @@ unfolding fits
 unfits_then xs ys at from tape_room text_room h =
     by (fits_in (tape_bytes from xs) at tape_room) refl (fits_in (text_bytes xs) from text_room) refl h
   where
-    and-false : (a : Bool) → a && false ≡ false
-    and-false true = refl
-    and-false false = refl
-
     by : (a : Bool) → fits_in (tape_bytes from xs) at tape_room ≡ a → (b : Bool) → fits_in (text_bytes xs) from text_room ≡ b → a && b ≡ false
         → fits_in (tape_bytes from (xs ++ ys)) at tape_room && fits_in (text_bytes (xs ++ ys)) from text_room ≡ false
     by false e b q h = rw (tape-then from xs ys, unfits_in_then (tape_bytes from xs) (tape_bytes (from + length (text_bytes xs)) ys) tape_room at e)
-    by true e false q h = rw (text-then xs ys, unfits_in_then (text_bytes xs) (text_bytes ys) text_room from q) (and-false (fits_in (tape_bytes from (xs ++ ys)) at tape_room))
+    by true e false q h = rw (text-then xs ys, unfits_in_then (text_bytes xs) (text_bytes ys) text_room from q) (and_right (fits_in (tape_bytes from (xs ++ ys)) at tape_room) false refl)
     by true e true q h = absurd (let z : ◌≡◌ {A = ℕ} 0 1 = cc in omega arith)
 
 -- ---- the events that fit
@@ -250,18 +239,9 @@ from_next {t} {tape} {tape'} {txt} {txt'} {s} {r} at from e h = record {
   off-text = λ n b q. next-stop (sym e ∙ q);
 }
 
-pub from-stop : {t : Trace} {tape txt : List ℕ} {s : Step} (n b : ℕ) → s ≡ Stop n b → From t tape txt s (Stop n b) tape txt
-from-stop n b e = record { on = λ k j q. next-stop (sym q ∙ e); off = λ k c q. sym e ∙ q; off-tape = λ k c q. refl; off-text = λ k c q. refl }
-
 -- a step that is a refusal stays it, whatever was to run
 pub from-held : {t : Trace} {tape txt : List ℕ} {s : Step} (n b : ℕ) → s ≡ Stop n b → From t tape txt s s tape txt
 from-held n b e = record { on = λ k j q. next-stop (sym q ∙ e); off = λ k c q. q; off-tape = λ k c q. refl; off-text = λ k c q. refl }
-
-pub halts_next : {s : Step} {n b : ℕ} (at from : ℕ) → s ≡ Next at from → Halts s n b (Stop n b)
-halts_next at from e = record { is = rw e; on = λ k j q. refl; off = λ k c q. next-stop (sym e ∙ q) }
-
-pub halts_stop : {s : Step} (n b k c : ℕ) → s ≡ Stop k c → Halts s n b (Stop k c)
-halts_stop n b k c e = record { is = rw e; on = λ j i q. next-stop (sym q ∙ e); off = λ j d q. sym e ∙ q }
 
 -- the first, then the second
 on-by : {t u : Trace} {tape tape₁ tape₂ txt txt₁ txt₂ : List ℕ} {at from : ℕ} (r : Step) {r' : Step} → Ran t tape txt at from r tape₁ txt₁ → From u tape₁ txt₁ r r' tape₂ txt₂

@@ -35,7 +35,7 @@ pub fn stop(s: Step, n: u8, b: u32) -> Step
 {
     match s {
         Step::Next(_, _) => Step::Stop(n, b),
-        Step::Stop(k, c) => Step::Stop(k, c),
+        Step::Stop(_, _) => s,
     }
 }
 
@@ -43,15 +43,12 @@ pub fn stop(s: Step, n: u8, b: u32) -> Step
 pub fn put(s: Step, tape: &mut [u8], text: &mut [u8], r: Record) -> Step
     ensures { From (one (rec r)) tape.old text.old s result tape.new text.new }
 {
-    match s {
-        Step::Next(at, from) => {
-            let p = tape::record::put(tape, at, r);
-            match p {
-                Put::Next(n) => Step::Next(n, from),
-                Put::Full => Step::Stop(15, 0),
-            }
-        }
-        Step::Stop(n, c) => Step::Stop(n, c),
+    let Step::Next(at, from) = s else {
+        return s;
+    };
+    match tape::record::put(tape, at, r) {
+        Put::Next(n) => Step::Next(n, from),
+        Put::Full => Step::Stop(15, 0),
     }
 }
 
@@ -72,10 +69,7 @@ pub fn put_frame(s: Step, tape: &mut [u8], text: &mut [u8], kind: u8, declared: 
 fn has_room(tape: &[u8], at: usize) -> bool
     ensures { result ≡ leb (at + 24) (length tape.now) }
 {
-    if tape.len() < at {
-        return false;
-    }
-    LENGTH <= tape.len() - at
+    at <= tape.len() && LENGTH <= tape.len() - at
 }
 
 // Writes a text and its record, after a step: a refusal is handed on. Room for the record is asked for first, so that a text is
@@ -91,25 +85,18 @@ pub fn put_text(
 ) -> Step
     ensures { From (one (text_event width declared (decoded_by decoder bytes.now))) tape.old text.old s result tape.new text.new }
 {
-    match s {
-        Step::Next(at, from) => {
-            if has_room(tape, at) {
-                let p = enc_text_decoder::decode(decoder, bytes, text, from);
-                match p {
-                    Put::Next(to) => {
-                        let q = text_record(tape, at, width, declared, from, to);
-                        match q {
-                            Put::Next(n) => Step::Next(n, to),
-                            Put::Full => Step::Stop(15, 0),
-                        }
-                    }
-                    Put::Full => Step::Stop(15, 0),
-                }
-            } else {
-                Step::Stop(15, 0)
-            }
-        }
-        Step::Stop(n, c) => Step::Stop(n, c),
+    let Step::Next(at, from) = s else {
+        return s;
+    };
+    if !has_room(tape, at) {
+        return Step::Stop(15, 0);
+    }
+    let Put::Next(to) = enc_text_decoder::decode(decoder, bytes, text, from) else {
+        return Step::Stop(15, 0);
+    };
+    match text_record(tape, at, width, declared, from, to) {
+        Put::Next(n) => Step::Next(n, to),
+        Put::Full => Step::Stop(15, 0),
     }
 }
 
