@@ -7,41 +7,29 @@ ghost use Rattle.cases_file.specs.Case.{u16_at};
 pub fn from(input: &[u8], at: usize) -> &[u8]
     ensures { result.now ≡ drop at input.now }
 {
-    if at <= input.len() {
-        return &input[at..];
-    }
-    &input[0..0]
+    input.get(at..).unwrap_or(&[])
 }
 
 // At most the first n bytes.
 pub fn first(input: &[u8], n: usize) -> &[u8]
     ensures { result.now ≡ take n input.now }
 {
-    if n <= input.len() {
-        return &input[0..n];
-    }
-    input
+    input.get(..n).unwrap_or(input)
 }
 
 // The byte at a place.
 pub fn byte_at(input: &[u8], at: usize) -> u8
     ensures { result ≡ get_or input.now at 0 }
 {
-    if at < input.len() {
-        return input[at];
-    }
-    0
+    input.get(at).copied().unwrap_or(0)
 }
 
 // The number of two bytes at a place, low byte first.
 pub fn u16_at(input: &[u8], at: usize) -> usize
     ensures { (result ≡ u16_at input.now at) × (result < 65536) }
 {
-    let low = byte_at(input, at) as usize;
-    if at < input.len() {
-        return low + 256 * (byte_at(input, at + 1) as usize);
-    }
-    low
+    let part = from(input, at);
+    u16::from_le_bytes([byte_at(part, 0), byte_at(part, 1)]) as usize
 }
 
 // The number of four bytes at a place, low byte first.

@@ -1,6 +1,0 @@
--- `done_1` meets its contract. Assumes nothing.
-use Rattle.gateway_lent_values.proofs.Lays.{laid_one}
-use Rattle.gateway_lent_values.proofs.done_1.Goals as goal
-
-pub returns : goal.returns
-returns c = search laid_one
