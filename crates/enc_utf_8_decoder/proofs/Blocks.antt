@@ -1,7 +1,7 @@
 -- ASCII that the pass over a text leaves behind: byte by byte, and in blocks. Assumes nothing.
-use mathlib.Core.Path.{◌≡◌, refl, sym, ap, ◌∙◌}
-use mathlib.Core.Bool.{Bool, true, false}
-use mathlib.Core.List.{List, []}
+use mathlib.Core.Path.{◌≡◌, refl}
+use mathlib.Core.Bool.{Bool, true}
+use mathlib.Core.List.{List}
 use Prim.Native.Nat.{ℕ, zero, suc, ◌+◌, ◌-◌, ◌≤◌, ◌<◌}
 use native.Mathlib.Omega.{arith}
 use lib.ListN.{length, get_or, take, drop}
@@ -9,41 +9,14 @@ use lib.Seq.{get_or-take, get_or-drop}
 use Rattle.enc_utf_8.specs.declared.Char.TheVariants.{Code}
 use Rattle.enc_utf_8.specs.Utf8.{well_formed}
 use Rattle.enc_utf_8.proofs.Decodes.{next_one}
-use Rattle.enc_utf_8.proofs.Items.{next-code}
 use Rattle.enc_utf_8.proofs.Cuts.{Passed, passed-code, passed-part}
-use Rattle.enc_ascii.specs.Ascii.{is_ascii}
 use Rattle.enc_ascii.proofs.Ascii.{ascii-each, ascii-none}
 use Rattle.enc_utf_8_decoder.specs.After.{AsciiHere}
 
--- ---- ascii_block, ascii_part
+-- ---- ascii_bytes: none
 
-module _ (text : List ℕ) (at : ℕ) where
-  pub block_inside : at < length text → 64 ≤ length text - at → at + 64 ≤ length text
-  block_inside b h = omega arith
-
-  pub part-inside : at < length text → 16 ≤ length text - at → at + 16 ≤ length text
-  part-inside b h = omega arith
-
-  pub block-told : (t : Bool) → t ≡ is_ascii (take (at + 64 - at) (drop at text)) → t ≡ true → is_ascii (take 64 (drop at text)) ≡ true
-  block-told t e q = let z : at + 64 - at ≡ 64 = omega arith in rw z at (sym e ∙ q)
-
-  pub part-told : (t : Bool) → t ≡ is_ascii (take (at + 16 - at) (drop at text)) → t ≡ true → is_ascii (take 16 (drop at text)) ≡ true
-  part-told t e q = let z : at + 16 - at ≡ 16 = omega arith in rw z at (sym e ∙ q)
-
-  -- ---- ascii_bytes
-
-  pub here-none : at < length text → AsciiHere text at 0
-  here-none h = record { inside = omega arith; ascii = ascii-none }
-
-  pub here-block : (t : Bool) → (t ≡ true → (at + 64 ≤ length text) × (is_ascii (take 64 (drop at text)) ≡ true)) → t ≡ true → AsciiHere text at 64
-  here-block t a q = record { inside = (a q).0; ascii = (a q).1 }
-
-  pub here-part : (t : Bool) → (t ≡ true → (at + 16 ≤ length text) × (is_ascii (take 16 (drop at text)) ≡ true)) → t ≡ true → AsciiHere text at 16
-  here-part t a q = record { inside = (a q).0; ascii = (a q).1 }
-
--- where no block is told, nothing is promised
-pub not-told : {X : Type 0} → false ≡ true → X
-not-told e = absurd (let z : ◌≡◌ {A = ℕ} 0 1 = cc in omega arith)
+pub here-none : (text : List ℕ) (at : ℕ) → at < length text → AsciiHere text at 0
+here-none text at h = record { inside = omega arith; ascii = ascii-none }
 
 -- ---- the pass over a text
 

@@ -1,19 +1,19 @@
 -- The place after a code point: what each exit of the functions that look for it says of `next_at`, and of the pass over a text. Assumes nothing.
 use mathlib.Core.Path.{◌≡◌, refl, sym, ap, ◌∙◌}
-use mathlib.Core.Bool.{Bool, true, false, cond, ◌&&◌}
-use mathlib.Core.List.{List, [], ◌∷◌}
-use Prim.Native.Nat.{ℕ, suc, ◌+◌, ◌*◌, ◌%◌, ◌-◌, ◌≤◌, ◌<◌}
+use mathlib.Core.Bool.{Bool, true, false, cond, not, ◌&&◌}
+use mathlib.Core.List.{List, ◌∷◌}
+use Prim.Native.Nat.{ℕ, ◌+◌, ◌-◌, ◌≤◌, ◌<◌}
 use native.Mathlib.Omega.{arith}
 use native.Mathlib.Numerals.{add-one}
-use lib.ListN.{length, get_or, drop}
+use lib.ListN.{length, get_or, take, drop}
 use lib.Seq.{drop-cons}
-use lib.Dec.{leb, ltb, eqb}
-use borrow.Author.Tests.{lt-ltb, le-ltb, le-leb, lt-leb, ltb-true, ltb-false}
+use lib.Dec.{T, leb, ltb, eqb}
+use borrow.Author.Tests.{lt-ltb, le-ltb, le-leb, lt-leb, eq-eqb, ltb-true, ltb-false}
 use Rattle.enc_utf_8.specs.declared.Char.{Char}
 use Rattle.enc_utf_8.specs.declared.Char.TheVariants.{Code, Error, End}
-use Rattle.enc_utf_8.specs.Utf8.{State, state, initial, lower_of, upper_of, leading, following, found, next_from, next_at, trail, well_formed, ValidTo}
-use Rattle.enc_utf_8.proofs.Cuts.{Passed, passed-code, passed-less, passed_to, passed-error, passed_none}
-use Rattle.enc_utf_8.proofs.Decodes.{next_past, next_one}
+use Rattle.enc_utf_8.specs.Utf8.{state, lower_of, upper_of, leading, following, found, next_from, next_at, trail, well_formed}
+use Rattle.enc_utf_8.proofs.Cuts.{Passed, passed-code, passed-less, passed-error, passed_none, part-trail, part-last, part-clean, part_cut}
+use Rattle.enc_utf_8.proofs.Decodes.{next_past, next_one, more-error, more-none}
 use Rattle.enc_utf_8.proofs.Items.{next-code}
 use Rattle.enc_utf_8_decoder.specs.After.{place_after, four_fit, PassedTo}
 
@@ -218,34 +218,9 @@ module _ (text : List ℕ) (at : ℕ) (t : Bool) (e : t ≡ (leb (lower_of (get_
   unfolding four_fit
   fit-second q r k = rw (← e, q) k
 
-  pub fit-first : t ≡ false → false ≡ four_fit text at
+  pub fit-first : t ≡ false → t ≡ four_fit text at
   unfolding four_fit
   fit-first q = rw (← e, q)
-
--- ---- the exits of `three_fit`: both tests
-
-module _ (a b t : Bool) (e : t ≡ a) where
-  pub all-second : t ≡ true → (r : Bool) → r ≡ b → r ≡ (a && b)
-  all-second q r k = rw (← e, q) k
-
-  pub all_first : t ≡ false → false ≡ (a && b)
-  all_first q = rw (← e, q)
-
--- ---- the exits of `second_fits` and `both_trail`
-
-module _ (lead b n : ℕ) (en : n ≡ lower_of lead) where
-  pub fits_below : b < n → false ≡ (leb (lower_of lead) b && leb b (upper_of lead))
-  fits_below h = rw (← en, lt-leb n b h)
-
-  pub fits-from : n ≤ b → (m : ℕ) → m ≡ upper_of lead → leb b m ≡ (leb (lower_of lead) b && leb b (upper_of lead))
-  fits-from h m em = rw (← en, ← em, le-leb n b h)
-
-module _ (a b : ℕ) (t : Bool) (e : t ≡ trail a) where
-  pub both-second : t ≡ true → (r : Bool) → r ≡ trail b → r ≡ (trail a && trail b)
-  both-second q r k = rw (← e, q) k
-
-  pub both_first : t ≡ false → false ≡ (trail a && trail b)
-  both_first q = rw (← e, q)
 
 -- ---- `after_code`: no code point begins with a byte from F5h on
 
@@ -260,13 +235,39 @@ module _ (text : List ℕ) (at : ℕ) (r : Char) (h : r ≡ next_at text at) whe
   unfolding place_after
   last_code c e k = ap (λ (x : Char). place_after x at) (sym k ∙ h)
 
-  pub last-error : (e : ℕ) → r ≡ Error e → at ≡ place_after (next_at text at) at
+  pub last-none : ((c e : ℕ) → r ≡ Code c e → ⊥) → at ≡ place_after (next_at text at) at
   unfolding place_after
-  last-error e k = ap (λ (x : Char). place_after x at) (sym k ∙ h)
+  last-none n = by r refl
+    where
+      by : (x : Char) → r ≡ x → at ≡ place_after (next_at text at) at
+      by (Code c e) k = absurd (n c e k)
+      by (Error e) k = ap (λ (x : Char). place_after x at) (sym k ∙ h)
+      by End k = ap (λ (x : Char). place_after x at) (sym k ∙ h)
 
-  pub last_end : r ≡ End → at ≡ place_after (next_at text at) at
-  unfolding place_after
-  last_end k = ap (λ (x : Char). place_after x at) (sym k ∙ h)
+-- ---- the exits of `two_more` and `three_more`: what is no code point stays
+
+module _ (text : List ℕ) (at code lower upper total : ℕ) (many : T (ltb 1 total)) (one : Char) (h : one ≡ next_from (state code 0 1 lower upper) at (drop at text)) where
+  pub more-ended : ((c e : ℕ) → one ≡ Code c e → ⊥) → one ≡ next_from (state code 0 total lower upper) at (drop at text)
+  more-ended n = by one refl
+    where
+      by : (x : Char) → one ≡ x → one ≡ next_from (state code 0 total lower upper) at (drop at text)
+      by (Code c e) k = absurd (n c e k)
+      by (Error e) k = k ∙ more-error text at code lower upper total many one h e k
+      by End k = k ∙ more-none text at code lower upper total many one h k
+
+-- ---- the exits of `part_well_formed`
+
+module _ (text : List ℕ) (a e : ℕ) (l : a < e) (w : e ≤ length text) (f : Bool) (first : f ≡ trail (get_or text a 0)) where
+  pub part-begun : f ≡ true → not f ≡ well_formed (take (e - a) (drop a text))
+  part-begun q = ap not q ∙ part-trail text a e l w f first q
+
+  module _ (whole : well_formed text ≡ true) (q : f ≡ false) where
+    pub part-end : e ≡ length text → eqb e (length text) ≡ well_formed (take (e - a) (drop a text))
+    part-end h = eq-eqb e (length text) h ∙ part-last text a e l w f first whole q h
+
+    pub part-inner : (e ≡ length text → ⊥) → (n : Bool) → n ≡ trail (get_or text e 0) → not n ≡ well_formed (take (e - a) (drop a text))
+    part-inner h true k = part_cut text a e l w f first whole q true k h refl
+    part-inner h false k = part-clean text a e l w f first whole q false k refl
 
 -- ---- the pass over a text
 
@@ -310,10 +311,6 @@ passed_in text at p = record { within = p.within; cuts = p.cuts }
 
 pub passed_out : (text : List ℕ) (at : ℕ) → Passed text at → PassedTo text at
 passed_out text at p = record { within = p.within; cuts = p.cuts }
-
--- at the bound nothing is said of an error
-pub not-before : (text : List ℕ) (at bound : ℕ) → bound ≤ at → at < bound → well_formed text ≡ eqb at (length text)
-not-before text at bound h l = absurd (omega arith)
 
 -- before it an error ends the whole
 pub stops : (text : List ℕ) (at bound r : ℕ) → Passed text at → r ≡ place_after (next_at text at) at → at < bound → bound ≤ length text → r ≡ at → at < bound → well_formed text ≡ eqb at (length text)

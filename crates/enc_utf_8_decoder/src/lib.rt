@@ -10,37 +10,26 @@ use enc_ascii::is_ascii;
 use enc_utf_8::Char;
 use enc_utf_8_rows::goes_through;
 
-// A byte as a number that six more bits can be added to.
-fn wide(x: u8) -> u32
-    ensures { result ≡ x }
-{
-    x as u32
-}
-
 // The lowest byte that may follow a lead byte: above 80h where less would be an overlong form.
 fn lower_of(lead: u8) -> u8
     ensures { result ≡ lower_of lead }
 {
-    if lead == 0xe0 {
-        return 0xa0;
+    match lead {
+        0xe0 => 0xa0,
+        0xf0 => 0x90,
+        _ => 0x80,
     }
-    if lead == 0xf0 {
-        return 0x90;
-    }
-    0x80
 }
 
 // The highest byte that may follow a lead byte: below BFh where more would be a surrogate, or past U+10FFFF.
 fn upper_of(lead: u8) -> u8
     ensures { result ≡ upper_of lead }
 {
-    if lead == 0xed {
-        return 0x9f;
+    match lead {
+        0xed => 0x9f,
+        0xf4 => 0x8f,
+        _ => 0xbf,
     }
-    if lead == 0xf4 {
-        return 0x8f;
-    }
-    0xbf
 }
 
 // One more byte for `code`, from lower to upper. Any other byte is left to be read anew: the error ends before it.
@@ -52,13 +41,10 @@ fn one_more(text: &[u8], at: usize, code: u32, lower: u8, upper: u8) -> Char
         return Char::Error(at);
     }
     let b = text[at];
-    if b < lower {
+    if b < lower || upper < b {
         return Char::Error(at);
     }
-    if upper < b {
-        return Char::Error(at);
-    }
-    Char::Code(code * 64 + wide(b) % 64, at + 1)
+    Char::Code(code * 64 + u32::from(b) % 64, at + 1)
 }
 
 // Two more bytes; the boundaries are those of the first.
@@ -68,8 +54,7 @@ fn two_more(text: &[u8], at: usize, code: u32, lower: u8, upper: u8) -> Char
 {
     match one_more(text, at, code, lower, upper) {
         Char::Code(c, e) => one_more(text, e, c, 0x80, 0xbf),
-        Char::Error(e) => Char::Error(e),
-        Char::End => Char::End,
+        ended => ended,
     }
 }
 
@@ -80,8 +65,7 @@ fn three_more(text: &[u8], at: usize, code: u32, lower: u8, upper: u8) -> Char
 {
     match one_more(text, at, code, lower, upper) {
         Char::Code(c, e) => two_more(text, e, c, 0x80, 0xbf),
-        Char::Error(e) => Char::Error(e),
-        Char::End => Char::End,
+        ended => ended,
     }
 }
 
@@ -92,10 +76,10 @@ fn next_long(text: &[u8], at: usize) -> Char
 {
     let b = text[at];
     if b < 0xf0 {
-        return two_more(text, at + 1, wide(b) % 16, lower_of(b), upper_of(b));
+        return two_more(text, at + 1, u32::from(b) % 16, lower_of(b), upper_of(b));
     }
     if b < 0xf5 {
-        return three_more(text, at + 1, wide(b) % 8, lower_of(b), upper_of(b));
+        return three_more(text, at + 1, u32::from(b) % 8, lower_of(b), upper_of(b));
     }
     Char::Error(at + 1)
 }
@@ -110,13 +94,13 @@ pub fn next(text: &[u8], at: usize) -> Char
     }
     let b = text[at];
     if b < 0x80 {
-        return Char::Code(b as u32, at + 1);
+        return Char::Code(u32::from(b), at + 1);
     }
     if b < 0xc2 {
         return Char::Error(at + 1);
     }
     if b < 0xe0 {
-        return one_more(text, at + 1, wide(b) % 32, 0x80, 0xbf);
+        return one_more(text, at + 1, u32::from(b) % 32, 0x80, 0xbf);
     }
     next_long(text, at)
 }
@@ -125,10 +109,7 @@ pub fn next(text: &[u8], at: usize) -> Char
 fn is_trail(b: u8) -> bool
     ensures { result ≡ trail b }
 {
-    if b < 0x80 {
-        return false;
-    }
-    b < 0xc0
+    0x80 <= b && b < 0xc0
 }
 
 // The place after the code point of two bytes at `at`, or `at` where it is ill_formed. This function and the three that follow say
@@ -150,30 +131,21 @@ fn after_two(text: &[u8], at: usize) -> usize
 fn second_fits(lead: u8, b: u8) -> bool
     ensures { result ≡ (leb (lower_of lead) b && leb b (upper_of lead)) }
 {
-    if b < lower_of(lead) {
-        return false;
-    }
-    b <= upper_of(lead)
+    lower_of(lead) <= b && b <= upper_of(lead)
 }
 
 // Whether both bytes can only follow others.
 fn both_trail(a: u8, b: u8) -> bool
     ensures { result ≡ (trail a && trail b) }
 {
-    if is_trail(a) {
-        return is_trail(b);
-    }
-    false
+    is_trail(a) && is_trail(b)
 }
 
 // Whether three bytes are a code point, where the first is the lead of one.
 fn three_fit(a: u8, b: u8, c: u8) -> bool
     ensures { result ≡ ((leb (lower_of a) b && leb b (upper_of a)) && trail c) }
 {
-    if second_fits(a, b) {
-        return is_trail(c);
-    }
-    false
+    second_fits(a, b) && is_trail(c)
 }
 
 // The same of the four bytes at `at`.
@@ -181,10 +153,7 @@ fn four_fit(text: &[u8], at: usize) -> bool
     requires { at + 4 ≤ length text.now }
     ensures { result ≡ four_fit text.now at }
 {
-    if second_fits(text[at], text[at + 1]) {
-        return both_trail(text[at + 2], text[at + 3]);
-    }
-    false
+    second_fits(text[at], text[at + 1]) && both_trail(text[at + 2], text[at + 3])
 }
 
 // The place after the code point of three bytes at `at`, or `at` where it is ill_formed.
@@ -215,8 +184,7 @@ fn after_last(text: &[u8], at: usize) -> usize
 {
     match next(text, at) {
         Char::Code(_, e) => e,
-        Char::Error(_) => at,
-        Char::End => at,
+        _ => at,
     }
 }
 
@@ -241,26 +209,12 @@ fn after_code(text: &[u8], at: usize) -> usize
     at
 }
 
-// Whether a block of 64 begins at a place that is ASCII throughout.
-fn ascii_block(text: &[u8], at: usize) -> bool
+// Whether a block of N bytes begins at a place that is ASCII throughout.
+fn ascii_block<const N: usize>(text: &[u8], at: usize) -> bool
     requires { at < length text.now }
-    ensures { result ≡ true → (at + 64 ≤ length text.now) × (is_ascii (take 64 (drop at text.now)) ≡ true) }
+    ensures { result ≡ true → (at + N ≤ length text.now) × (is_ascii (take N (drop at text.now)) ≡ true) }
 {
-    if text.len() - at < 64 {
-        return false;
-    }
-    is_ascii(&text[at..at + 64])
-}
-
-// The same of a block of 16.
-fn ascii_part(text: &[u8], at: usize) -> bool
-    requires { at < length text.now }
-    ensures { result ≡ true → (at + 16 ≤ length text.now) × (is_ascii (take 16 (drop at text.now)) ≡ true) }
-{
-    if text.len() - at < 16 {
-        return false;
-    }
-    is_ascii(&text[at..at + 16])
+    text.len() - at >= N && is_ascii(&text[at..at + N])
 }
 
 // How many bytes of ASCII begin at a place, told by a block: 64, 16 or none.
@@ -268,10 +222,10 @@ fn ascii_bytes(text: &[u8], at: usize) -> usize
     requires { at < length text.now }
     ensures { AsciiHere text.now at result }
 {
-    if ascii_block(text, at) {
+    if ascii_block::<64>(text, at) {
         return 64;
     }
-    if ascii_part(text, at) {
+    if ascii_block::<16>(text, at) {
         return 16;
     }
     0
@@ -356,13 +310,7 @@ fn bound_after(at: usize, until: usize, len: usize) -> usize
     requires { at < len }
     ensures { (at < result) × (result ≤ len) }
 {
-    if len <= until {
-        return len;
-    }
-    if until <= at {
-        return at + 1;
-    }
-    until
+    until.clamp(at + 1, len)
 }
 
 // How much of a text is UTF-8 from its start on: up to the first error. It goes by blocks, and code point by code point in a block with an error and in
@@ -420,14 +368,5 @@ pub fn part_well_formed(text: &[u8], a: usize, e: usize) -> bool
     if e <= a {
         return true;
     }
-    if is_trail(text[a]) {
-        return false;
-    }
-    if e == text.len() {
-        return true;
-    }
-    if is_trail(text[e]) {
-        return false;
-    }
-    true
+    !is_trail(text[a]) && (e == text.len() || !is_trail(text[e]))
 }

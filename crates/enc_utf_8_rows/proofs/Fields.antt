@@ -1,14 +1,10 @@
 -- The fields of a row: the only place that opens `row_of`. Assumes nothing.
-use mathlib.Core.Path.{◌≡◌, ◌∙◌, sym, ap, refl}
+use mathlib.Core.Path.{◌≡◌}
 use mathlib.Core.Bool.{Bool, true, false, cond, ◌&&◌}
-use Prim.Native.Nat.{ℕ, ◌+◌, ◌*◌, ◌/◌, ◌%◌, ◌^◌, ◌<◌}
+use Prim.Native.Nat.{ℕ, ◌/◌, ◌%◌, ◌^◌, ◌<◌}
 use native.Mathlib.Omega.{arith}
 use lib.Dec.{eqb, leb, ltb}
-use Rattle.enc_utf_8_rows.specs.Rows.{after_lead, after_due, row_of, RowFor, own}
-
--- the row of an arm of the table
-pub row_at : (b k row : ℕ) → b ≡ k → row ≡ row_of k → RowFor b row
-row_at b k row e h = own (h ∙ sym (ap row_of e))
+use Rattle.enc_utf_8_rows.specs.Rows.{after_lead, after_due, row_of}
 
 -- ---- a field is below 64
 

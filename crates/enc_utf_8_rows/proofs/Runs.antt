@@ -1,15 +1,15 @@
 -- What the automaton says of the decoder: where it is in a state other than the error, the decoder is in a state that agrees. Assumes nothing.
-use mathlib.Core.Path.{◌≡◌, refl, sym, ap, ◌∙◌}
+use mathlib.Core.Path.{◌≡◌, refl, sym}
 use mathlib.Core.Bool.{Bool, true, false, cond, ◌&&◌}
 use mathlib.Core.List.{List, [], ◌∷◌}
-use Prim.Native.Nat.{ℕ, zero, suc, ◌+◌, ◌*◌, ◌/◌, ◌%◌, ◌^◌, ◌-◌, ◌≤◌, ◌<◌}
+use Prim.Native.Nat.{ℕ, ◌+◌, ◌/◌, ◌%◌, ◌^◌, ◌≤◌, ◌<◌}
 use native.Mathlib.Omega.{arith}
 use native.Mathlib.Numerals.{add-one}
 use lib.ListN.{length, get_or, drop, drop_of_length-le}
 use lib.Seq.{drop-cons}
 use lib.Dec.{eqb, leb, ltb}
-use borrow.Author.Tests.{eq-eqb, ne_eqb, eqb-true, eqb-false, ltb-true, ltb-false, lt-ltb, le-ltb}
-use Rattle.enc_utf_8.specs.Utf8.{Item, scalar, error, State, state, initial, DecoderReply, give, continue, lower_of, upper_of, leading, following, after_reply, decode_from, decode, no_error, well_formed}
+use borrow.Author.Tests.{eq-eqb, ne_eqb, eqb-true, ltb-true, ltb-false}
+use Rattle.enc_utf_8.specs.Utf8.{Item, error, State, state, initial, DecoderReply, continue, lower_of, upper_of, leading, following, after_reply, decode_from, no_error, well_formed}
 use Rattle.enc_utf_8_rows.specs.Rows.{after_lead, after_due, row_of, errors, RowFor, own, never}
 use Rattle.enc_utf_8_rows.proofs.Fields.{from_start, from-error, from_one, from-two, from-three, from-e0, from-ed, from-f0, from-f4}
 

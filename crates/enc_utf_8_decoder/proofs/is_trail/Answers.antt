@@ -1,12 +1,11 @@
+-- `is_trail` meets its contract. Assumes nothing.
+use mathlib.Core.Path.{◌∙◌}
+use borrow.Author.Tests.{lt-leb}
 use Rattle.enc_utf_8.proofs.Cuts.{trail-below, trail-from}
 use Rattle.enc_utf_8_decoder.proofs.is_trail.Goals as goal
 
-ruleset exits = (trail-below, trail-from)
+pub returns-then-b-ge128 : goal.returns-then-b-ge128
+returns-then-b-ge128 c = search trail-from
 
--- src/lib.rt:172:9
-pub returns-then-b-lt128 : goal.returns-then-b-lt128
-returns-then-b-lt128 c = search exits
-
--- src/lib.rt:168:1
-pub returns : goal.returns
-returns c = search exits
+pub returns-else-b-ge128 : goal.returns-else-b-ge128
+returns-else-b-ge128 c = lt-leb 0x80 c.args.b c.if-b-ge128.false ∙ search trail-below

@@ -6,7 +6,7 @@ pub returns-then-text-at : goal.returns-then-text-at
 returns-then-text-at c = search next-end
 
 pub returns-then-b-lt128 : goal.returns-then-b-lt128
-returns-then-b-lt128 c = search next_one
+returns-then-b-lt128 c = rw c.from.ensures (search next_one)
 
 pub returns-then-b-lt194 : goal.returns-then-b-lt194
 returns-then-b-lt194 c = search next-trail

@@ -1,6 +1,5 @@
 -- `valid_carefully` meets its contract. The loop keeps: the text is UTF-8 up to `at`. Nothing is asked of `until`. Assumes nothing.
 use borrow.Author.Rules.{rules}
-use Prim.Native.Nat.{◌-◌}
 use Rattle.enc_utf_8.proofs.Cuts.{passed_start, passed_to, passed-all}
 use Rattle.enc_utf_8_decoder.proofs.Blocks.{block_within, block-less, passed-block, passed-cut}
 use Rattle.enc_utf_8_decoder.proofs.Steps.{passed_in, passed_out, codes_less, stopped}
