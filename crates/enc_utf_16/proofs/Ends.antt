@@ -2,9 +2,9 @@
 use mathlib.Core.Path.{◌≡◌, refl, sym, ap, ◌∙◌}
 use mathlib.Core.Bool.{Bool, true, false, cond, ◌&&◌}
 use mathlib.Core.List.{List, [], ◌∷◌}
-use Prim.Native.Nat.{ℕ, zero, suc, ◌+◌, ◌*◌, ◌/◌, ◌≤◌, ◌<◌}
+use Prim.Native.Nat.{ℕ, zero, suc, ◌+◌, ◌*◌, ◌/◌, ◌-◌, ◌≤◌, ◌<◌}
 use native.Mathlib.Omega.{arith}
-use lib.ListN.{length, get_or, drop}
+use lib.ListN.{length, get_or, drop, length-drop}
 use lib.Seq.{drop-cons}
 use lib.Dec.{eqb}
 use Rattle.std.specs.Prelude.{Option, Some, None}
@@ -58,11 +58,34 @@ module _ (bytes : List ℕ) (units : List (List ℕ)) (r : Option ℕ) (u : unit
       let z : 2 * 0 + length bytes ≡ length bytes = omega arith in
       rw z at (pairs (length bytes / 2) 0 bytes refl) ∙ ap (ended (length bytes)) (sym (position_from-zero is_zero_pair (first_chunks 2 (length bytes / 2) bytes)) ∙ ap (position is_zero_pair) (sym u) ∙ sym e)
 
-  pub end_here : (n : ℕ) → r ≡ Some n → Terminated (2 * n) ≡ wstring_end bytes
-  end_here n q = sym (by-pairs ∙ ap (ended (length bytes)) q)
+  pub pair-here : (n : ℕ) → r ≡ Some n → Terminated (2 * n) ≡ wstring_end bytes
+  pair-here n q = sym (by-pairs ∙ ap (ended (length bytes)) q)
 
-  pub end_none : r ≡ None → Unterminated (length bytes) ≡ wstring_end bytes
-  end_none q = sym (by-pairs ∙ ap (ended (length bytes)) q)
+  pub no-pair : r ≡ None → Unterminated (length bytes) ≡ wstring_end bytes
+  no-pair q = sym (by-pairs ∙ ap (ended (length bytes)) q)
+
+-- ---- the end from a place on, pair by pair
+
+module _ (bytes : List ℕ) (at : ℕ) (inv : wstring_end bytes ≡ end16_from at (drop at bytes)) where
+  module _ (left : 2 ≤ length bytes - at) (t : Bool) (e : t ≡ (eqb (get_or bytes at 0) 0 && eqb (get_or bytes (at + 1) 0) 0)) where
+    turn : wstring_end bytes ≡ cond t (Terminated at) (end16_from (at + 2) (drop (at + 2) bytes))
+    unfolding end16_from
+    turn = inv ∙ rw (drop-two bytes at (omega arith), ← e)
+
+    pub end-here : t ≡ true → Terminated at ≡ wstring_end bytes
+    end-here q = sym (turn ∙ rw q)
+
+    pub end-again : t ≡ false → wstring_end bytes ≡ end16_from (at + 2) (drop (at + 2) bytes)
+    end-again q = turn ∙ rw q
+
+  pub end_none : at ≤ length bytes → length bytes - at < 2 → Unterminated (length bytes) ≡ wstring_end bytes
+  unfolding end16_from
+  end_none a h = sym (inv ∙ by (drop at bytes) refl)
+    where
+      by : (xs : List ℕ) → drop at bytes ≡ xs → end16_from at xs ≡ Unterminated (length bytes)
+      by [] d = ap Unterminated (omega (arith, simp length-drop at (ap length d)))
+      by (x ∷ []) d = ap Unterminated (omega (arith, simp length-drop at (ap length d)))
+      by (x ∷ y ∷ xs) d = absurd (omega (arith, simp length-drop at (ap length d)))
 
 -- ---- where the end lies
 

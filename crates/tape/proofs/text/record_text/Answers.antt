@@ -4,14 +4,14 @@ use Rattle.tape.proofs.text.record_text.Goals as goal
 
 ruleset exits = (text-key, text-enum, text-text, text-none, refl)
 
-pub returns-then-kind-eq-KEY : goal.returns-then-kind-eq-KEY
-returns-then-kind-eq-KEY c = search exits
+pub returns-in-4 : goal.returns-in-4
+returns-in-4 c = search exits
 
-pub returns-then-kind-eq-ENUM : goal.returns-then-kind-eq-ENUM
-returns-then-kind-eq-ENUM c = search exits
+pub returns-in-12 : goal.returns-in-12
+returns-in-12 c = search exits
 
-pub returns-then-kind-eq-TEXT : goal.returns-then-kind-eq-TEXT
-returns-then-kind-eq-TEXT c = search exits
+pub returns-in-11 : goal.returns-in-11
+returns-in-11 c = search exits
 
-pub returns : goal.returns
-returns c = search exits
+pub returns-in_default : goal.returns-in_default
+returns-in_default c = search exits
