@@ -86,12 +86,19 @@ fn listed_byte(code: u32) -> Byte
     Byte::None
 }
 
-// The byte of a code point. Below 80h and from A0h to FFh they are the same number.
+// The byte of a code point. Below 80h and from A0h to FFh they are the same number. (As a `match` with one call of the search the encoder was
+// slower, up to 1.4 times: the search then stands within this function, which is called for each code point in place of being built in.)
 pub fn byte_of(code: u32) -> Byte
     ensures { result ≡ byte_of code }
 {
-    match code {
-        0x00..=0x7f | 0xa0..=0xff => Byte::Is(code as u8),
-        _ => listed_byte(code),
+    if code < 0x80 {
+        return Byte::Is(code as u8);
     }
+    if code < 0xa0 {
+        return listed_byte(code);
+    }
+    if code < 0x100 {
+        return Byte::Is(code as u8);
+    }
+    listed_byte(code)
 }

@@ -1,19 +1,18 @@
 -- The exits and the loops of the decoder's functions, a law for each. Assumes nothing.
 use mathlib.Core.Path.{◌≡◌, refl, sym, ap, ◌∙◌}
 use mathlib.Core.Bool.{Bool, true, false, cond, ◌&&◌}
-use mathlib.Core.List.{List, [], ◌∷◌}
+use mathlib.Core.List.{List, [], ◌∷◌, ◌++◌}
 use Prim.Native.Nat.{ℕ, ◌+◌, ◌*◌, ◌-◌, ◌/◌, ◌%◌, ◌≤◌, ◌<◌}
 use native.Mathlib.Nat.{add-zero}
 use native.Mathlib.Omega.{arith}
-use lib.ListN.{length, get_or, take, drop, set, length-append, length-take, length-set}
+use lib.ListN.{length, get_or, drop, set, length-append, length-set}
 use lib.Seq.{set-set}
 use lib.Dec.{leb, ltb}
-use borrow.Author.Tests.{leb-true, leb-false, le-leb, lt-leb, ltb-true, ltb-false, le-ltb, lt-ltb}
+use borrow.Author.Tests.{leb-true, leb-false, le-leb, ltb-true, ltb-false}
 use mir.Syntax.{w8}
 use mir.Val.{Fits as Holds}
 use Rattle.enc_utf_8.specs.declared.Put.{Put}
 use Rattle.enc_utf_8.specs.declared.Put.TheVariants.{Next, Full}
-use Rattle.enc_utf_8.specs.declared.Room.{Room}
 use Rattle.enc_utf_8.specs.declared.Room.TheVariants.{Fits, Over}
 use Rattle.enc_utf_8.specs.Buffer.{Wrote, Laid, room_for}
 use Rattle.enc_utf_8.specs.Utf8.{utf8_of}
@@ -22,27 +21,21 @@ use Rattle.enc_utf_8.proofs.Encodes.{utf8_two, utf8_three-low}
 use Rattle.enc_ascii.specs.Ascii.{is_ascii}
 use Rattle.enc_windows_1252.specs.Index.{code_point}
 use Rattle.enc_windows_1252.specs.Text.{decode_byte, decode_text}
-use Rattle.enc_windows_1252_decoder.proofs.Texts.{ascii-byte, high_byte, ascii-text, ascii-length, decode-next, decode-end, decode-cut, decode-some, fits-short}
-use Rattle.enc_utf_8.proofs.Lays.{laid_one, laid-two, laid_as, Rest, rest-room, rest-next, rest_end, put_went, put_never, room_fits, room-over, count-part, count-over, count-all, count_fits, wrote-laid, wrote-over}
+use Rattle.enc_windows_1252_decoder.proofs.Texts.{ascii-byte, high_byte, ascii-text, ascii-length, decode-next, decode-end, decode-part, decode-rest, decode-some, fits-short}
+use Rattle.enc_utf_8.proofs.Lays.{laid_one, laid-two, laid_as, Rest, rest-room, rest-next, rest_end, put_went, count-part, count-over, count_fits, wrote-laid, wrote-over}
 
--- ---- block_len, decoded_len
+-- ---- decoded_len
 
-module _ (bytes : List ℕ) (i n all : ℕ) (inv : n + length (decode_text (drop i bytes)) ≡ all) where
-  pub length-byte : (k : ℕ) → i < length bytes → k ≡ length (decode_byte (get_or bytes i 0)) → n + k + length (decode_text (drop (i + 1) bytes)) ≡ all
-  length-byte k h q = count-part n all _ inv (decode_byte (get_or bytes i 0)) (decode_text (drop (i + 1) bytes)) (decode-next bytes i h) k q
-
-  pub length-end : length bytes ≤ i → n ≡ all
-  length-end h = count-all n all _ inv (decode-end bytes i h)
-
-  module _ (e k : ℕ) (h : i < e) (q : k ≡ length (decode_text (take (e - i) (drop i bytes)))) where
-    pub length_part : n + k + length (decode_text (drop e bytes)) ≡ all
-    length_part = count-part n all _ inv (decode_text (take (e - i) (drop i bytes))) (decode_text (drop e bytes)) (decode-cut bytes i e (omega arith)) k q
+module _ (rest : List ℕ) (n all : ℕ) (inv : n + length (decode_text rest) ≡ all) where
+  module _ (block rest₁ : List ℕ) (k : ℕ) (e : rest ≡ block ++ rest₁) (q : k ≡ length (decode_text block)) where
+    pub length_part : n + k + length (decode_text rest₁) ≡ all
+    length_part = count-part n all _ inv (decode_text block) (decode_text rest₁) (decode-part block rest₁ e) k q
 
     pub length_over : (room : ℕ) → n ≤ room → room - n < k → Over ≡ room_for all room
-    length_over room l s = count-over n all _ inv (decode_text (take (e - i) (drop i bytes))) (decode_text (drop e bytes)) (decode-cut bytes i e (omega arith)) k q room l s
+    length_over room l s = count-over n all _ inv (decode_text block) (decode_text rest₁) (decode-part block rest₁ e) k q room l s
 
-  pub length-fits : (room : ℕ) → n ≤ room → length bytes ≤ i → Fits n ≡ room_for all room
-  length-fits room l h = count_fits n all _ inv (decode-end bytes i h) room l
+  pub length-fits : (room : ℕ) → n ≤ room → length rest ≡ 0 → Fits n ≡ room_for all room
+  length-fits room l h = count_fits n all _ inv (decode-rest rest h) room l
 
 -- ---- put_wide: m is 0 for two bytes, 1 for three
 
@@ -118,7 +111,7 @@ module _ (b at : ℕ) (out : List ℕ) (h : at + length (decode_byte b) ≤ leng
     pub byte-wide : (r : ℕ) (out₁ : List ℕ) → Laid (utf8_of c) out at r out₁ → Laid (decode_byte b) out at r out₁
     byte-wide r out₁ l = laid_as (ap utf8_of (sym e)) l
 
--- ---- put_each, put_text
+-- ---- put_each
 
 module _ (xs out bytes out₁ : List ℕ) (at i n : ℕ) (q : Rest xs out at (decode_text (drop i bytes)) out₁ n) where
   module _ (h : i < length bytes) where
@@ -128,17 +121,23 @@ module _ (xs out bytes out₁ : List ℕ) (at i n : ℕ) (q : Rest xs out at (de
     pub each_again : (n₁ : ℕ) (out₂ : List ℕ) → Laid (decode_byte (get_or bytes i 0)) out₁ n n₁ out₂ → Rest xs out at (decode_text (drop (i + 1) bytes)) out₂ n₁
     each_again n₁ out₂ l = rest-next q (decode-next bytes i h) l
 
-  module _ (e : ℕ) (h : i < e) where
-    pub part_room : n + length (decode_text (take (e - i) (drop i bytes))) ≤ length out₁
-    part_room = rest-room (decode_text (take (e - i) (drop i bytes))) (decode_text (drop e bytes)) q (decode-cut bytes i e (omega arith))
+  pub each-end : length bytes ≤ i → Laid xs out at n out₁
+  each-end h = rest_end q (decode-end bytes i h)
 
-    pub part-again : (n₁ : ℕ) (out₂ : List ℕ) → Laid (decode_text (take (e - i) (drop i bytes))) out₁ n n₁ out₂ → Rest xs out at (decode_text (drop e bytes)) out₂ n₁
-    part-again n₁ out₂ l = rest-next q (decode-cut bytes i e (omega arith)) l
+-- ---- put_text, put_pieces
 
-  pub text-end : length bytes ≤ i → Laid xs out at n out₁
-  text-end h = rest_end q (decode-end bytes i h)
+module _ (xs out rest out₁ : List ℕ) (at n : ℕ) (q : Rest xs out at (decode_text rest) out₁ n) where
+  module _ (block rest₁ : List ℕ) (e : rest ≡ block ++ rest₁) where
+    pub part_room : n + length (decode_text block) ≤ length out₁
+    part_room = rest-room (decode_text block) (decode_text rest₁) q (decode-part block rest₁ e)
 
--- ---- put_block
+    pub part-again : (n₁ : ℕ) (out₂ : List ℕ) → Laid (decode_text block) out₁ n n₁ out₂ → Rest xs out at (decode_text rest₁) out₂ n₁
+    part-again n₁ out₂ l = rest-next q (decode-part block rest₁ e) l
+
+  pub text-end : length rest ≡ 0 → Laid xs out at n out₁
+  text-end h = rest_end q (decode-rest rest h)
+
+-- ---- put_ascii
 
 module _ (block : List ℕ) (t : Bool) (e : t ≡ is_ascii block) (y : t ≡ true) where
   block_room : (out : List ℕ) (at : ℕ) → at + length (decode_text block) ≤ length out → at + length block ≤ length out
@@ -148,26 +147,14 @@ module _ (block : List ℕ) (t : Bool) (e : t ≡ is_ascii block) (y : t ≡ tru
     pub block-copied : (n : ℕ) → r ≡ Next n → Laid (decode_text block) out at n out₁
     block-copied n q = laid_as (ascii-text block (sym e ∙ y)) (put_went n w q)
 
-    pub block-never : r ≡ Full → Laid (decode_text block) out at at out₁
-    block-never q = put_never (block_room out at h) w q
+-- ---- surely_fits
 
--- ---- block_more, surely_fits
+module _ (rest : List ℕ) (n all : ℕ) (inv : all ≤ n + length (decode_text rest)) where
+  pub sure_part : (block rest₁ : List ℕ) (r : ℕ) → rest ≡ block ++ rest₁ → length (decode_text block) ≤ length block + r → all ≤ n + (length block + r) + length (decode_text rest₁)
+  sure_part block rest₁ r e q = omega (arith, ap length (decode-part block rest₁ e) ∙ length-append (decode_text block) (decode_text rest₁))
 
-module _ (block : List ℕ) (i more all : ℕ) (inv : all ≤ i + more + length (decode_text (drop i block))) where
-  pub more_byte : (r : ℕ) → i < length block → length (decode_byte (get_or block i 0)) ≤ 1 + r → all ≤ i + 1 + (more + r) + length (decode_text (drop (i + 1) block))
-  more_byte r h q = omega (arith, ap length (decode-next block i h) ∙ length-append (decode_byte (get_or block i 0)) (decode_text (drop (i + 1) block)))
-
-  pub more-end : i ≤ length block → length block ≤ i → all ≤ length block + more
-  more-end l h = omega (arith, ap length (decode-end block i h))
-
-module _ (bytes : List ℕ) (i n all : ℕ) (inv : all ≤ n + length (decode_text (drop i bytes))) where
-  pub sure_part : (e r : ℕ) → i < e → length (decode_text (take (e - i) (drop i bytes))) ≤ length (take (e - i) (drop i bytes)) + r → all ≤ n + (e - i + r) + length (decode_text (drop e bytes))
-  sure_part e r h q =
-      let k : length (take (e - i) (drop i bytes)) ≤ e - i = rw length-take (omega arith) in
-      omega (arith, ap length (decode-cut bytes i e (omega arith)) ∙ length-append (decode_text (take (e - i) (drop i bytes))) (decode_text (drop e bytes)))
-
-  pub sure_end : (room : ℕ) → n ≤ room → length bytes ≤ i → true ≡ true → all ≤ room
-  sure_end room l h t = omega (arith, ap length (decode-end bytes i h))
+  pub sure_end : (room : ℕ) → n ≤ room → length rest ≡ 0 → true ≡ true → all ≤ room
+  sure_end room l h t = omega (arith, ap length (decode-rest rest h))
 
 pub not_sure : (all room : ℕ) → false ≡ true → all ≤ room
 not_sure all room e = absurd (let z : ◌≡◌ {A = ℕ} 0 1 = cc in omega arith)
@@ -177,24 +164,7 @@ not_sure all room e = absurd (let z : ◌≡◌ {A = ℕ} 0 1 = cc in omega arit
 pub fits_surely : (len room : ℕ) (t : Bool) → (t ≡ true → len ≤ room) → t ≡ true → true ≡ leb len room
 fits_surely len room t e q = sym (le-leb len room (e q))
 
-module _ (len room : ℕ) (r : Room) (e : r ≡ room_for len room) where
-  pub measured_fits : (n : ℕ) → r ≡ Fits n → true ≡ leb len room
-  measured_fits n q = sym (le-leb len room (room_fits n len room e q).fits)
-
-  pub measured_over : r ≡ Over → false ≡ leb len room
-  measured_over q = sym (lt-leb len room (room-over len room e q))
-
 -- ---- is_long_with_room
-
-module _ (len at end : ℕ) where
-  pub long-short : len ≤ 4096 → false ≡ ltb 4096 len && (leb at end && leb len ((end - at) / 3))
-  long-short l = rw (le-ltb 4096 len l)
-
-  pub long-past : 4096 < len → end < at → false ≡ ltb 4096 len && (leb at end && leb len ((end - at) / 3))
-  long-past l h = rw (lt-ltb 4096 len l, lt-leb at end h)
-
-  pub long-told : 4096 < len → at ≤ end → leb len ((end - at) / 3) ≡ ltb 4096 len && (leb at end && leb len ((end - at) / 3))
-  long-told l h = rw (lt-ltb 4096 len l, le-leb at end h)
 
 -- where it is so, any text fits
 module _ (len at end : ℕ) (q : ltb 4096 len && (leb at end && leb len ((end - at) / 3)) ≡ true) where

@@ -2,12 +2,15 @@
 use mathlib.Core.Path.{◌≡◌, refl, sym, ap, ◌∙◌}
 use mathlib.Core.Bool.{Bool, true, false, cond}
 use mathlib.Core.List.{List, [], ◌∷◌, ◌++◌, append_assoc, flat_map}
-use Prim.Native.Nat.{ℕ, suc, ◌+◌, ◌*◌, ◌-◌, ◌/◌, ◌%◌, ◌≤◌, ◌<◌}
+use Prim.Native.Nat.{ℕ, suc, ◌+◌, ◌*◌, ◌/◌, ◌%◌, ◌≤◌, ◌<◌}
 use native.Mathlib.Omega.{arith}
 use native.Mathlib.Numerals.{add-one}
-use lib.ListN.{length, get_or, take, drop, length-append, take-append-drop, drop_of_length-le}
-use lib.Seq.{drop-cons, drop-drop}
+use lib.ListN.{length, get_or, drop, length-append, drop_of_length-le}
+use lib.Seq.{drop-cons}
 use lib.Dec.{leb, ltb}
+use Rattle.std.specs.List.{sum_by}
+use Rattle.std.proofs.lemmas.List.Recursion.{is_sum_by}
+use Rattle.std.proofs.lemmas.List.Sums.{sum_by-cons}
 use mir.Syntax.{w8}
 use mir.Val.{Fits}
 use borrow.Author.Tests.{le-leb, leb-true, lt-ltb, le-ltb, ltb-true, ltb-false}
@@ -20,7 +23,7 @@ use Rattle.enc_windows_1252.specs.Index.{listed_points, code_point, table}
 use Rattle.enc_windows_1252.specs.Text.{decode_byte, decode_text}
 use Rattle.enc_windows_1252.proofs.Indexes.{own-low, own-high}
 use Rattle.enc_windows_1252.proofs.Table.{same}
-use Rattle.enc_windows_1252_decoder.specs.Lengths.{length_by}
+use Rattle.enc_windows_1252_decoder.specs.Lengths.{length_by, most_more}
 
 -- ---- the bytes whose code points are their own numbers
 
@@ -83,11 +86,21 @@ point_third b c h e = rw e (same (λ (k : ℕ). code_point k / 0x2000) (λ (k : 
 
 -- ---- most_more: ASCII takes one byte, 80h to 9Fh three at most, all others two
 
-pub more-none : (b : ℕ) → b < 0x80 → length (decode_byte b) ≤ 1 + 0
-more-none b h = omega (arith, ap length (ascii-byte b h))
+byte-most : (b : ℕ) → b < 256 → length (decode_byte b) ≤ 1 + most_more b
+byte-most b h = by (ltb b 0x80) (ltb b 0xa0) refl refl
+  where
+    by : (t u : Bool) → ltb b 0x80 ≡ t → ltb b 0xa0 ≡ u → length (decode_byte b) ≤ 1 + cond t 0 (cond u 2 1)
+    by true u q r = omega (arith, ap length (ascii-byte b (ltb-true b 0x80 q)))
+    by false true q r = byte-short b h
+    by false false q r = omega (arith, ap length (high_byte b (ltb-false b 0xa0 r) h))
 
-pub more-one : (b : ℕ) → 0xa0 ≤ b → b < 256 → length (decode_byte b) ≤ 1 + 1
-more-one b h l = omega (arith, ap length (high_byte b h l))
+more-two : (b : ℕ) → most_more b ≤ 2
+more-two b = by (ltb b 0x80) (ltb b 0xa0)
+  where
+    by : (t u : Bool) → cond t 0 (cond u 2 1) ≤ 2
+    by true u = omega arith
+    by false true = omega arith
+    by false false = omega arith
 
 -- ---- the text of bytes in parts
 
@@ -105,18 +118,33 @@ module _ (bytes : List ℕ) (i : ℕ) where
   unfolding decode_text flat_map
   decode-end h = rw (drop_of_length-le bytes h)
 
-  pub decode-cut : (e : ℕ) → i ≤ e → decode_text (drop i bytes) ≡ decode_text (take (e - i) (drop i bytes)) ++ decode_text (drop e bytes)
-  decode-cut e h =
-      let k : i + (e - i) ≡ e = omega arith in
-      ap decode_text (sym (take-append-drop (e - i) (drop i bytes)))
-      ∙ decode_append (take (e - i) (drop i bytes)) (drop (e - i) (drop i bytes))
-      ∙ ap (λ (l : List ℕ). decode_text (take (e - i) (drop i bytes)) ++ decode_text l) (drop-drop (e - i) i bytes ∙ ap (λ (n : ℕ). drop n bytes) k)
+pub decode-part : (block rest₁ : List ℕ) {rest : List ℕ} → rest ≡ block ++ rest₁ → decode_text rest ≡ decode_text block ++ decode_text rest₁
+decode-part block rest₁ e = ap decode_text e ∙ decode_append block rest₁
+
+pub decode-rest : (rest : List ℕ) → length rest ≡ 0 → decode_text rest ≡ []
+decode-rest rest h = decode-end rest 0 (omega arith)
+
+-- its length is the sum of its bytes' lengths
+pub text-length : (bytes : List ℕ) → length (decode_text bytes) ≡ sum_by (λ b. length (decode_byte b)) bytes
+unfolding decode_text flat_map
+text-length = is_sum_by (λ bs. length (decode_text bs)) (λ b. length (decode_byte b)) refl (λ b bs. length-append (decode_byte b) (decode_text bs))
 
 -- no byte gives more than three
 text-three : (bytes : List ℕ) → ((i : ℕ) → get_or bytes i 0 < 256) → length (decode_text bytes) ≤ 3 * length bytes
 unfolding decode_text flat_map
 text-three [] h = omega arith
 text-three (b ∷ bs) h = rw length-append (omega (arith, byte-short b (h 0), text-three bs (λ i. h (suc i))))
+
+-- ---- block_more: at most so many more than the bytes
+
+pub text-most : (bytes : List ℕ) → ((i : ℕ) → Fits w8 (get_or bytes i 0)) → length (decode_text bytes) ≤ length bytes + sum_by most_more bytes
+unfolding decode_text flat_map
+text-most [] h = omega arith
+text-most (b ∷ bs) h = rw (length-append, sum_by-cons most_more) (omega (arith, byte-most b (h 0).fits, text-most bs (λ i. h (suc i))))
+
+pub most-twice : (bytes : List ℕ) → sum_by most_more bytes ≤ 2 * length bytes
+most-twice [] = omega arith
+most-twice (b ∷ bs) = rw (sum_by-cons most_more) (omega (arith, more-two b, most-twice bs))
 
 pub fits-short : (bytes : List ℕ) (room : ℕ) → ((i : ℕ) → Fits w8 (get_or bytes i 0)) → length bytes ≤ room / 3 → true ≡ leb (length (decode_text bytes)) room
 fits-short bytes room f h = sym (le-leb _ room (omega (arith, text-three bytes (λ i. (f i).fits))))

@@ -1,14 +1,18 @@
 // The Windows-1252 decoder: bytes to UTF-8. It goes by blocks of at most 64 bytes, of which one that is ASCII throughout is only copied.
 #![tactic(auto)]
 
-ghost use Rattle.std.specs.Prelude.{◌≡◌, true, cond, ◌&&◌, ◌+◌, ◌-◌, ◌/◌, ◌≤◌, ◌<◌, min, length, leb, ltb};
+ghost use Rattle.std.specs.Prelude.{◌≡◌, true, cond, ◌&&◌, ◌+◌, ◌-◌, ◌/◌, ◌≤◌, ◌<◌, length, leb, ltb, MatchOption};
 ghost use Rattle.enc_utf_8.specs.Buffer.{Wrote, Laid, room_for};
 ghost use Rattle.enc_utf_8.specs.Utf8.{utf8_of};
 ghost use Rattle.enc_windows_1252.specs.Text.{decode_byte, decode_text};
+ghost use Rattle.enc_windows_1252_decoder.specs.Lengths.{most_more};
 
-use enc_ascii::{block_end, copy, is_ascii};
+use enc_ascii::{copy, is_ascii};
 use enc_utf_8::{Put, Room};
 use enc_windows_1252::code_point;
+
+// The bytes of a block.
+const BLOCK: usize = 64;
 
 // A text of more bytes is decoded by pieces of so many, where there is room for any text.
 const PIECE: usize = 4096;
@@ -17,10 +21,7 @@ const PIECE: usize = 4096;
 fn at_least(number: u32, least: u32) -> u32
     ensures { (result ≡ cond (ltb number least) 0 1) × (result ≤ 1) }
 {
-    if number < least {
-        return 0;
-    }
-    1
+    (least <= number) as u32
 }
 
 // How many bytes a byte's code point takes in UTF-8. It follows from the code point: 1 below 80h, 2 below 800h, else 3. The code point is asked for
@@ -41,13 +42,7 @@ fn block_len(block: &[u8]) -> usize
     if is_ascii(block) {
         return block.len();
     }
-    let mut n: usize = 0;
-    let mut i = 0;
-    while i < block.len() {
-        n += utf8_length_of(block[i]);
-        i += 1;
-    }
-    n
+    block.iter().map(|&byte| utf8_length_of(byte)).sum()
 }
 
 // The length of the text of some bytes, where it is at most the room.
@@ -55,15 +50,12 @@ pub fn decoded_len(bytes: &[u8], room: usize) -> Room
     ensures { result ≡ room_for (length (decode_text bytes.now)) room }
 {
     let mut n: usize = 0;
-    let mut i = 0;
-    while i < bytes.len() {
-        let end = block_end(i, bytes.len());
-        let len = block_len(&bytes[i..end]);
+    for block in bytes.chunks(BLOCK) {
+        let len = block_len(block);
         if room - n < len {
             return Room::Over;
         }
         n += len;
-        i = end;
     }
     Room::Fits(n)
 }
@@ -106,12 +98,25 @@ fn put_each(block: &[u8], out: &mut [u8], at: usize) -> usize
     ensures { Laid (decode_text block.now) out.old at result out.new }
 {
     let mut next = at;
-    let mut i = 0;
-    while i < block.len() {
-        next = put_byte(block[i], out, next);
-        i += 1;
+    for &byte in block {
+        next = put_byte(byte, out, next);
     }
     next
+}
+
+// Writes the text of some bytes that are ASCII throughout: it is themselves. Of other bytes nothing is written.
+fn put_ascii(part: &[u8], out: &mut [u8], at: usize) -> Option<usize>
+    requires { at + length (decode_text part.now) ≤ length out.old }
+    ensures { MatchOption result (out.new ≡ out.old) (λ next. Laid (decode_text part.now) out.old at next out.new) }
+{
+    if !is_ascii(part) {
+        return None;
+    }
+    match copy(part, out, at) {
+        Put::Next(next) => Some(next),
+        // never: the text fits
+        Put::Full => None,
+    }
 }
 
 // Writes the text of a block.
@@ -119,14 +124,10 @@ fn put_block(block: &[u8], out: &mut [u8], at: usize) -> usize
     requires { at + length (decode_text block.now) ≤ length out.old }
     ensures { Laid (decode_text block.now) out.old at result out.new }
 {
-    if is_ascii(block) {
-        return match copy(block, out, at) {
-            Put::Next(next) => next,
-            // never: the text fits
-            Put::Full => at,
-        };
+    match put_ascii(block, out, at) {
+        Some(next) => next,
+        None => put_each(block, out, at),
     }
-    put_each(block, out, at)
 }
 
 // Writes the text of some bytes, which fits.
@@ -135,24 +136,10 @@ fn put_text(bytes: &[u8], out: &mut [u8], at: usize) -> usize
     ensures { Laid (decode_text bytes.now) out.old at result out.new }
 {
     let mut next = at;
-    let mut i = 0;
-    while i < bytes.len() {
-        let end = block_end(i, bytes.len());
-        next = put_block(&bytes[i..end], out, next);
-        i = end;
+    for block in bytes.chunks(BLOCK) {
+        next = put_block(block, out, next);
     }
     next
-}
-
-// The end of the piece that starts at a place, in `len` bytes.
-fn piece_end(at: usize, len: usize) -> usize
-    requires { at < len }
-    ensures { (result ≡ min (at + 4096) len) × (at < result) × (result ≤ len) }
-{
-    if len - at < PIECE {
-        return len;
-    }
-    at + PIECE
 }
 
 // Writes the text of a piece.
@@ -160,14 +147,10 @@ fn put_piece(piece: &[u8], out: &mut [u8], at: usize) -> usize
     requires { at + length (decode_text piece.now) ≤ length out.old }
     ensures { Laid (decode_text piece.now) out.old at result out.new }
 {
-    if is_ascii(piece) {
-        return match copy(piece, out, at) {
-            Put::Next(next) => next,
-            // never: the text fits
-            Put::Full => at,
-        };
+    match put_ascii(piece, out, at) {
+        Some(next) => next,
+        None => put_text(piece, out, at),
     }
-    put_text(piece, out, at)
 }
 
 // Writes the text of some bytes, which fits, by pieces: each is still near when it is copied after its test.
@@ -176,18 +159,15 @@ fn put_pieces(bytes: &[u8], out: &mut [u8], at: usize) -> usize
     ensures { Laid (decode_text bytes.now) out.old at result out.new }
 {
     let mut next = at;
-    let mut i = 0;
-    while i < bytes.len() {
-        let end = piece_end(i, bytes.len());
-        next = put_piece(&bytes[i..end], out, next);
-        i = end;
+    for piece in bytes.chunks(PIECE) {
+        next = put_piece(piece, out, next);
     }
     next
 }
 
 // How many bytes more than one a byte's text takes at most: none for ASCII, one from A0h on, two between.
 fn most_more(byte: u8) -> u8
-    ensures { (length (decode_byte byte) ≤ 1 + result) × (result ≤ 2) }
+    ensures { (result ≡ most_more byte) × (result ≤ 2) }
 {
     if byte < 0x80 {
         return 0;
@@ -203,12 +183,7 @@ fn block_more(block: &[u8]) -> usize
     requires { length block.now ≤ 64 }
     ensures { (length (decode_text block.now) ≤ length block.now + result) × (result ≤ 128) }
 {
-    let mut more: u8 = 0;
-    let mut i = 0;
-    while i < block.len() {
-        more += most_more(block[i]);
-        i += 1;
-    }
+    let more: u8 = block.iter().map(|&byte| most_more(byte)).sum();
     more as usize
 }
 
@@ -217,15 +192,12 @@ fn surely_fits(bytes: &[u8], room: usize) -> bool
     ensures { result ≡ true → length (decode_text bytes.now) ≤ room }
 {
     let mut n: usize = 0;
-    let mut i = 0;
-    while i < bytes.len() {
-        let end = block_end(i, bytes.len());
-        let most = end - i + block_more(&bytes[i..end]);
+    for block in bytes.chunks(BLOCK) {
+        let most = block.len() + block_more(block);
         if room - n < most {
             return false;
         }
         n += most;
-        i = end;
     }
     true
 }
@@ -234,29 +206,16 @@ fn surely_fits(bytes: &[u8], room: usize) -> bool
 fn fits_in(bytes: &[u8], room: usize) -> bool
     ensures { result ≡ leb (length (decode_text bytes.now)) room }
 {
-    if bytes.len() <= room / 3 {
-        return true;
-    }
-    if surely_fits(bytes, room) {
-        return true;
-    }
-    match decoded_len(bytes, room) {
-        Room::Fits(_) => true,
-        Room::Over => false,
-    }
+    bytes.len() <= room / 3
+        || surely_fits(bytes, room)
+        || matches!(decoded_len(bytes, room), Room::Fits(_))
 }
 
 // Whether `len` bytes are more than a piece, and from `at` to `end` there is room for three bytes for each of them, so for any text.
 fn is_long_with_room(len: usize, at: usize, end: usize) -> bool
     ensures { result ≡ ltb 4096 len && (leb at end && leb len ((end - at) / 3)) }
 {
-    if len <= PIECE {
-        return false;
-    }
-    if end < at {
-        return false;
-    }
-    len <= (end - at) / 3
+    PIECE < len && at <= end && len <= (end - at) / 3
 }
 
 // Writes the text of some bytes from `at` on, all of it or nothing. An empty text fits anywhere; ASCII is its own text.

@@ -1,11 +1,11 @@
 -- The exits and the loop of `ascii_prefix`. Assumes nothing.
 use mathlib.Core.Path.{◌≡◌, sym, ap, ◌∙◌}
 use mathlib.Core.Bool.{Bool, true}
-use mathlib.Core.List.{List}
-use Prim.Native.Nat.{ℕ, ◌+◌, ◌-◌, ◌≤◌, zero-le}
+use mathlib.Core.List.{List, ◌++◌}
+use Prim.Native.Nat.{ℕ, ◌+◌, zero-le}
 use native.Mathlib.Omega.{arith}
-use lib.ListN.{length, take, drop}
-use lib.Seq.{take-add, length-take-le}
+use lib.ListN.{length, take, drop, length-append, length-drop}
+use lib.Seq.{take-add, length-take-le, drop-drop, take-append_seam, drop-append_seam}
 use Rattle.enc_ascii.specs.Ascii.{is_ascii}
 use Rattle.enc_ascii.proofs.Ascii.{ascii-none, ascii_append}
 use Rattle.enc_windows_1252_encoder.specs.Step.{AsciiTo}
@@ -13,20 +13,19 @@ use Rattle.enc_windows_1252_encoder.specs.Step.{AsciiTo}
 pub prefix_start : (text : List ℕ) → AsciiTo text 0
 prefix_start text = record { within = zero-le; is = ascii-none }
 
-prefix_more : (text : List ℕ) (i e : ℕ) (t : Bool) → AsciiTo text i → i ≤ e → e ≤ length text → t ≡ is_ascii (take (e - i) (drop i text)) → t ≡ true → AsciiTo text e
-prefix_more text i e t a h l q y =
-    let k : e ≡ i + (e - i) = omega arith in
-    record {
-      within = l;
-      is = ap (λ (n : ℕ). is_ascii (take n text)) k ∙ rw (take-add i (e - i) text) (ascii_append (take i text) (take (e - i) (drop i text)) a.is (sym q ∙ y));
-    }
+-- one block more: what is left of the text begins with it
+module _ (text rest block rest₁ : List ℕ) (n : ℕ) (a : AsciiTo text n) (d : rest ≡ drop n text) (e : rest ≡ block ++ rest₁) where
+  pub prefix_left : rest₁ ≡ drop (n + length block) text
+  prefix_left = sym (drop-append_seam block rest₁) ∙ ap (λ (l : List ℕ). drop (length block) l) (sym e ∙ d) ∙ drop-drop (length block) n text
 
-module _ (text : List ℕ) (i : ℕ) (t : Bool) (a : AsciiTo text i) where
-  pub prefix_block : 64 ≤ length text - i → t ≡ is_ascii (take (i + 64 - i) (drop i text)) → t ≡ true → AsciiTo text (i + 64)
-  prefix_block h q y = prefix_more text i (i + 64) t a (omega arith) (omega (arith, a.within)) q y
+  front : take (length block) (drop n text) ≡ block
+  front = ap (λ (l : List ℕ). take (length block) l) (sym d ∙ e) ∙ take-append_seam block rest₁
 
-  pub prefix_rest : t ≡ is_ascii (take (length text - i) (drop i text)) → t ≡ true → AsciiTo text (length text)
-  prefix_rest q y = prefix_more text i (length text) t a a.within (omega arith) q y
+  pub prefix_block : (t : Bool) → t ≡ is_ascii block → t ≡ true → AsciiTo text (n + length block)
+  prefix_block t q y = record {
+    within = omega (arith, a.within, ap length (sym e ∙ d), length-append block rest₁, length-drop n text);
+    is = rw (take-add n (length block) text, front) (ascii_append (take n text) block a.is (sym q ∙ y));
+  }
 
 pub prefix_counted : (text : List ℕ) (n : ℕ) → AsciiTo text n → n ≡ length (take n text)
 prefix_counted text n a = sym (length-take-le n text a.within)

@@ -15,18 +15,14 @@ use enc_windows_1252::{Byte, byte_of};
 fn ascii_prefix(text: &[u8]) -> usize
     ensures { AsciiTo text.now result }
 {
-    let mut i = 0;
-    while text.len() - i >= 64 {
-        if is_ascii(&text[i..i + 64]) {
-            i += 64;
-        } else {
-            return i;
+    let mut n: usize = 0;
+    for block in text.chunks(64) {
+        if !is_ascii(block) {
+            return n;
         }
+        n += block.len();
     }
-    if is_ascii(&text[i..]) {
-        return text.len();
-    }
-    i
+    n
 }
 
 // A code point of a text, and the place after it.

@@ -5,8 +5,8 @@ use mathlib.Core.List.{List, [], ◌∷◌, ◌++◌}
 use Prim.Native.Nat.{ℕ, ◌+◌, ◌-◌, ◌≤◌, ◌<◌}
 use native.Mathlib.Omega.{arith}
 use native.Mathlib.Numerals.{add-one}
-use lib.ListN.{length, set, take, drop, get_or, replicate, length-append}
-use lib.Seq.{drop-cons, drop-length, take-nil, take_all, take-append-add, take-append-le}
+use lib.ListN.{length, set, take, drop, get_or, replicate, length-append, drop_of_length-le}
+use lib.Seq.{drop-cons, take-nil, take_all, take-append-add, take-append-le}
 use lib.Dec.{leb}
 use borrow.Author.Tests.{leb-true, leb-false, le-leb, lt-leb}
 use Rattle.enc_utf_8.specs.Buffer.{splice, fits_in}
@@ -133,8 +133,8 @@ module _ (bytes out₀ : List ℕ) (p₀ : Put) (i : ℕ) (out : List ℕ) (p : 
   pub bytes-again : {out' : List ℕ} {r : Put} → i < length bytes → Puts (get_or bytes i 0 ∷ []) out p r out' → Rest bytes out₀ p₀ (drop (i + 1) bytes) out' r
   bytes-again h a = rest-next inv (rw add-one (drop-cons bytes i 0 h)) a
 
-  pub bytes-end : length bytes ≤ i → i ≤ length bytes → Puts bytes out₀ p₀ p out
-  bytes-end h l = let e : i ≡ length bytes = omega arith in rest_end inv (rw (e, drop-length))
+  pub bytes-end : length bytes ≤ i → Puts bytes out₀ p₀ p out
+  bytes-end h = rest_end inv (drop_of_length-le bytes h)
 
 -- ---- after the last byte
 

@@ -4,8 +4,8 @@ use mathlib.Core.List.{List, [], ◌∷◌, ◌++◌}
 use Prim.Native.Nat.{ℕ, zero, suc, ◌+◌, ◌-◌, ◌/◌, ◌%◌, ◌≤◌, ◌<◌}
 use native.Mathlib.Omega.{arith}
 use native.Mathlib.Numerals.{add-one}
-use lib.ListN.{length, drop, get_or}
-use lib.Seq.{drop-cons, drop-length}
+use lib.ListN.{length, drop, get_or, drop_of_length-le}
+use lib.Seq.{drop-cons}
 use borrow.Author.Tests.{lt-ltb, le-ltb}
 use Rattle.enc_utf_8.specs.declared.Put.{Put}
 use Rattle.enc_windows_1252.specs.Text.{decimal}
@@ -64,6 +64,6 @@ module _ (text out₀ : List ℕ) (p₀ : Put) (i : ℕ) (out : List ℕ) (p : P
   unfolding hex_text
   hexes_again b e h a = rest-next inv (rw (drop-cons text i 0 h, add-one, e)) a
 
-  pub hexes_end : length text ≤ i → i ≤ length text → Puts (hex_text text) out₀ p₀ p out
+  pub hexes_end : length text ≤ i → Puts (hex_text text) out₀ p₀ p out
   unfolding hex_text
-  hexes_end h l = let e : i ≡ length text = omega arith in rest_end inv (rw (e, drop-length))
+  hexes_end h = rest_end inv (rw (drop_of_length-le text h))

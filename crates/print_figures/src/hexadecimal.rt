@@ -28,22 +28,13 @@ pub fn put_hex(p: Put, k: u8, n: u64, out: &mut [u8]) -> Put
     put_byte(q, digit(n % 16), out)
 }
 
-// A byte as a number of 64 bits.
-fn wide(byte: u8) -> u64
-    ensures { result ≡ byte }
-{
-    byte as u64
-}
-
 // Two hexadecimal digits for each byte.
 pub fn put_hex_text(p: Put, text: &[u8], out: &mut [u8]) -> Put
     ensures { Puts (hex_text text.now) out.old p result out.new }
 {
     let mut next = p;
-    let mut i = 0;
-    while i < text.len() {
-        next = put_hex(next, 2, wide(text[i]), out);
-        i += 1;
+    for &byte in text {
+        next = put_hex(next, 2, u64::from(byte), out);
     }
     next
 }

@@ -27,10 +27,8 @@ pub fn put_bytes(p: Put, bytes: &[u8], out: &mut [u8]) -> Put
     ensures { Puts bytes.now out.old p result out.new }
 {
     let mut next = p;
-    let mut i = 0;
-    while i < bytes.len() {
-        next = put_byte(next, bytes[i], out);
-        i += 1;
+    for &byte in bytes {
+        next = put_byte(next, byte, out);
     }
     next
 }

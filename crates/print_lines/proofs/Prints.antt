@@ -46,25 +46,25 @@ module _ (book text tape : List ℕ) (at n : ℕ) where
   unfolding lines_of records_at before
   lines_none e = rw (← e)
 
-module _ (book text tape : List ℕ) (all out₀ : List ℕ) (p₀ : Put) (at left : ℕ) (out : List ℕ) (p : Put) (s : NextRecord) (e : s ≡ step_at tape at)
-    (inv : Rest all out₀ p₀ (lines_of book text (records_at tape left at)) out p) (h : 0 < left) where
-  as_suc : left ≡ suc (left - 1)
+module _ (book text tape : List ℕ) (all out₀ : List ℕ) (p₀ : Put) (at records done : ℕ) (out : List ℕ) (p : Put) (s : NextRecord) (e : s ≡ step_at tape at)
+    (inv : Rest all out₀ p₀ (lines_of book text (records_at tape (records - done) at)) out p) (h : done < records) where
+  as_suc : records - done ≡ suc (records - (done + 1))
   as_suc = omega arith
 
   pub lines_again : {out' : List ℕ} {q : Put} (r : Record) (next : Cursor) → s ≡ step.Record r next → Puts (line_of book text r) out p q out'
-      → Rest all out₀ p₀ (lines_of book text (records_at tape (left - 1) next.at)) out' q
-  lines_again r next t a = rest-next inv (ap (λ (k : ℕ). lines_of book text (records_at tape k at)) as_suc ∙ lines_suc book text tape at (left - 1) r next (sym t ∙ e)) a
+      → Rest all out₀ p₀ (lines_of book text (records_at tape (records - (done + 1)) next.at)) out' q
+  lines_again r next t a = rest-next inv (ap (λ (k : ℕ). lines_of book text (records_at tape k at)) as_suc ∙ lines_suc book text tape at (records - (done + 1)) r next (sym t ∙ e)) a
 
   pub lines_over : s ≡ step.End → Puts all out₀ p₀ p out
-  lines_over t = rest_end inv (ap (λ (k : ℕ). lines_of book text (records_at tape k at)) as_suc ∙ lines_none book text tape at (left - 1) (sym t ∙ e))
+  lines_over t = rest_end inv (ap (λ (k : ℕ). lines_of book text (records_at tape k at)) as_suc ∙ lines_none book text tape at (records - (done + 1)) (sym t ∙ e))
 
 -- at the first record all lines are left
-pub lines_start : (book text tape out : List ℕ) (p : Put) (records at : ℕ) → at ≡ 0 → Rest (lines_of book text (records_at tape records 0)) out p (lines_of book text (records_at tape records at)) out p
-lines_start book text tape out p records at e = rest_all (rw e)
+pub lines_start : (book text tape out : List ℕ) (p : Put) (records at : ℕ) → at ≡ 0 → Rest (lines_of book text (records_at tape records 0)) out p (lines_of book text (records_at tape (records - 0) at)) out p
+lines_start book text tape out p records at e = let z : records - 0 ≡ records = omega arith in rest_all (rw (e, z))
 
-pub lines_done : (book text tape all out₀ : List ℕ) (p₀ : Put) (at left : ℕ) (out : List ℕ) (p : Put) → Rest all out₀ p₀ (lines_of book text (records_at tape left at)) out p → left ≤ 0 → Puts all out₀ p₀ p out
+pub lines_done : (book text tape all out₀ : List ℕ) (p₀ : Put) (at records done : ℕ) (out : List ℕ) (p : Put) → Rest all out₀ p₀ (lines_of book text (records_at tape (records - done) at)) out p → records ≤ done → Puts all out₀ p₀ p out
 unfolding lines_of records_at
-lines_done book text tape all out₀ p₀ at left out p inv h = let e : left ≡ 0 = omega arith in rest_end inv (rw e)
+lines_done book text tape all out₀ p₀ at records done out p inv h = let e : records - done ≡ 0 = omega arith in rest_end inv (rw e)
 
 -- ---- the calls
 

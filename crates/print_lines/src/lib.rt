@@ -32,19 +32,12 @@ fn record_lines<'a>(
 {
     let mut next = p;
     let mut cursor = Cursor::new();
-    let mut left = records;
-    while left > 0 {
-        let step = cursor.next(tape);
-        match step {
-            NextRecord::Record(r, after) => {
-                next = line(next, book, text, r, out);
-                cursor = after;
-                left -= 1;
-            }
-            NextRecord::End => {
-                return next;
-            }
-        }
+    for _ in 0..records {
+        let NextRecord::Record(r, after) = cursor.next(tape) else {
+            return next;
+        };
+        next = line(next, book, text, r, out);
+        cursor = after;
     }
     next
 }

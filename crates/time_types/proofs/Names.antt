@@ -1,14 +1,13 @@
 -- What a name tells of a count of time, at each exit of the functions that compare it. Assumes nothing.
 use mathlib.Core.Path.{◌≡◌, refl, sym, ap, ◌∙◌}
-use mathlib.Core.Bool.{Bool, true, false, cond, ◌||◌}
+use mathlib.Core.Bool.{Bool, true, false}
 use mathlib.Core.List.{List, [], ◌∷◌}
-use Prim.Native.Nat.{ℕ, ◌<◌}
+use Prim.Native.Nat.{ℕ}
 use native.Mathlib.Omega.{arith}
 use lib.ListN.{length, get_or}
 use Rattle.type_book.specs.Book.{same_name}
 use Rattle.type_book.proofs.Names.{same_eq, other_name}
 use Rattle.type_names.specs.Text.{ascii_bytes, is_one_of}
-use Rattle.time_types.specs.declared.TimeType.{TimeType}
 use Rattle.time_types.specs.declared.TimeType.TheVariants as time
 use Rattle.time_types.specs.Types.{time_type_of}
 

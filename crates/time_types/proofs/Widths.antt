@@ -1,12 +1,11 @@
 -- The width of a count of time. Assumes nothing.
-use mathlib.Core.Path.{◌≡◌, refl, sym, ap, ◌∙◌}
-use mathlib.Core.Bool.{Bool, true, false, cond}
+use mathlib.Core.Path.{◌≡◌, sym, ap, ◌∙◌}
+use mathlib.Core.Bool.{Bool, true, false}
 use mathlib.Core.List.{List}
 use Prim.Native.Nat.{ℕ}
 use Rattle.type_book.specs.Book.{name_of}
 use Rattle.type_category.specs.declared.type_category.AdsTypeCategory.{AdsTypeCategory}
 use Rattle.time_types.specs.declared.TimeType.{TimeType}
-use Rattle.time_types.specs.declared.TimeType.TheVariants as time
 use Rattle.time_types.specs.Types.{time_type_of, time_width}
 use Rattle.time_types.specs.Counts.{name_counts, time_of, count_width}
 

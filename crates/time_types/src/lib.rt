@@ -102,12 +102,8 @@ pub fn time_width(time: TimeType) -> u8
     ensures { result ≡ time_width time }
 {
     match time {
-        TimeType::Time => 4,
-        TimeType::LTime => 8,
-        TimeType::TimeOfDay => 4,
-        TimeType::LTimeOfDay => 8,
-        TimeType::DateTime => 4,
-        TimeType::LDateTime => 8,
+        TimeType::Time | TimeType::TimeOfDay | TimeType::DateTime => 4,
+        TimeType::LTime | TimeType::LTimeOfDay | TimeType::LDateTime => 8,
         TimeType::NoTime => 0,
     }
 }
@@ -116,24 +112,16 @@ pub fn time_width(time: TimeType) -> u8
 fn name_counts(category: AdsTypeCategory) -> bool
     ensures { result ≡ name_counts category }
 {
-    match category {
-        AdsTypeCategory::None => true,
-        AdsTypeCategory::Primitive => true,
-        AdsTypeCategory::Alias => false,
-        AdsTypeCategory::Enum => false,
-        AdsTypeCategory::Array => false,
-        AdsTypeCategory::Struct => false,
-        AdsTypeCategory::FunctionBlock => false,
-        AdsTypeCategory::Program => true,
-        AdsTypeCategory::Function => true,
-        AdsTypeCategory::SubRange => false,
-        AdsTypeCategory::String => true,
-        AdsTypeCategory::Bitset => true,
-        AdsTypeCategory::Pointer => false,
-        AdsTypeCategory::Union => false,
-        AdsTypeCategory::Reference => false,
-        AdsTypeCategory::Interface => true,
-    }
+    matches!(
+        category,
+        AdsTypeCategory::None
+            | AdsTypeCategory::Primitive
+            | AdsTypeCategory::Program
+            | AdsTypeCategory::Function
+            | AdsTypeCategory::String
+            | AdsTypeCategory::Bitset
+            | AdsTypeCategory::Interface
+    )
 }
 
 // The bytes of resolved type t's count of time, 0 where it is none.

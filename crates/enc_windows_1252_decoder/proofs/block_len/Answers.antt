@@ -1,18 +1,14 @@
--- `block_len` meets its contract. The loop keeps: the length so far and that of what is left are the whole. Assumes nothing.
-use borrow.Author.Rules.{rules}
-use Prim.Native.Nat.{◌-◌}
-use Rattle.enc_windows_1252_decoder.proofs.Texts.{ascii-length}
-use Rattle.enc_windows_1252_decoder.proofs.Decoders.{length-byte, length-end}
+-- `block_len` meets its contract: ASCII is its own text, and otherwise the lengths of the bytes' texts are summed. Assumes nothing.
+use mathlib.Core.Path.{◌≡◌, sym, ◌∙◌}
+use lib.ListN.{length}
+use Rattle.std.specs.List.{sum_by}
+use Rattle.std.proofs.Common.{rules}
+use Rattle.enc_windows_1252.specs.Text.{decode_byte}
+use Rattle.enc_windows_1252_decoder.proofs.Texts.{ascii-length, text-length}
 use Rattle.enc_windows_1252_decoder.proofs.block_len.Goals as goal
 
 pub returns-then-is_ascii : goal.returns-then-is_ascii
 returns-then-is_ascii c = search ascii-length
 
-pub loop-i-init : goal.loop-i-init
-loop-i-init c = (search rules, search rules, search rules)
-
-pub loop-i-preserved : goal.loop-i-preserved
-loop-i-preserved c = (search rules, search rules, search length-byte)
-
 pub returns : goal.returns
-returns c = search length-end
+returns c = let e : c.sum.result ≡ sum_by (λ b. length (decode_byte b)) c.args.block.now = search rules in e ∙ sym (text-length c.args.block.now)

@@ -1,14 +1,12 @@
--- `block_more` meets its contract. The loop keeps: the whole is at most the most so far and what is left. Assumes nothing.
-use borrow.Author.Rules.{rules}
-use Prim.Native.Nat.{◌-◌}
-use Rattle.enc_windows_1252_decoder.proofs.Decoders.{more_byte, more-end}
+-- `block_more` meets its contract: the most of the bytes' texts are summed. Assumes nothing.
+use mathlib.Core.Path.{◌≡◌}
+use Rattle.std.specs.List.{sum_by}
+use Rattle.std.proofs.Common.{rules, arith}
+use Rattle.enc_windows_1252_decoder.specs.Lengths.{most_more}
+use Rattle.enc_windows_1252_decoder.proofs.Texts.{text-most, most-twice}
 use Rattle.enc_windows_1252_decoder.proofs.block_more.Goals as goal
 
-pub loop-i-init : goal.loop-i-init
-loop-i-init c = (search rules, search rules, search rules)
-
-pub loop-i-preserved : goal.loop-i-preserved
-loop-i-preserved c = (search rules, search rules, search more_byte)
-
 pub returns : goal.returns
-returns c = (search more-end, search rules)
+returns c =
+    let e : c.sum-more.result ≡ sum_by most_more c.args.block.now = search rules in
+    (omega (arith, text-most c.args.block.now c.type_inv.block), omega (arith, most-twice c.args.block.now))

@@ -1,18 +1,13 @@
 -- `put_pieces` meets its contract. The loop keeps: whatever lays what is left from here on lays the whole. Assumes nothing.
-use borrow.Author.Rules.{rules}
-use Prim.Native.Nat.{◌-◌}
-use Rattle.enc_utf_8.proofs.Lays.{rest_all}
+use Rattle.std.proofs.Common.{rules}
 use Rattle.enc_windows_1252_decoder.proofs.Decoders.{part_room, part-again, text-end}
 use Rattle.enc_windows_1252_decoder.proofs.put_pieces.Goals as goal
 
-pub loop-i-init : goal.loop-i-init
-loop-i-init c = (search rules, search rest_all)
-
 pub put_piece-next-requires : goal.put_piece-next-requires
-put_piece-next-requires c = search part_room
+put_piece-next-requires c = search (part_room, c.in-Some.ensures.steps.1.0)
 
-pub loop-i-preserved : goal.loop-i-preserved
-loop-i-preserved c = (search rules, search part-again)
+pub loop-piece-preserved : goal.loop-piece-preserved
+loop-piece-preserved c = (search rules, search (part-again, c.in-Some.ensures.steps.1.0))
 
 pub returns : goal.returns
-returns c = search text-end
+returns c = search (text-end, c.in-None.ensures.steps.1.0)

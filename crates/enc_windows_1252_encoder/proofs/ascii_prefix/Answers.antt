@@ -1,13 +1,10 @@
--- `ascii_prefix` meets its contract. The loop keeps: the text is ASCII up to here. Assumes nothing.
-use Prim.Native.Nat.{◌-◌}
-use Rattle.enc_windows_1252_encoder.proofs.Prefixes.{prefix_start, prefix_block, prefix_rest}
+-- `ascii_prefix` meets its contract. The loop keeps: the text is ASCII up to here, and the blocks left are the rest of it. Assumes nothing.
+use Rattle.std.proofs.Common.{rules}
+use Rattle.enc_windows_1252_encoder.proofs.Prefixes.{prefix_start, prefix_left, prefix_block}
 use Rattle.enc_windows_1252_encoder.proofs.ascii_prefix.Goals as goal
 
-pub loop-i-init : goal.loop-i-init
-loop-i-init c = search prefix_start
+pub loop-block-init : goal.loop-block-init
+loop-block-init c = (search rules, search prefix_start, search rules)
 
-pub loop-i-preserved : goal.loop-i-preserved
-loop-i-preserved c = search prefix_block
-
-pub returns-then-is_ascii-2 : goal.returns-then-is_ascii-2
-returns-then-is_ascii-2 c = search prefix_rest
+pub loop-block-preserved : goal.loop-block-preserved
+loop-block-preserved c = (search rules, search (prefix_block, c.in-Some.ensures.steps.1.0), search (prefix_left, c.in-Some.ensures.steps.1.0))

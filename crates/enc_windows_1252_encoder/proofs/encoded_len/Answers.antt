@@ -1,6 +1,5 @@
 -- `encoded_len` meets its contract. The loop keeps: the length so far and that of what is left are the whole. Assumes nothing.
 use borrow.Author.Rules.{rules}
-use Prim.Native.Nat.{◌-◌}
 use Rattle.enc_windows_1252_encoder.proofs.Encoders.{begins-over, begins-count, encode_part, encode_over, encode_fits}
 use Rattle.enc_windows_1252_encoder.proofs.encoded_len.Goals as goal
 

@@ -1,5 +1,4 @@
 -- `put_from` meets its contract. The loop keeps: whatever lays what is left from here on lays the whole. Assumes nothing.
-use Prim.Native.Nat.{◌-◌}
 use Rattle.enc_utf_8.proofs.Lays.{rest_all}
 use Rattle.enc_windows_1252_encoder.proofs.Encoders.{codes_room, codes_again, codes_end}
 use Rattle.enc_windows_1252_encoder.proofs.put_from.Goals as goal

@@ -1,10 +1,15 @@
 -- `byte_of` meets its contract: a law for each range of code points. Assumes nothing.
-use Rattle.std.proofs.Common.{arith}
 use Rattle.enc_windows_1252.proofs.Indexes.{byte_low, byte-listed, byte_high, byte_beyond}
 use Rattle.enc_windows_1252.proofs.index.byte_of.Goals as goal
 
-pub returns-in-0-to-127 : goal.returns-in-0-to-127
-returns-in-0-to-127 c = grind (arith, byte_low, byte_high)
+pub returns-then-code-lt128 : goal.returns-then-code-lt128
+returns-then-code-lt128 c = search byte_low
 
-pub returns-in_default : goal.returns-in_default
-returns-in_default c = grind (arith, byte-listed, byte_beyond)
+pub returns-then-code-lt160 : goal.returns-then-code-lt160
+returns-then-code-lt160 c = search byte-listed
+
+pub returns-then-code-lt256 : goal.returns-then-code-lt256
+returns-then-code-lt256 c = search byte_high
+
+pub returns : goal.returns
+returns c = search byte_beyond
