@@ -33,10 +33,6 @@ pub and-true : (t : Bool) → t && true ≡ t
 and-true true = refl
 and-true false = refl
 
-pub and-false : (t : Bool) → t && false ≡ false
-and-false true = refl
-and-false false = refl
-
 -- one byte is compared as such
 starts-byte : (x b : ℕ) (xs : List ℕ) → starts_with (x ∷ xs) (b ∷ []) ≡ eqb x b
 unfolding starts_with same_name
