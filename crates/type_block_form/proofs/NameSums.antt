@@ -1,6 +1,6 @@
 -- The names of a block that holds its sum: where the head and the two names have all of the sum, every byte past them is 0. Assumes nothing.
 use mathlib.Core.Path.{◌≡◌, refl, sym, ap, ◌∙◌}
-use mathlib.Core.Bool.{Bool, true, false, cond, ◌&&◌}
+use mathlib.Core.Bool.{Bool, true, false, cond, ◌&&◌, and-true, and-false}
 use mathlib.Core.List.{List, [], ◌∷◌, ◌++◌}
 use Prim.Native.Nat.{ℕ, ◌+◌, ◌-◌, ◌≤◌, ◌<◌}
 use native.Mathlib.Omega.{arith}
@@ -79,14 +79,6 @@ sum-split n xs = ap sum_of (sym (take-append-drop n xs)) ∙ sum_append (take n 
 
 -- ---- one name, in the 200 bytes that it may fill
 
-and_no : (a : Bool) → a && false ≡ false
-and_no true = refl
-and_no false = refl
-
-and_yes : (a : Bool) → a && true ≡ a
-and_yes true = refl
-and_yes false = refl
-
 module _ (n : ℕ) (bytes : List ℕ) (h : length bytes ≡ 200) where
   form_long : 200 < n → name_form n bytes ≡ false
   unfolding name_form unused_zero
@@ -94,11 +86,11 @@ module _ (n : ℕ) (bytes : List ℕ) (h : length bytes ≡ 200) where
 
   form_wrong : every is_printable (take n bytes) ≡ false → name_form n bytes ≡ false
   unfolding name_form
-  form_wrong q = rw q (and_no (unused_zero n bytes))
+  form_wrong q = rw q (and-false (unused_zero n bytes))
 
   form_right : n ≤ 200 → every is_printable (take n bytes) ≡ true → name_form n bytes ≡ eqb (sum_of (drop n bytes)) 0
   unfolding name_form unused_zero
-  form_right l q = rw (q, le-leb n (length bytes) (omega arith)) (and_yes (every is_zero (drop n bytes)) ∙ zero-sum (drop n bytes))
+  form_right l q = rw (q, le-leb n (length bytes) (omega arith)) (and-true (every is_zero (drop n bytes)) ∙ zero-sum (drop n bytes))
 
 -- ---- the two names of a block
 
@@ -126,12 +118,12 @@ module _ (b : List ℕ) (h : length b ≡ 512) where
 
         pub type-name-long : 200 < t → false ≡ names_form b
         unfolding names_form
-        type-name-long k = rw (← en, ← et, form_long t (part 254 454 b) (room 254 (omega arith)) k) (sym (and_no (name_form n (part 54 254 b))))
+        type-name-long k = rw (← en, ← et, form_long t (part 254 454 b) (room 254 (omega arith)) k) (sym (and-false (name_form n (part 54 254 b))))
 
         module _ (k : t ≤ 200) (u : Option ℕ) (eu : u ≡ name_sum_of (take (254 + t - 254) (drop 254 b))) where
           pub type-name-wrong : u ≡ None → false ≡ names_form b
           unfolding names_form
-          type-name-wrong p = rw (← en, ← et, form_wrong t (part 254 454 b) (room 254 (omega arith)) (said-wrong _ (ap name_sum_of (sym (name-cut 254 t k)) ∙ sym eu ∙ p))) (sym (and_no (name_form n (part 54 254 b))))
+          type-name-wrong p = rw (← en, ← et, form_wrong t (part 254 454 b) (room 254 (omega arith)) (said-wrong _ (ap name_sum_of (sym (name-cut 254 t k)) ∙ sym eu ∙ p))) (sym (and-false (name_form n (part 54 254 b))))
 
           module _ (c : ℕ) (p : u ≡ Some c) (right : sum_right b ≡ true) (s f : ℕ) (es : s ≡ le_value (take 4 (take 4 (drop 508 b)))) (ef : f ≡ sum_of (take 54 b)) where
             second : name_form t (part 254 454 b) ≡ eqb (sum_of (drop t (part 254 454 b))) 0

@@ -56,20 +56,15 @@ pub enum ById {
 impl AdsTypeCategory {
     // The category of block n, for pointers of `width` bytes. The width tells interfaces from function blocks where both
     // have methods. An empty function block with no interface is taken for an interface.
+    #[tactic(auto, unfolding(crate::specs::Number::category_numbers, crate::specs::Category::category_of, crate::specs::Category::is_pointer, crate::specs::Category::is_reference))]
     pub fn determine(book: &[u8], width: u8, n: u32) -> AdsTypeCategory
         ensures { category_numbers result ≡ category_numbers (category_of book.now width n) }
     {
         let name = block::name(book, n);
-        if block::is_pointer(book, n) {
+        if block::is_pointer(book, n) || is_pointer_name(name) {
             return AdsTypeCategory::Pointer;
         }
-        if is_pointer_name(name) {
-            return AdsTypeCategory::Pointer;
-        }
-        if block::is_reference(book, n) {
-            return AdsTypeCategory::Reference;
-        }
-        if starts_with(name, b"REFERENCE TO") {
+        if block::is_reference(book, n) || starts_with(name, b"REFERENCE TO") {
             return AdsTypeCategory::Reference;
         }
         if 0 < block::dimensions(book, n) {
@@ -86,6 +81,7 @@ impl AdsTypeCategory {
 }
 
 // Aliases, then primitives, bitsets and strings.
+#[tactic(auto, unfolding(crate::specs::Category::simple_category, crate::specs::Category::or_else))]
 fn simple(book: &[u8], width: u8, n: u32) -> AdsTypeCategory
     ensures { result ≡ simple_category book.now width n }
 {
@@ -96,10 +92,8 @@ fn simple(book: &[u8], width: u8, n: u32) -> AdsTypeCategory
         }
         return AdsTypeCategory::Alias;
     }
-    let step = by_type_id(block::type_id(book, n));
-    match step {
-        ById::Is(category) => return category,
-        ById::Next => {}
+    if let ById::Is(category) = by_type_id(block::type_id(book, n)) {
+        return category;
     }
     if is_primitive_name(name) {
         return AdsTypeCategory::Primitive;
@@ -108,19 +102,13 @@ fn simple(book: &[u8], width: u8, n: u32) -> AdsTypeCategory
 }
 
 // A type name with neither fields nor methods.
+#[tactic(auto, unfolding(crate::specs::Category::is_alias))]
 fn is_alias(book: &[u8], n: u32) -> bool
     ensures { result ≡ is_alias book.now n }
 {
-    if 0 < block::type_name(book, n).len() {
-        if 0 < block::fields(book, n) {
-            return false;
-        }
-        if block::has_methods(book, n) {
-            return false;
-        }
-        return true;
-    }
-    false
+    0 < block::type_name(book, n).len()
+        && block::fields(book, n) == 0
+        && !block::has_methods(book, n)
 }
 
 // Primitives, bitsets and strings.
@@ -128,28 +116,27 @@ fn by_type_id(id: AdsTypeId) -> ById
     ensures { result ≡ id_step id }
 {
     match id {
-        AdsTypeId::Int8 => ById::Is(AdsTypeCategory::Primitive),
-        AdsTypeId::UInt8 => ById::Is(AdsTypeCategory::Primitive),
-        AdsTypeId::Int16 => ById::Is(AdsTypeCategory::Primitive),
-        AdsTypeId::UInt16 => ById::Is(AdsTypeCategory::Primitive),
-        AdsTypeId::Int32 => ById::Is(AdsTypeCategory::Primitive),
-        AdsTypeId::UInt32 => ById::Is(AdsTypeCategory::Primitive),
-        AdsTypeId::Int64 => ById::Is(AdsTypeCategory::Primitive),
-        AdsTypeId::UInt64 => ById::Is(AdsTypeCategory::Primitive),
-        AdsTypeId::Real32 => ById::Is(AdsTypeCategory::Primitive),
-        AdsTypeId::Real64 => ById::Is(AdsTypeCategory::Primitive),
-        AdsTypeId::Real80 => ById::Is(AdsTypeCategory::Primitive),
+        AdsTypeId::Int8
+        | AdsTypeId::UInt8
+        | AdsTypeId::Int16
+        | AdsTypeId::UInt16
+        | AdsTypeId::Int32
+        | AdsTypeId::UInt32
+        | AdsTypeId::Int64
+        | AdsTypeId::UInt64
+        | AdsTypeId::Real32
+        | AdsTypeId::Real64
+        | AdsTypeId::Real80 => ById::Is(AdsTypeCategory::Primitive),
         AdsTypeId::Bit => ById::Is(AdsTypeCategory::Bitset),
-        AdsTypeId::String => ById::Is(AdsTypeCategory::String),
-        AdsTypeId::WString => ById::Is(AdsTypeCategory::String),
-        AdsTypeId::Void => ById::Next,
-        AdsTypeId::MaxTypes => ById::Next,
-        AdsTypeId::BigType => ById::Next,
-        AdsTypeId::Unknown(_) => ById::Next,
+        AdsTypeId::String | AdsTypeId::WString => ById::Is(AdsTypeCategory::String),
+        AdsTypeId::Void | AdsTypeId::MaxTypes | AdsTypeId::BigType | AdsTypeId::Unknown(_) => {
+            ById::Next
+        }
     }
 }
 
 // Unions, interfaces, function blocks and structs.
+#[tactic(auto, unfolding(crate::specs::Category::complex_category))]
 fn complex(book: &[u8], width: u8, n: u32) -> AdsTypeCategory
     ensures { result ≡ complex_category book.now width n }
 {
@@ -166,19 +153,14 @@ fn complex(book: &[u8], width: u8, n: u32) -> AdsTypeCategory
 }
 
 // The memory of a union's fields overlaps: the first two start at one offset.
+#[tactic(auto, unfolding(crate::specs::Category::is_union))]
 fn is_union(book: &[u8], n: u32) -> bool
     ensures { result ≡ is_union book.now n }
 {
-    if block::fields(book, n) <= 1 {
-        return false;
-    }
-    if 0 < block::type_name(book, n).len() {
-        return false;
-    }
-    if block::has_methods(book, n) {
-        return false;
-    }
-    first_offset(book, n) == second_offset(book, n)
+    1 < block::fields(book, n)
+        && block::type_name(book, n).len() == 0
+        && !block::has_methods(book, n)
+        && first_offset(book, n) == second_offset(book, n)
 }
 
 // The offset of a type's first field, whose block is the next one. It is read from block n on, since n + 1 may not fit.
@@ -196,22 +178,21 @@ fn second_offset(book: &[u8], n: u32) -> u32
 }
 
 // Function blocks and interfaces often expose methods.
+#[tactic(auto, unfolding(crate::specs::Category::methods_category))]
 fn by_methods(book: &[u8], width: u8, n: u32) -> AdsTypeCategory
     ensures { result ≡ methods_category book.now width n }
 {
     if block::has_tc_implements(book, n) {
         return AdsTypeCategory::FunctionBlock;
     }
-    if block::fields(book, n) == 0 {
-        return AdsTypeCategory::Interface;
-    }
-    if block::size(book, n) == width as u32 {
+    if block::fields(book, n) == 0 || block::size(book, n) == width as u32 {
         return AdsTypeCategory::Interface;
     }
     AdsTypeCategory::FunctionBlock
 }
 
 // If the first user-defined field does not start at offset 0, the type has hidden state (a function block).
+#[tactic(auto, unfolding(crate::specs::Category::fields_category))]
 fn by_fields(book: &[u8], n: u32) -> AdsTypeCategory
     ensures { result ≡ fields_category book.now n }
 {
@@ -222,6 +203,7 @@ fn by_fields(book: &[u8], n: u32) -> AdsTypeCategory
 }
 
 // A type with neither fields nor methods.
+#[tactic(auto, unfolding(crate::specs::Category::size_category))]
 fn by_size(book: &[u8], n: u32) -> AdsTypeCategory
     ensures { result ≡ size_category book.now n }
 {
@@ -235,16 +217,15 @@ fn by_size(book: &[u8], n: u32) -> AdsTypeCategory
 }
 
 // A named type of size 0.
+#[tactic(auto, unfolding(crate::specs::Category::is_empty_struct))]
 fn is_empty_struct(book: &[u8], n: u32) -> bool
     ensures { result ≡ is_empty_struct book.now n }
 {
-    if 0 < block::name(book, n).len() {
-        return block::size(book, n) == 0;
-    }
-    false
+    0 < block::name(book, n).len() && block::size(book, n) == 0
 }
 
 // What is left goes by its size alone.
+#[tactic(auto, unfolding(crate::specs::Category::bare_category))]
 fn by_bare_size(size: u32) -> AdsTypeCategory
     ensures { result ≡ bare_category size }
 {
@@ -254,10 +235,7 @@ fn by_bare_size(size: u32) -> AdsTypeCategory
         }
         return AdsTypeCategory::None;
     }
-    if size == 4 {
-        return AdsTypeCategory::Interface;
-    }
-    if size == 8 {
+    if size == 4 || size == 8 {
         return AdsTypeCategory::Interface;
     }
     AdsTypeCategory::None

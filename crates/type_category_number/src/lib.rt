@@ -10,27 +10,11 @@ use type_category::type_category::AdsTypeCategory;
 pub fn number(category: AdsTypeCategory) -> u32
     ensures { result ≡ category_number category }
 {
-    match category {
-        AdsTypeCategory::None => 0,
-        AdsTypeCategory::Primitive => 1,
-        AdsTypeCategory::Alias => 2,
-        AdsTypeCategory::Enum => 3,
-        AdsTypeCategory::Array => 4,
-        AdsTypeCategory::Struct => 5,
-        AdsTypeCategory::FunctionBlock => 6,
-        AdsTypeCategory::Program => 7,
-        AdsTypeCategory::Function => 8,
-        AdsTypeCategory::SubRange => 9,
-        AdsTypeCategory::String => 10,
-        AdsTypeCategory::Bitset => 11,
-        AdsTypeCategory::Pointer => 12,
-        AdsTypeCategory::Union => 13,
-        AdsTypeCategory::Reference => 14,
-        AdsTypeCategory::Interface => 15,
-    }
+    category as u32
 }
 
 // The category of a number; past the last one it is the last.
+#[tactic(auto, unfolding(type_category::specs::Number::category_at))]
 pub fn category_at(n: u32) -> AdsTypeCategory
     ensures { result ≡ category_at n }
 {

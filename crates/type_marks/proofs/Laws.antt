@@ -1,19 +1,18 @@
 -- A hash turn by turn, a bit that is set beside those that stay, and the three bits of a hash. Assumes nothing.
-use mathlib.Core.Path.{◌≡◌, refl, sym, ap, ◌∙◌}
-use mathlib.Core.Bool.{Bool, true, false, not}
+use mathlib.Core.Path.{◌≡◌, refl, ap, ◌∙◌}
+use mathlib.Core.Bool.{Bool, true, false}
 use mathlib.Core.List.{List}
 use Prim.Native.Nat.{ℕ, zero, suc, ◌+◌, ◌-◌, ◌*◌, ◌/◌, ◌%◌, ◌^◌, ◌≤◌, ◌<◌}
 use native.Mathlib.Omega.{arith}
-use native.Mathlib.Nat.{div_self, zero-div, div-eq_of_lt, mul-div_cancel, mul-mod_left, mod-lt, mod-eq_of_lt, mul-le-mul_right, pow-suc}
-use borrow.Author.Tests.{eqb-true, eqb-false, ltb-true, ltb-false, not-true, not-false}
-use lib.ListN.{length, get_or, set, take, drop, length-set, get_or-eq_default}
+use native.Mathlib.Nat.{div_self, div-eq_of_lt, mul-div_cancel, mul-mod_left, mod-lt, mod-eq_of_lt, mul-le-mul_right, pow-suc}
+use borrow.Author.Tests.{eqb-true, eqb-false, ltb-true, ltb-false}
+use lib.ListN.{length, get_or, set, take, drop, length-set}
 use lib.Seq.{get_or-set_same, get_or-set_other, take-take}
-use lib.Bits.{bit_or, bit_xor, or_shr, or_mod}
+use lib.Bits.{bit_or, or_shr, or_mod}
 use lib.Pow.{pow_pos, pow-lt, pow-add}
 use lib.Dec.{eqb, ltb}
-use Rattle.enc_number.specs.Le.{le_value}
 use Rattle.type_block_form.proofs.Bytes.{and_left, and_right}
-use Rattle.type_marks.specs.Marks.{mixed_of, folded_of, joined_of, with_parts, hash_of, bit_of, BitSet, slot_of, SlotIs, is_marked, Marked}
+use Rattle.type_marks.specs.Marks.{folded_of, joined_of, with_parts, hash_of, bit_of, BitSet, slot_of, SlotIs, is_marked, Marked}
 
 -- ---- the hash of a name
 

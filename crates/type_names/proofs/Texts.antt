@@ -1,6 +1,6 @@
 -- The tests on names: each loop keeps that the whole is what is left. Assumes nothing.
 use mathlib.Core.Path.{◌≡◌, refl, sym, ◌∙◌}
-use mathlib.Core.Bool.{Bool, true, false, ◌&&◌, ◌||◌}
+use mathlib.Core.Bool.{Bool, true, false, ◌||◌, and-true}
 use mathlib.Core.List.{List, [], ◌∷◌}
 use Prim.Native.Nat.{ℕ, ◌+◌, ◌-◌, ◌≤◌, ◌<◌}
 use native.Mathlib.Nat.{le_refl}
@@ -27,15 +27,6 @@ turned a b = by (same_name a b) refl
 pub started : (name start : List ℕ) → pointwise eqb start (take (length start) name) ≡ starts_with name start
 unfolding starts_with
 started name start = compared start (take (length start) name) ∙ turned start (take (length start) name)
-
--- a test joined with one that is known
-pub and-true : (t : Bool) → t && true ≡ t
-and-true true = refl
-and-true false = refl
-
-pub and-false : (t : Bool) → t && false ≡ false
-and-false true = refl
-and-false false = refl
 
 -- one byte is compared as such
 starts-byte : (x b : ℕ) (xs : List ℕ) → starts_with (x ∷ xs) (b ∷ []) ≡ eqb x b

@@ -1,17 +1,13 @@
 -- An order of names: a name does not stand before itself, and three names go in a row. Assumes nothing.
-use mathlib.Core.Path.{◌≡◌, refl, sym, ap, ◌∙◌}
+use mathlib.Core.Path.{◌≡◌, refl, sym, ◌∙◌}
 use mathlib.Core.Bool.{Bool, true, false}
-use mathlib.Core.List.{List, []}
-use Prim.Native.Nat.{ℕ, suc, ◌+◌, ◌-◌, ◌*◌, ◌/◌, ◌≤◌, ◌<◌}
+use mathlib.Core.List.{List}
+use Prim.Native.Nat.{ℕ, ◌+◌, ◌≤◌, ◌<◌}
 use native.Mathlib.Omega.{arith}
-use lib.ListN.{length, take, drop, length-drop, drop_of_length-le}
-use lib.Seq.{take_all}
 use lib.Dec.{ltb, eqb}
 use borrow.Author.Count.{below_more}
 use borrow.Author.Tests.{ltb-true, ltb-false, eqb-true, eqb-false}
-use Rattle.enc_number.specs.Le.{le_value}
-use Rattle.type_book.specs.Book.{name_of}
-use Rattle.type_order.specs.Names.{word_at, SameTo, Less, LessIs, LessAt}
+use Rattle.type_order.specs.Names.{word_at, SameTo, Less, LessIs}
 
 -- ---- the turns of a comparison
 

@@ -1,18 +1,16 @@
 -- Names that rise, and blocks that are all listed: then no two types have one name. Assumes nothing.
-use mathlib.Core.Path.{◌≡◌, refl, sym, ap, ◌∙◌}
+use mathlib.Core.Path.{◌≡◌, refl, sym, ◌∙◌}
 use mathlib.Core.Bool.{Bool, true, false, not}
 use mathlib.Core.List.{List}
-use Prim.Native.Nat.{ℕ, zero, suc, max, ◌+◌, ◌-◌, ◌*◌, ◌/◌, ◌%◌, ◌^◌, ◌≤◌, ◌<◌}
+use Prim.Native.Nat.{ℕ, zero, suc, max, ◌+◌, ◌-◌, ◌≤◌, ◌<◌}
 use native.Mathlib.Omega.{arith}
-use native.Mathlib.Nat.{zero-div}
-use lib.ListN.{length, get_or, get_or-eq_default}
-use lib.Dec.{ltb, eqb}
+use lib.Dec.{ltb}
 use borrow.Author.Count.{below_more}
-use borrow.Author.Tests.{ltb-true, ltb-false, eqb-true, not-true, not-false}
+use borrow.Author.Tests.{ltb-true, ltb-false, not-false}
 use Rattle.type_book.specs.Book.{blocks, is_type, name_of, is_named}
 use Rattle.type_provider.proofs.Finds.{named-kind, named-name}
 use Rattle.type_order.specs.declared.Order.TheVariants.{Distinct, Doubled, Unknown}
-use Rattle.type_order.specs.Names.{Apart, Twice, OrderDecided, Less, LessAt}
+use Rattle.type_order.specs.Names.{Apart, OrderDecided, Less, LessAt}
 use Rattle.type_order.specs.Ranks.{number_at, RisesTo, Listed, RankIs, RankedTo, RankedIs}
 use Rattle.type_order.proofs.Names.{less_other, less_trans}
 

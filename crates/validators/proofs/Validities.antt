@@ -1,22 +1,18 @@
 -- What the definitions of validators.rs come to, which the crates above cite. Assumes nothing.
 use mathlib.Core.Path.{◌≡◌, refl, sym, ap, ◌∙◌}
 use mathlib.Core.Bool.{Bool, true, false, cond, ◌&&◌}
-use mathlib.Core.List.{List, [], ◌∷◌}
-use mathlib.Core.Logic.{inl, inr}
+use mathlib.Core.List.{List}
 use Prim.Native.Nat.{ℕ, zero, suc}
 use native.Mathlib.Omega.{arith}
 use lib.ListN.{length}
 use lib.Dec.{eqb}
-use borrow.Author.Tests.{eqb-true, eqb-false, eq-eqb}
-use denote.Enum.Declared.{tag_of}
-use types.Run.{OneOf}
+use borrow.Author.Tests.{eqb-true, eq-eqb}
 use Rattle.type_id.specs.declared.AdsTypeId.{AdsTypeId}
 use Rattle.type_id.specs.declared.AdsTypeId.TheVariants as id
 use Rattle.type_id.specs.TypeId.{id_of, number_of}
 use Rattle.type_id.proofs.TypeIds.{named}
 use Rattle.validators.specs.declared.Validity.{Validity}
 use Rattle.validators.specs.declared.Validity.TheVariants.{Valid, TypeMismatch, SizeMismatch}
-use Rattle.validators.specs.contracts.Validity.{the_type}
 use Rattle.validators.specs.Validate.{validity_refusal, unknown_of, same_id, size_refusal}
 
 -- a refusal's number tells the answer

@@ -22,6 +22,7 @@ pub enum Validity {
 }
 
 // Whether block n has exactly the expected type id.
+#[tactic(auto, unfolding(crate::specs::Validate::type_id_refusal))]
 pub fn validate_type_id(book: &[u8], n: u32, expected: AdsTypeId) -> Validity
     ensures { validity_refusal result ≡ type_id_refusal book.now n expected }
 {
@@ -62,6 +63,7 @@ pub fn validate_type_category(book: &[u8], n: u32, expected: u16, width: u8) -> 
 }
 
 // Whether there are exactly as many bytes as a type takes.
+#[tactic(auto, unfolding(crate::specs::Validate::size_refusal))]
 pub fn validate_exact_size(bytes: &[u8], expected: usize) -> Validity
     ensures { validity_refusal result ≡ size_refusal bytes.now expected }
 {
@@ -72,13 +74,11 @@ pub fn validate_exact_size(bytes: &[u8], expected: usize) -> Validity
 }
 
 // Whether two type ids are the same. Unknown of a number that has a name is not the named id.
+#[tactic(auto, unfolding(crate::specs::Validate::same_id))]
 fn same_id(a: AdsTypeId, b: AdsTypeId) -> bool
     ensures { result ≡ same_id a b }
 {
-    if a.to_u32() == b.to_u32() {
-        return unknown(a) == unknown(b);
-    }
-    false
+    a.to_u32() == b.to_u32() && unknown(a) == unknown(b)
 }
 
 // 1 for an unknown type id, 0 for a named one.
@@ -86,24 +86,8 @@ fn unknown(id: AdsTypeId) -> u8
     ensures { result ≡ unknown_of id }
 {
     match id {
-        AdsTypeId::Void => 0,
-        AdsTypeId::Int16 => 0,
-        AdsTypeId::Int32 => 0,
-        AdsTypeId::Real32 => 0,
-        AdsTypeId::Real64 => 0,
-        AdsTypeId::Int8 => 0,
-        AdsTypeId::UInt8 => 0,
-        AdsTypeId::UInt16 => 0,
-        AdsTypeId::UInt32 => 0,
-        AdsTypeId::Int64 => 0,
-        AdsTypeId::UInt64 => 0,
-        AdsTypeId::String => 0,
-        AdsTypeId::WString => 0,
-        AdsTypeId::Real80 => 0,
-        AdsTypeId::Bit => 0,
-        AdsTypeId::MaxTypes => 0,
-        AdsTypeId::BigType => 0,
         AdsTypeId::Unknown(_) => 1,
+        _ => 0,
     }
 }
 

@@ -1,4 +1,4 @@
-use Rattle.type_block_form.proofs.Sums.{sum_head, sum-short, sum_is}
+use Rattle.type_block_form.proofs.Sums.{sum_head, sum_is}
 use borrow.Author.Rules.{rules}
 use Rattle.type_block_form.proofs.sum_right.Goals as goal
 
