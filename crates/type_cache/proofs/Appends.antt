@@ -2,15 +2,14 @@
 use mathlib.Core.Path.{◌≡◌, refl, sym, ap, ◌∙◌}
 use mathlib.Core.Bool.{Bool, true, false, cond}
 use mathlib.Core.List.{List}
-use Prim.Native.Nat.{ℕ, zero, suc, ◌+◌, ◌-◌, ◌/◌, ◌≤◌, ◌<◌}
+use Prim.Native.Nat.{ℕ, zero, suc, ◌+◌, ◌/◌, ◌≤◌}
 use native.Mathlib.Omega.{arith}
-use borrow.Author.Tests.{eq-eqb, ne_eqb, le-leb, lt-leb, leb-true, eqb-true}
-use native.Mathlib.Numerals.{add-one}
-use lib.ListN.{length, get_or, take, set}
-use lib.Seq.{length-take-le, take-length, paste, paste-zero, paste-suc}
+use borrow.Author.Tests.{eq-eqb, ne_eqb, le-leb, leb-true, eqb-true}
+use lib.ListN.{length, take}
+use lib.Seq.{length-take-le}
 use lib.Dec.{eqb, leb}
 use Rattle.enc_number.specs.Answer.{refusal_of}
-use Rattle.type_book.specs.Book.{blocks, fields_of, entries_of, name_of}
+use Rattle.type_book.specs.Book.{name_of}
 use Rattle.type_provider.specs.Find.{find, is_found}
 use Rattle.type_provider.specs.declared.Found.{Found}
 use Rattle.type_provider.specs.declared.Found.TheVariants.{At, Nothing}
@@ -24,37 +23,9 @@ use Rattle.type_cache.proofs.Checked.{and_left, and_right, book-fits}
 use Rattle.type_cache.proofs.Numbers.{appended-says}
 
 -- ---- the addition by itself
-pub one-is : (addition : List ℕ) (f e n : ℕ) → f ≡ fields_of addition 0 → e ≡ entries_of addition 0 → n ≡ blocks addition → eqb (f + e + 1) n ≡ is_one_type addition
-one-is addition f e n p q o = rw (p, q, o)
-
-module _ (addition : List ℕ) (c : BookCheck) (e : c ≡ check_book addition (length addition)) where
-  checked : (k : BookCheck) → c ≡ k → refusal_of (book_numbers (addition_check k (is_one_type addition))) ≡ addition_refusal addition
-  checked k h = rw (← e, h)
-
-  module _ (h : c ≡ Valid) (t : Bool) (q : t ≡ is_one_type addition) where
-    pub addition_one : t ≡ true → 0 ≡ addition_refusal addition
-    unfolding addition_check book_numbers
-    addition_one g = rw (← e, h, ← q, g)
-
-    pub addition_more : t ≡ false → 3 ≡ addition_refusal addition
-    unfolding addition_check book_numbers
-    addition_more g = rw (← e, h, ← q, g)
-
-  pub addition_size : c ≡ Size → 1 ≡ addition_refusal addition
-  unfolding addition_check book_numbers
-  addition_size h = checked Size h
-
-  pub addition_sum : c ≡ Sum → 2 ≡ addition_refusal addition
-  unfolding addition_check book_numbers
-  addition_sum h = checked Sum h
-
-  pub addition_form : c ≡ Form → 3 ≡ addition_refusal addition
-  unfolding addition_check book_numbers
-  addition_form h = checked Form h
-
-  pub addition_doubled : c ≡ Doubled → 3 ≡ addition_refusal addition
-  unfolding addition_check book_numbers
-  addition_doubled h = checked Doubled h
+pub addition_one : (addition : List ℕ) (c : BookCheck) → c ≡ check_book addition (length addition) → c ≡ Valid → (t : Bool) → t ≡ is_one_type addition → t ≡ true → 0 ≡ addition_refusal addition
+unfolding addition_check book_numbers
+addition_one addition c e h t q g = rw (← e, h, ← q, g)
 
 valid-one : (k : BookCheck) (one : Bool) → refusal_of (book_numbers (addition_check k one)) ≡ 0 → k ≡ Valid
 unfolding addition_check book_numbers
@@ -94,20 +65,6 @@ unknown book name h = not_found_lem _ h
 
 -- ---- the room
 module _ (room len more : ℕ) where
-  past : room < len + more → false ≡ has_room room len more
-  unfolding has_room
-  past h = rw (lt-leb (len + more) room h)
-
-  pub room-past : room < len → false ≡ has_room room len more
-  room-past h = past (omega arith)
-
-  pub room-more : len ≤ room → room - len < more → false ≡ has_room room len more
-  room-more l h = past (omega arith)
-
-  pub room-blocks : len ≤ room → more ≤ room - len → leb ((len + more) / 512) 65536 ≡ has_room room len more
-  unfolding has_room
-  room-blocks l h = let g : len + more ≤ room = omega arith in rw (le-leb (len + more) room g)
-
   pub room-is : len + more ≤ room → (len + more) / 512 ≤ 65536 → has_room room len more ≡ true
   unfolding has_room
   room-is h g = rw (le-leb (len + more) room h, le-leb ((len + more) / 512) 65536 g)
@@ -148,6 +105,9 @@ module _ (buffer : List ℕ) (len : ℕ) (addition : List ℕ) where
     module _ (zb : b ≡ 0) where
       pub refused-cut : len ≡ length (take len buffer)
       refused-cut = sym (length-take-le len buffer (book-fits buffer len (sym ec ∙ zero-valid c (sym eb ∙ zb))))
+
+      pub refused-fits : len ≤ length buffer
+      refused-fits = book-fits buffer len (sym ec ∙ zero-valid c (sym eb ∙ zb))
 
       module _ (a : ℕ) (ea : a ≡ addition_refusal addition) where
         pub refused_addition : (a ≡ 0 → ⊥) → a ≡ append_refusal buffer len addition
@@ -241,17 +201,3 @@ module _ (buffer : List ℕ) (len : ℕ) (addition : List ℕ) where
       pub append_done : (n : ℕ) (after : List ℕ) → CopyIs buffer len addition n after → AppendIs buffer len addition (Done n) after
       unfolding append_call append_buffer
       append_done n after o = record { answer = appended-says _ _ (rw (← e, eq-eqb r 0 z) (ap Done o.new)); bytes = rw (← e, eq-eqb r 0 z) o.bytes }
-
--- ---- the loop of `copy`
-module _ (buffer : List ℕ) (len : ℕ) (addition : List ℕ) where
-  pub copy_start : buffer ≡ paste buffer len addition 0
-  copy_start = paste-zero buffer len addition
-
-  module _ (l : len + length addition ≤ length buffer) (i : ℕ) (now : List ℕ) (inv : now ≡ paste buffer len addition i) where
-    pub copy_again : i < length addition → set now (len + i) (get_or addition i 0) ≡ paste buffer len addition (i + 1)
-    copy_again h = rw (inv, add-one) (paste-suc buffer len addition i 0 (omega arith) h)
-
-    pub copy_end : length addition ≤ i → i ≤ length addition → CopyIs buffer len addition (len + length addition) now
-    copy_end h g =
-        let q : i ≡ length addition = omega arith in
-        record { new = refl; bytes = inv ∙ rw (q, take-length addition) }

@@ -2,7 +2,7 @@
 use mathlib.Core.Path.{◌≡◌, refl}
 use mathlib.Core.Bool.{Bool, true, false, cond, ◌&&◌}
 use mathlib.Core.List.{List}
-use Prim.Native.Nat.{ℕ, ◌/◌, ◌%◌, ◌≤◌, ◌<◌}
+use Prim.Native.Nat.{ℕ, ◌/◌, ◌%◌, ◌≤◌}
 use native.Mathlib.Omega.{arith}
 use borrow.Author.Tests.{eq-eqb, le-leb, leb-true}
 use lib.ListN.{length}
@@ -11,7 +11,7 @@ use lib.Dec.{leb}
 use Rattle.type_doubles.specs.Doubles.{distinct}
 use Rattle.type_book_check.specs.Check.{size_right, sums, all_in_place, check_blocks, check_book, ValidBook}
 use Rattle.type_book_check.specs.declared.BookCheck.{BookCheck}
-use Rattle.type_book_check.specs.declared.BookCheck.TheVariants.{Valid, Size, Sum, Form, Doubled}
+use Rattle.type_book_check.specs.declared.BookCheck.TheVariants.{Valid, Size}
 
 pub and_left : (a b : Bool) → a && b ≡ true → a ≡ true
 and_left true b e = refl

@@ -1,6 +1,6 @@
 -- Appending one type's blocks to the book that fills the first `len` bytes of a buffer (document 01, "The type book" and the last
 -- paragraph of its refusals). Assumes nothing.
-use Rattle.std.specs.Prelude.{◌≡◌, Bool, true, false, cond, ◌&&◌, List, [], ◌∷◌, ◌++◌, ℕ, zero, suc, ◌+◌, ◌/◌, length, take, drop, eqb, leb}
+use Rattle.std.specs.Prelude.{◌≡◌, Bool, cond, ◌&&◌, List, [], ◌∷◌, ◌++◌, ℕ, zero, suc, ◌+◌, ◌/◌, length, take, drop, eqb, leb}
 use Rattle.enc_number.specs.Answer.{refusal_of}
 use Rattle.enc_number.specs.Refusals as refusal
 use Rattle.type_book.specs.Book.{blocks, fields_of, entries_of, name_of}

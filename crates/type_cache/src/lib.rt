@@ -3,7 +3,7 @@
 #![tactic(auto)]
 
 ghost use Rattle.std.specs.Prelude.{◌≡◌, ◌+◌, ◌≤◌, length};
-ghost use Rattle.type_cache.specs.Append.{is_one_type, addition_refusal, is_known, has_room, append_refusal, CopyIs, AppendIs};
+ghost use Rattle.type_cache.specs.Append.{is_one_type, addition_refusal, is_known, has_room, CopyIs, AppendIs};
 
 use type_book::block;
 use type_book::block::BLOCK;
@@ -28,21 +28,15 @@ fn is_one_type(addition: &[u8]) -> bool
 
 // Document 01's number of a refusal of the addition, which is tested as a book is. Two types of one name are more than
 // one type, so they are 3 and not 4.
+#[tactic(auto, unfolding(crate::specs::Append::addition_check, type_book_check::specs::Check::book_numbers))]
 pub fn addition_refusal(addition: &[u8]) -> u8
     ensures { result ≡ addition_refusal addition.now }
 {
-    let check = check_book(addition, addition.len());
-    match check {
-        BookCheck::Valid => {
-            if is_one_type(addition) {
-                return 0;
-            }
-            return 3;
-        }
-        BookCheck::Size => return 1,
-        BookCheck::Sum => return 2,
-        BookCheck::Form => return 3,
-        BookCheck::Doubled => return 3,
+    match check_book(addition, addition.len()) {
+        BookCheck::Valid => { if is_one_type(addition) { 0 } else { 3 } }
+        BookCheck::Size => 1,
+        BookCheck::Sum => 2,
+        BookCheck::Form | BookCheck::Doubled => 3,
     }
 }
 
@@ -50,44 +44,15 @@ pub fn addition_refusal(addition: &[u8]) -> u8
 fn is_known(book: &[u8], name: &[u8]) -> bool
     ensures { result ≡ is_known book.now name.now }
 {
-    let Found::At(_) = find(book, name) else {
-        return false;
-    };
-    true
+    matches!(find(book, name), Found::At(_))
 }
 
 // The longer book fits the buffer, and has at most 65,536 blocks.
+#[tactic(auto, unfolding(crate::specs::Append::has_room))]
 pub fn has_room(room: usize, len: usize, more: usize) -> bool
     ensures { result ≡ has_room room len more }
 {
-    if len > room {
-        return false;
-    }
-    if more > room - len {
-        return false;
-    }
-    (len + more) / BLOCK <= 65536
-}
-
-// Document 01's number of the first refusal, 0 for none: the book's, the addition's, a known name, no room.
-fn append_refusal(buffer: &[u8], len: usize, addition: &[u8]) -> u8
-    ensures { result ≡ append_refusal buffer.now len addition.now }
-{
-    let of_book = refusal_of(check_book(buffer, len));
-    if of_book != 0 {
-        return of_book;
-    }
-    let of_addition = addition_refusal(addition);
-    if of_addition != 0 {
-        return of_addition;
-    }
-    if is_known(&buffer[..len], block::name(addition, 0)) {
-        return 4;
-    }
-    if has_room(buffer.len(), len, addition.len()) {
-        return 0;
-    }
-    15
+    len <= room && more <= room - len && (len + more) / BLOCK <= 65536
 }
 
 // Writes the addition after the first `len` bytes, and gives the length of both.
@@ -95,21 +60,29 @@ pub fn copy(buffer: &mut [u8], len: usize, addition: &[u8]) -> usize
     requires { len + length addition.now ≤ length buffer.old }
     ensures { CopyIs buffer.old len addition.now result buffer.new }
 {
-    let mut i = 0;
-    while i < addition.len() {
-        buffer[len + i] = addition[i];
-        i += 1;
-    }
-    len + addition.len()
+    let end = len + addition.len();
+    buffer[len..end].copy_from_slice(addition);
+    end
 }
 
-// Appends one whole type to the book that fills the first `len` bytes of the buffer.
+// Appends one whole type to the book that fills the first `len` bytes of the buffer. The first refusal is answered: the book's, the
+// addition's, a known name (4), no room (15).
 pub fn append(buffer: &mut [u8], len: usize, addition: &[u8]) -> Appended
     ensures { AppendIs buffer.old len addition.now result buffer.new }
 {
-    let refusal = append_refusal(buffer, len, addition);
-    if refusal != 0 {
-        return Appended::Refused(refusal);
+    let of_book = refusal_of(check_book(buffer, len));
+    if of_book != 0 {
+        return Appended::Refused(of_book);
+    }
+    let of_addition = addition_refusal(addition);
+    if of_addition != 0 {
+        return Appended::Refused(of_addition);
+    }
+    if is_known(&buffer[..len], block::name(addition, 0)) {
+        return Appended::Refused(4);
+    }
+    if !has_room(buffer.len(), len, addition.len()) {
+        return Appended::Refused(15);
     }
     Appended::Done(copy(buffer, len, addition))
 }

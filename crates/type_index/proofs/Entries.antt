@@ -1,10 +1,10 @@
 -- What a new index holds, as it is filled block by block. Assumes nothing.
-use mathlib.Core.Path.{◌≡◌, refl, sym, ap, ◌∙◌}
+use mathlib.Core.Path.{◌≡◌, sym, ap, ◌∙◌}
 use mathlib.Core.Bool.{Bool, true, false, cond}
-use mathlib.Core.List.{List, []}
-use Prim.Native.Nat.{ℕ, zero, suc, ◌+◌, ◌-◌, ◌≤◌, ◌<◌}
+use mathlib.Core.List.{List}
+use Prim.Native.Nat.{ℕ, suc, ◌+◌, ◌-◌, ◌≤◌, ◌<◌}
 use native.Mathlib.Omega.{arith}
-use lib.ListN.{length, get_or, set, replicate, length-set, length-replicate, get_or-eq_default}
+use lib.ListN.{length, get_or, set, replicate, length-replicate, get_or-eq_default}
 use lib.Seq.{set_out}
 use lib.Dec.{eqb}
 use borrow.Author.Tests.{eq-eqb, ne_eqb}
@@ -32,20 +32,20 @@ module _ (book index name : List ℕ) where
     unfolding free_of
     free-start at p = rw (p.is, hints.is)
 
-  module _ (n at left : ℕ) (inv : free_from index n at left ≡ free_of book index name) where
-    pub free-end : left ≤ 0 → length index ≡ free_of book index name
+  module _ (n at i : ℕ) (inv : free_from index n at (64 - i) ≡ free_of book index name) where
+    pub free-end : 64 ≤ i → length index ≡ free_of book index name
     unfolding free_from
-    free-end l = let z : left ≡ 0 = omega arith in ap (free_from index n at) (sym z) ∙ inv
+    free-end l = let z : 64 - i ≡ 0 = omega arith in ap (free_from index n at) (sym z) ∙ inv
 
-    module _ (l : 0 < left) where
-      turn : free_of book index name ≡ cond (eqb (get_or index at 0) 0) at (free_from index n (next_of n at) (left - 1))
+    module _ (l : i < 64) where
+      turn : free_of book index name ≡ cond (eqb (get_or index at 0) 0) at (free_from index n (next_of n at) (64 - (i + 1)))
       unfolding free_from
-      turn = let z : left ≡ suc (left - 1) = omega arith in sym inv ∙ ap (free_from index n at) z
+      turn = let z : 64 - i ≡ suc (64 - (i + 1)) = omega arith in sym inv ∙ ap (free_from index n at) z
 
       pub free-here : get_or index at 0 ≡ 0 → at ≡ free_of book index name
       free-here e = sym (turn ∙ rw (eq-eqb (get_or index at 0) 0 e))
 
-      pub free-again : (get_or index at 0 ≡ 0 → ⊥) → (at' : ℕ) → NextIs at n at' → free_from index n at' (left - 1) ≡ free_of book index name
+      pub free-again : (get_or index at 0 ≡ 0 → ⊥) → (at' : ℕ) → NextIs at n at' → free_from index n at' (64 - (i + 1)) ≡ free_of book index name
       free-again ne at' p = sym (turn ∙ rw (ne_eqb (get_or index at 0) 0 ne, p.is))
 
 -- ---- one block more
@@ -99,7 +99,7 @@ module _ (book index₀ : List ℕ) (first : ℕ) (hints : HintsAt book (length 
 
   module _ (i : ℕ) (index : List ℕ) (el : length index ≡ length index₀) (b : first ≤ i)
       (inv : hints_from book index (i - first) (length index₀ - i) ≡ hinted_index book index₀) where
-    pub hints_again : i < length index → (h : ℕ) → h ≡ hint_for (probe_of book index (type_name_of book (i - first)))
+    pub hints_again : i < length index₀ → (h : ℕ) → h ≡ hint_for (probe_of book index (type_name_of book (i - first)))
         → hints_from book (set index i h) (i + 1 - first) (length index₀ - (i + 1)) ≡ hinted_index book index₀
     unfolding hints_from
     hints_again l h eh =
@@ -109,6 +109,6 @@ module _ (book index₀ : List ℕ) (first : ℕ) (hints : HintsAt book (length 
         sym (ap (λ (x : ℕ). hints_from book (set index x (hint_for (probe_of book index (type_name_of book (i - first))))) (i - first + 1) (length index₀ - (i + 1))) s ∙ rw (eh, p))
         ∙ ap (hints_from book index (i - first)) (sym q) ∙ inv
 
-    pub hints_end : length index ≤ i → index ≡ hinted_index book index₀
+    pub hints_end : length index₀ ≤ i → index ≡ hinted_index book index₀
     unfolding hints_from
     hints_end l = let q : length index₀ - i ≡ 0 = omega arith in ap (hints_from book index (i - first)) (sym q) ∙ inv

@@ -1,18 +1,18 @@
 -- What an index leads to, turn by turn, and that it is a type block of the name. Assumes nothing.
 use mathlib.Core.Path.{◌≡◌, refl, sym, ap, ◌∙◌}
 use mathlib.Core.Bool.{Bool, true, false, cond, ◌&&◌}
-use mathlib.Core.List.{List, []}
+use mathlib.Core.List.{List}
 use Prim.Native.Nat.{ℕ, zero, suc, ◌+◌, ◌-◌, ◌≤◌, ◌<◌, min}
 use native.Mathlib.Omega.{arith}
 use lib.ListN.{length, get_or, get_or-eq_default}
 use lib.Dec.{eqb, ltb}
-use borrow.Author.Tests.{eq-eqb, ne_eqb, eqb-true, ltb-true, lt-ltb, le-ltb}
+use borrow.Author.Tests.{eq-eqb, ne_eqb, ltb-true, lt-ltb, le-ltb}
 use Rattle.type_provider.specs.declared.Found.{Found}
 use Rattle.type_provider.specs.declared.Found.TheVariants.{At, Nothing}
-use Rattle.type_book.specs.Book.{blocks, type_name_of, is_named}
+use Rattle.type_book.specs.Book.{blocks, is_named}
 use Rattle.type_provider.specs.Find.{searched, NamedBlock}
 use Rattle.type_block_form.proofs.Bytes.{and_left, and_right}
-use Rattle.type_index.specs.Index.{slots_of, slot_for, next_of, led_to, first_found, probe_from, probe_of, hint_for}
+use Rattle.type_index.specs.Index.{slots_of, slot_for, next_of, led_to, first_found, probe_from, probe_of}
 use Rattle.type_index.specs.Parts.{HintsAt, PlaceIs, NextIs, Probed}
 
 -- ---- what one number stands for
@@ -94,43 +94,34 @@ module _ (book index name : List ℕ) where
     unfolding probe_of
     probe_start at p = rw (p.is, hints.is)
 
-  module _ (n at left : ℕ) (inv : probe_from book index name n at left ≡ probe_of book index name) where
-    pub probe_end : left ≤ 0 → Nothing ≡ probe_of book index name
+  module _ (n at i : ℕ) (inv : probe_from book index name n at (64 - i) ≡ probe_of book index name) where
+    pub probe_end : 64 ≤ i → Nothing ≡ probe_of book index name
     unfolding probe_from
-    probe_end l = let z : left ≡ 0 = omega arith in ap (probe_from book index name n at) (sym z) ∙ inv
+    probe_end l = let z : 64 - i ≡ 0 = omega arith in ap (probe_from book index name n at) (sym z) ∙ inv
 
-    module _ (l : 0 < left) (slot : ℕ) (es : slot ≡ get_or index at 0) where
-      turn : probe_of book index name ≡ cond (eqb slot 0) Nothing (first_found (led_to book name slot) (probe_from book index name n (next_of n at) (left - 1)))
+    module _ (l : i < 64) (slot : ℕ) (es : slot ≡ get_or index at 0) where
+      turn : probe_of book index name ≡ cond (eqb slot 0) Nothing (first_found (led_to book name slot) (probe_from book index name n (next_of n at) (64 - (i + 1))))
       unfolding probe_from
-      turn = let z : left ≡ suc (left - 1) = omega arith in sym inv ∙ ap (probe_from book index name n at) z ∙ rw es
+      turn = let z : 64 - i ≡ suc (64 - (i + 1)) = omega arith in sym inv ∙ ap (probe_from book index name n at) z ∙ rw es
 
       pub probe_free : slot ≡ 0 → Nothing ≡ probe_of book index name
       probe_free e = sym (turn ∙ rw (eq-eqb slot 0 e))
 
       module _ (ne : slot ≡ 0 → ⊥) (f : Found) (ef : f ≡ led_to book name slot) where
-        tried : probe_of book index name ≡ first_found f (probe_from book index name n (next_of n at) (left - 1))
+        tried : probe_of book index name ≡ first_found f (probe_from book index name n (next_of n at) (64 - (i + 1)))
         tried = turn ∙ rw (ne_eqb slot 0 ne, ef)
 
         pub probe_here : (m : ℕ) → f ≡ At m → f ≡ probe_of book index name
         unfolding first_found
         probe_here m e = e ∙ sym (tried ∙ rw e)
 
-        pub probe_again : f ≡ Nothing → (at' : ℕ) → NextIs at n at' → probe_from book index name n at' (left - 1) ≡ probe_of book index name
+        pub probe_again : f ≡ Nothing → (at' : ℕ) → NextIs at n at' → probe_from book index name n at' (64 - (i + 1)) ≡ probe_of book index name
         unfolding first_found
         probe_again e at' p = sym (tried ∙ rw (e, p.is))
 
 -- ---- a hint
 
 module _ (book index name : List ℕ) (f : Found) (ef : f ≡ probe_of book index name) where
-  module _ (b : ℕ) (en : name ≡ type_name_of book b) where
-    pub hint_found : (t : ℕ) → f ≡ At t → t + 1 ≡ hint_for (probe_of book index (type_name_of book b))
-    unfolding hint_for
-    hint_found t e = rw (← en, ← ef, e)
-
-    pub hint_none : f ≡ Nothing → 0 ≡ hint_for (probe_of book index (type_name_of book b))
-    unfolding hint_for
-    hint_none e = rw (← en, ← ef, e)
-
   -- its number has room for one more
   pub hint_fits : (t : ℕ) → f ≡ At t → t + 1 < 4294967296
   hint_fits t e = let l : t < min (blocks book) 65536 = ((probe_probed book index name f ef).at t e).below in omega arith

@@ -1,5 +1,5 @@
 -- Where a name is tried in an index. Assumes nothing.
-use mathlib.Core.Path.{◌≡◌, refl, sym, ap, ◌∙◌}
+use mathlib.Core.Path.{◌≡◌, sym}
 use mathlib.Core.List.{List}
 use Prim.Native.Nat.{ℕ, ◌+◌, ◌-◌, ◌*◌, ◌/◌, ◌≤◌, ◌<◌, min}
 use native.Mathlib.Omega.{arith}
@@ -9,7 +9,6 @@ use mir.Val.{Fits}
 use lib.Dec.{ltb}
 use borrow.Author.Tests.{lt-ltb, le-ltb}
 use Rattle.type_marks.specs.Marks.{hash_of}
-use Rattle.type_book.specs.Book.{blocks}
 use Rattle.type_provider.specs.Find.{searched}
 use Rattle.type_index.specs.Index.{slots_of, slot_for, next_of}
 use Rattle.type_index.specs.Parts.{HintsAt, PlaceIs, NextIs}
@@ -44,19 +43,12 @@ module _ (h n : ℕ) (small : h < 4294967296) (some : 0 < n) where
   pub slot_below : h * n / 4294967296 < n
   slot_below = omega (arith, share)
 
-module _ (name : List ℕ) (h : ℕ) (eh : h ≡ hash_of name) (small : h < 4294967296) (n : ℕ) where
-  pub place-long : 4294967295 < n → PlaceIs name n (h * 4294967295 / 4294967296)
-  unfolding slot_for
-  place-long l =
-      let m : min n 4294967295 ≡ 4294967295 = omega arith in
-      let b : h * 4294967295 / 4294967296 < 4294967295 = slot_below h 4294967295 small (omega arith) in
-      record { is = rw (m, eh); below = omega arith }
-
-  pub place_short : n ≤ 4294967295 → 0 < n → PlaceIs name n (h * n / 4294967296)
-  unfolding slot_for
-  place_short l z =
-      let m : min n 4294967295 ≡ n = omega arith in
-      record { is = rw (m, eh); below = slot_below h n small z }
+pub place-is : (name : List ℕ) (h : ℕ) → h ≡ hash_of name → h < 4294967296 → (n s : ℕ) → s ≡ min n 4294967295 → 0 < n → PlaceIs name n (h * s / 4294967296)
+unfolding slot_for
+place-is name h eh small n s es z =
+    let some : 0 < s = omega arith in
+    let b : h * s / 4294967296 < s = slot_below h s small some in
+    record { is = rw (es, eh); below = omega arith }
 
 -- no slots: the place is 0
 pub place_none : (name : List ℕ) → slot_for name 0 ≡ 0

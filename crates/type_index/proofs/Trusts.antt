@@ -1,8 +1,8 @@
 -- When an index's "not there" is the book's, and that a look-up by an index gives what the search of the book gives. Assumes nothing.
-use mathlib.Core.Path.{◌≡◌, refl, sym, ap, ◌∙◌}
-use mathlib.Core.Bool.{Bool, true, false, cond, not, ◌&&◌, ◌||◌}
+use mathlib.Core.Path.{◌≡◌, refl, sym, ◌∙◌}
+use mathlib.Core.Bool.{Bool, true, false, cond, not, ◌||◌}
 use mathlib.Core.List.{List}
-use Prim.Native.Nat.{ℕ, zero, suc, ◌+◌, ◌-◌, ◌≤◌, ◌<◌}
+use Prim.Native.Nat.{ℕ, zero, suc, ◌+◌, ◌≤◌, ◌<◌}
 use native.Mathlib.Omega.{arith}
 use native.Mathlib.Nat.{eq-or-lt_of_le}
 use mathlib.Core.Logic.{⊎_elim}
@@ -19,61 +19,43 @@ use Rattle.type_index.specs.Index.{FoundBy, led_to, probe_of}
 use Rattle.type_index.specs.Parts.{Probed}
 use Rattle.type_index.specs.Trust.{leads, leads_from, holds_all, trust_then, not_led, Trusted}
 use Rattle.type_index.proofs.Probes.{led_probed, probe_probed}
+use Rattle.std.proofs.Common.{zero-add, length}
+use Rattle.std.proofs.lemmas.List.FromFn.{length-range_with_len, get_or-range_with_len}
+use Rattle.std.specs.Bool.{MatchBool}
+use Rattle.std.specs.List.{range_with_len, AllWithin, HoldsAt}
 
 -- ---- an index is held against the book
 
 module _ (book index : List ℕ) where
-  module _ (n : ℕ) (t : Bool) (et : t ≡ is_type book n) where
-    pub leads-other : t ≡ false → true ≡ leads book index n
-    unfolding leads
-    leads-other h = rw (← et, h)
+  all : (k i : ℕ) → ((m : ℕ) → i ≤ m → m < i + k → leads book index m ≡ true) → leads_from book index i k ≡ true
+  unfolding leads_from
+  all zero i h = refl
+  all (suc k) i h = rw (h i (omega arith) (omega arith)) (all k (i + 1) (λ m l g. h m (omega arith) (omega arith)))
 
-    module _ (h : t ≡ true) (name : List ℕ) (en : name ≡ name_of book n) (f : Found) (ef : f ≡ probe_of book index name) where
-      pub leads-there : (m : ℕ) → f ≡ At m → true ≡ leads book index n
-      unfolding leads
-      leads-there m e = rw (← et, h, ← en, ← ef, e)
+  each : (k i : ℕ) → leads_from book index i k ≡ true → (m : ℕ) → i ≤ m → m < i + k → leads book index m ≡ true
+  unfolding leads_from
+  each zero i e m l b = absurd (omega arith)
+  each (suc k) i e m l b =
+      ⊎_elim
+      (λ q. rw (← q) (and_left (leads book index i) _ e))
+      (λ q. each k (i + 1) (and_right (leads book index i) _ e) m (omega arith) (omega arith))
+      (eq-or-lt_of_le l)
 
-      pub leads-nowhere : f ≡ Nothing → false ≡ leads book index n
-      unfolding leads
-      leads-nowhere e = rw (← et, h, ← en, ← ef, e)
-
-  pub holds-start : (n : ℕ) → n ≡ searched book → leads_from book index 0 (n - 0) ≡ holds_all book index
+  -- what the chain over the numbers of the blocks says: the index leads to each, or not to one
+  pub holds-cases : (n : ℕ) → n ≡ searched book → (r : Bool)
+      → MatchBool r (AllWithin (λ m. leads book index m ≡ true) (range_with_len 0 n) 0 (length (range_with_len 0 n))) ((k : ℕ) × (k < length (range_with_len 0 n)) × HoldsAt (λ m. leads book index m ≡ false) (range_with_len 0 n) k)
+      → r ≡ holds_all book index
   unfolding holds_all
-  holds-start n en = let q : n - 0 ≡ searched book = omega arith in rw q
-
-  module _ (n i : ℕ) (inv : leads_from book index i (n - i) ≡ holds_all book index) where
-    module _ (l : i < n) (t : Bool) (et : t ≡ leads book index i) where
-      turn : holds_all book index ≡ t && leads_from book index (i + 1) (n - (i + 1))
-      unfolding leads_from
-      turn = let q : n - i ≡ suc (n - (i + 1)) = omega arith in sym inv ∙ ap (leads_from book index i) q ∙ rw et
-
-      pub holds_not : t ≡ false → false ≡ holds_all book index
-      holds_not h = sym (turn ∙ rw h)
-
-      pub holds-again : t ≡ true → leads_from book index (i + 1) (n - (i + 1)) ≡ holds_all book index
-      holds-again h = sym (turn ∙ rw h)
-
-    pub holds-end : n ≤ i → true ≡ holds_all book index
-    unfolding leads_from
-    holds-end h = let q : n - i ≡ 0 = omega arith in ap (leads_from book index i) (sym q) ∙ inv
-
-  -- what the check finds
-  pub then-held : (t : Trust) → t ≡ trust.Held → trust.Held ≡ trust_then book index t
-  unfolding trust_then
-  then-held t e = rw e
-
-  pub then_foreign : (t : Trust) → t ≡ trust.Foreign → trust.Foreign ≡ trust_then book index t
-  unfolding trust_then
-  then_foreign t e = rw e
-
-  module _ (t : Trust) (e : t ≡ trust.Unknown) (h : Bool) (eh : h ≡ holds_all book index) where
-    pub then-all : h ≡ true → trust.Held ≡ trust_then book index t
-    unfolding trust_then
-    then-all q = rw (e, ← eh, q)
-
-    pub then_some : h ≡ false → trust.Foreign ≡ trust_then book index t
-    unfolding trust_then
-    then_some q = rw (e, ← eh, q)
+  holds-cases n en true h =
+      sym (all (searched book) 0 (λ m l g. rw (get_or-range_with_len 0 n m 0 (omega arith), zero-add m) at (h m 0 (omega arith) (omega (arith, length-range_with_len 0 n)))))
+  holds-cases n en false h = by (leads_from book index 0 (searched book)) refl
+    where
+      by : (t : Bool) → leads_from book index 0 (searched book) ≡ t → false ≡ t
+      by false e = refl
+      by true e =
+          let l : h.0 < n = omega (arith, h.1, length-range_with_len 0 n) in
+          let f : leads book index h.0 ≡ false = rw (get_or-range_with_len 0 n h.0 0 l, zero-add h.0) at (h.2 0) in
+          sym f ∙ each (searched book) 0 e h.0 (omega arith) (omega arith)
 
   -- nothing is known, so nothing is wrong
   pub unknown-trusted : Trusted book index trust.Unknown
@@ -94,15 +76,6 @@ module _ (book index : List ℕ) where
       by trust.Unknown k q = told (holds_all book index) q
 
   -- ---- its "not there" is the book's
-
-  each : (k i : ℕ) → leads_from book index i k ≡ true → (m : ℕ) → i ≤ m → m < i + k → leads book index m ≡ true
-  unfolding leads_from
-  each zero i e m l b = absurd (omega arith)
-  each (suc k) i e m l b =
-      ⊎_elim
-      (λ q. rw (← q) (and_left (leads book index i) _ e))
-      (λ q. each k (i + 1) (and_right (leads book index i) _ e) m (omega arith) (omega arith))
-      (eq-or-lt_of_le l)
 
   -- whatever the hash: an index that leads to each type block by its own name leads to every name that the book has
   pub not_there : holds_all book index ≡ true → (name : List ℕ) → probe_of book index name ≡ Nothing → find book name ≡ Nothing

@@ -57,11 +57,8 @@ fn first_slot(name: &[u8], len: usize) -> usize
     requires { 0 < len }
     ensures { PlaceIs name.now len result }
 {
-    let h = hash(name) as u64;
-    if 0xffff_ffff < len {
-        return (h * 0xffff_ffff / 0x1_0000_0000) as usize;
-    }
-    (h * (len as u64) / 0x1_0000_0000) as usize
+    let share = (len as u64).min(0xffff_ffff);
+    (hash(name) as u64 * share / 0x1_0000_0000) as usize
 }
 
 // The slot that is tried after another: the last one is followed by the first.
@@ -84,10 +81,7 @@ fn believe(book: &[u8], name: &[u8], slot: u32) -> Found
         return Found::Nothing;
     }
     let n = slot - 1;
-    if searched(book) <= n {
-        return Found::Nothing;
-    }
-    if is_named(book, name, n) {
+    if n < searched(book) && is_named(book, name, n) {
         return Found::At(n);
     }
     Found::Nothing
@@ -102,8 +96,7 @@ fn probe(book: &[u8], index: &[u32], name: &[u8]) -> Found
         return Found::Nothing;
     }
     let mut at = first_slot(name, slots);
-    let mut left = PROBES;
-    while left > 0 {
+    for _ in 0..PROBES {
         let slot = index[at];
         if slot == 0 {
             return Found::Nothing;
@@ -113,7 +106,6 @@ fn probe(book: &[u8], index: &[u32], name: &[u8]) -> Found
             return found;
         };
         at = next_slot(at, slots);
-        left -= 1;
     }
     Found::Nothing
 }
@@ -121,56 +113,39 @@ fn probe(book: &[u8], index: &[u32], name: &[u8]) -> Found
 // The hint for block b, 0 where the index has none.
 fn hint_of(book: &[u8], index: &[u32], b: u32) -> u32 {
     let hints = &index[hints_at(book, index.len())..];
-    let i = b as usize;
-    if i < hints.len() {
-        return hints[i];
-    }
-    0
+    hints.get(b as usize).copied().unwrap_or(0)
 }
 
 // ---- what an index is worth
 
 // Whether the index leads to block n by its own name, if that is a type block.
+#[tactic(auto, unfolding(crate::specs::Trust::leads))]
 fn leads_to(book: &[u8], index: &[u32], n: u32) -> bool
     ensures { result ≡ leads book.now index.now n }
 {
-    if !block::is_type(book, n) {
-        return true;
-    }
-    let found = probe(book, index, block::name(book, n));
-    match found {
-        Found::At(_) => true,
-        Found::Nothing => false,
-    }
+    !block::is_type(book, n) || matches!(probe(book, index, block::name(book, n)), Found::At(_))
 }
 
 // Whether the index leads to every type block of the book. Then it leads to every name that the book has.
 pub fn holds_all(book: &[u8], index: &[u32]) -> bool
     ensures { result ≡ holds_all book.now index.now }
 {
-    let n = searched(book);
-    let mut i: u32 = 0;
-    while i < n {
-        if !leads_to(book, index, i) {
-            return false;
-        }
-        i += 1;
-    }
-    true
+    (0..searched(book)).all(|i| leads_to(book, index, i))
 }
 
 // What a call knows of its index once a name was not there: the index is held against the book, if it was not before.
+#[tactic(auto, unfolding(crate::specs::Trust::trust_then))]
 pub fn hold_against(book: &[u8], index: &[u32], trust: Trust) -> Trust
     ensures { result ≡ trust_then book.now index.now trust }
 {
     match trust {
-        Trust::Held => Trust::Held,
-        Trust::Foreign => Trust::Foreign,
+        Trust::Held | Trust::Foreign => trust,
         Trust::Unknown => {
             if holds_all(book, index) {
-                return Trust::Held;
+                Trust::Held
+            } else {
+                Trust::Foreign
             }
-            Trust::Foreign
         }
     }
 }
@@ -183,8 +158,7 @@ fn not_led(book: &[u8], trust: Trust, name: &[u8]) -> Found
 {
     match trust {
         Trust::Held => Found::Nothing,
-        Trust::Unknown => find(book, name),
-        Trust::Foreign => find(book, name),
+        Trust::Unknown | Trust::Foreign => find(book, name),
     }
 }
 
@@ -231,13 +205,11 @@ pub fn free_slot(book: &[u8], index: &[u32], name: &[u8]) -> usize
         return index.len();
     }
     let mut at = first_slot(name, slots);
-    let mut left = PROBES;
-    while left > 0 {
+    for _ in 0..PROBES {
         if index[at] == 0 {
             return at;
         }
         at = next_slot(at, slots);
-        left -= 1;
     }
     index.len()
 }
@@ -258,11 +230,11 @@ fn enter(book: &[u8], index: &mut [u32], n: u32)
 }
 
 // The hint for block b, by the slots: 0 where they do not lead to its type name, which is empty or missing then, as a rule.
+#[tactic(auto, unfolding(crate::specs::Index::hint_for))]
 fn hint(book: &[u8], index: &[u32], b: u32) -> u32
     ensures { result ≡ hint_for (probe_of book.now index.now (type_name_of book.now b)) }
 {
-    let found = probe(book, index, block::type_name(book, b));
-    match found {
+    match probe(book, index, block::type_name(book, b)) {
         Found::At(t) => t + 1,
         Found::Nothing => 0,
     }
@@ -273,10 +245,8 @@ fn enter_hints(book: &[u8], index: &mut [u32])
     ensures { index.new ≡ hinted_index book.now index.old }
 {
     let first = hints_at(book, index.len());
-    let mut i = first;
-    while i < index.len() {
+    for i in first..index.len() {
         index[i] = hint(book, index, (i - first) as u32);
-        i += 1;
     }
 }
 
@@ -286,11 +256,8 @@ pub fn fill_names(book: &[u8], index: &mut [u32])
     ensures { index.new ≡ names_index book.now (length index.old) }
 {
     clear_numbers(index);
-    let n = searched(book);
-    let mut i: u32 = 0;
-    while i < n {
+    for i in 0..searched(book) {
         enter(book, index, i);
-        i += 1;
     }
 }
 

@@ -1,31 +1,19 @@
 -- `build_index`: what its functions owe at each exit. Assumes nothing.
 use mathlib.Core.Path.{◌≡◌, refl, sym, ap, ◌∙◌}
-use mathlib.Core.Bool.{Bool, true, false, cond, not}
+use mathlib.Core.Bool.{true, false}
 use mathlib.Core.List.{List}
 use Prim.Native.Nat.{ℕ}
 use lib.ListN.{length, take}
 use lib.Dec.{eqb}
-use borrow.Author.Tests.{not-true, not-false, eq-eqb, ne_eqb}
+use borrow.Author.Tests.{eq-eqb, ne_eqb}
 use Rattle.enc_number.specs.Answer.{refusal_of}
 use Rattle.type_book_check.specs.declared.BookCheck.{BookCheck}
 use Rattle.type_book_check.specs.Check.{check_book, book_numbers}
 use Rattle.type_cache.proofs.Appends.{refused-cut}
-use Rattle.type_index.specs.Index.{index_fits, names_index}
 use Rattle.type_index_build.specs.declared.Built.{Built}
 use Rattle.type_index_build.specs.declared.Built.TheVariants as built
-use Rattle.type_index_build.specs.Build.{built_in, build_call, built_index, BuiltIn, BuiltIs}
+use Rattle.type_index_build.specs.Build.{build_call, built_index, BuiltIn, BuiltIs}
 use Rattle.type_index_build.proofs.Numbers.{built_says}
-
--- ---- 6
-
-module _ (book index : List ℕ) (g : Bool) (e : g ≡ index_fits index) where
-  pub in_short : not g ≡ true → BuiltIn book index (built.Refused 6) index
-  unfolding built_in built_index
-  in_short h = let q = sym e ∙ not-true g h in record { answer = rw q; numbers = rw q }
-
-  pub in_done : not g ≡ false → (index' : List ℕ) → index' ≡ names_index book (length index) → BuiltIn book index built.Done index'
-  unfolding built_in built_index
-  in_done h index' n = let q = sym e ∙ not-false g h in record { answer = rw q; numbers = rw q n }
 
 -- ---- 1 to 4
 

@@ -18,6 +18,7 @@ pub enum Built {
 }
 
 // Document 01's number of the answer, 0 for none.
+#[tactic(auto, unfolding(crate::specs::Build::built_numbers))]
 pub fn refusal_of_built(built: Built) -> u8
     ensures { result ≡ refusal_of (built_numbers built) }
 {
@@ -28,6 +29,7 @@ pub fn refusal_of_built(built: Built) -> u8
 }
 
 // The index of a valid book: 6 where the buffer is too short.
+#[tactic(auto, unfolding(crate::specs::Build::built_in, crate::specs::Build::built_index))]
 fn build_in(book: &[u8], index: &mut [u32]) -> Built
     ensures { BuiltIn book.now index.old result index.new }
 {

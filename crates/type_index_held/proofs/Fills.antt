@@ -1,16 +1,14 @@
 -- The ways out of the two functions. Assumes nothing.
 use mathlib.Core.Path.{◌≡◌, refl, sym, ap, ◌∙◌}
-use mathlib.Core.Bool.{Bool, true, false, cond, not, ◌&&◌, ◌||◌, and-true, and-false}
+use mathlib.Core.Bool.{Bool, true, false, not, ◌&&◌, and-true, and-false}
 use mathlib.Core.List.{List}
 use Prim.Native.Nat.{ℕ, suc, ◌+◌, ◌-◌, ◌≤◌, ◌<◌}
 use native.Mathlib.Omega.{arith}
 use lib.ListN.{length, set, replicate, length-replicate}
 use lib.Seq.{set_out}
-use lib.Dec.{ltb}
 use borrow.Author.Tests.{lt-ltb, le-ltb, not-true, not-false}
 use Rattle.type_book.specs.Book.{is_type, name_of}
 use Rattle.type_provider.specs.Find.{searched}
-use Rattle.type_index.specs.declared.Trust.{Trust}
 use Rattle.type_index.specs.declared.Trust.TheVariants as trust
 use Rattle.type_index.specs.Index.{free_of, entered, entered_from, names_index}
 use Rattle.type_index_held.specs.Held.{finds_slot, fit_from, all_fit, HeldNext, FilledIs}

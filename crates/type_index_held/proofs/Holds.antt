@@ -1,6 +1,6 @@
 -- An index into which every type of a book went leads to every type of it. Assumes nothing.
 use mathlib.Core.Path.{◌≡◌, refl, sym, ap, ◌∙◌}
-use mathlib.Core.Bool.{Bool, true, false, cond, not, ◌&&◌, ◌||◌}
+use mathlib.Core.Bool.{Bool, true, false, cond, not, ◌||◌}
 use mathlib.Core.List.{List}
 use mathlib.Core.Logic.{⊎_elim}
 use Prim.Native.Nat.{ℕ, zero, suc, ◌+◌, ◌≤◌, ◌<◌}
@@ -15,7 +15,7 @@ use Rattle.type_provider.proofs.Finds.{named-own}
 use Rattle.type_block_form.proofs.Bytes.{and_left, and_right}
 use Rattle.type_index.specs.declared.Trust.{Trust}
 use Rattle.type_index.specs.declared.Trust.TheVariants as trust
-use Rattle.type_index.specs.Index.{probe_of, free_from, free_of, entered, entered_from, names_index}
+use Rattle.type_index.specs.Index.{probe_of, free_of, entered, entered_from, names_index}
 use Rattle.type_index.specs.Trust.{leads, leads_from, holds_all, Trusted}
 use Rattle.type_index_grow.proofs.Kept.{free-empty, led-found, probe_kept, probe_new}
 use Rattle.type_index_held.specs.Held.{finds_slot, fit_from, all_fit, FilledIs}

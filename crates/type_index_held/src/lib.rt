@@ -32,15 +32,9 @@ pub fn fill_held(book: &[u8], index: &mut [u32]) -> Trust
     ensures { FilledIs book.now (length index.old) result index.new }
 {
     clear_numbers(index);
-    let n = searched(book);
     let mut all = true;
-    let mut i: u32 = 0;
-    while i < n {
+    for i in 0..searched(book) {
         all = enter_next(book, index, i, all);
-        i += 1;
     }
-    if all {
-        return Trust::Held;
-    }
-    Trust::Foreign
+    if all { Trust::Held } else { Trust::Foreign }
 }

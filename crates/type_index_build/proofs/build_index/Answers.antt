@@ -9,4 +9,4 @@ pub slice_bounds-build_in-end : goal.slice_bounds-build_in-end
 slice_bounds-build_in-end c = search build_cut
 
 pub returns : goal.returns
-returns c = search (build_refused, build_done)
+returns c = search build_done
