@@ -1,5 +1,5 @@
 -- Which blocks name a type that their own type is made of; and adding it. Assumes nothing.
-use mathlib.Core.Path.{◌≡◌, sym, ap, ◌∙◌}
+use mathlib.Core.Path.{◌≡◌, refl, sym, ap, ◌∙◌}
 use mathlib.Core.Bool.{Bool, true, false}
 use mathlib.Core.List.{List}
 use Prim.Native.Nat.{ℕ, zero, suc, ◌-◌, ◌≤◌, ◌<◌}
@@ -13,13 +13,15 @@ use Rattle.resolve_walk_scratch.specs.declared.ScratchParts.{ScratchParts}
 use Rattle.resolve_walk_scratch.specs.declared.ScratchParts.TheVariants as parts
 use Rattle.resolve_walk_scratch.specs.Parts.{parts_kind}
 use Rattle.closure.specs.Calls.{Ours}
-use Rattle.plan_adds.specs.declared.Fetched.{Fetched}
-use Rattle.plan_adds.specs.declared.Fetched.TheVariants as fetched
+use Rattle.std.specs.Prelude.{Result, Ok, Err}
+use Rattle.std.specs.Result.{result_unwrap_or}
+use Rattle.plan_adds.specs.declared.Unfetched.{Unfetched}
+use Rattle.plan_adds.specs.declared.Unfetched.TheVariants as unfetched
 use Rattle.plan_adds.specs.declared.Due.{Due}
 use Rattle.plan_adds.specs.declared.Due.TheVariants.{Names, Rest}
 use Rattle.plan_adds.specs.declared.Swept.{Swept}
 use Rattle.plan_adds.specs.Adds.{ours, passing, due_parts, due_type, due_of, sweep_by}
-use Rattle.plan_adds.specs.State.{Ready, fetched_said, FetchedIs, SweptIs}
+use Rattle.plan_adds.specs.State.{Ready, fetched_length, fetched_said, FetchedIs, SweptIs}
 use Rattle.plan_adds.proofs.Fetches.{kept-all}
 
 module _ (book : List ℕ) (i : ℕ) (category : AdsTypeCategory) (t : Bool) (e : t ≡ goes_on false category) where
@@ -70,19 +72,21 @@ module _ (c : List ℕ) (width i due : ℕ) (buffer : List ℕ) (len : ℕ) (d :
   unfolding sweep_by
   block-rest h known o = record { is = λ go. rw (← ed, h); ready = o; kept = kept-all buffer len }
 
-  module _ (h : d ≡ Names k) (f : Fetched) (after known : List ℕ) (o : FetchedIs c i buffer len f after known) where
+  module _ (h : d ≡ Names k) (f : Result ℕ Unfetched) (after known : List ℕ) (o : FetchedIs c i buffer len f after known) where
     named : (go : ℕ → Ours → Ours) → sweep_by go c i (ours buffer len) (due_of (take len buffer) width i due) ≡ go k (passing (fetched_said i len f after))
     unfolding sweep_by
     named go = rw (← ed, h, o.is)
 
-    pub block_more : (l : ℕ) → f ≡ fetched.More l → SweptIs c width i due buffer len (swept l k) after known
+    passed : (f : Result ℕ Unfetched) → passing (fetched_said i len f after) ≡ ours after (fetched_length len f)
     unfolding fetched_said passing
-    block_more l e = record { is = λ go. sym (named go ∙ rw e); ready = rw e at o.ready; kept = rw e at o.kept }
+    passed (Ok l) = refl
+    passed (Err unfetched.NotFound) = refl
+    passed (Err unfetched.Full) = refl
 
-    pub block-lacks : f ≡ fetched.NotFound → SweptIs c width i due buffer len (swept len k) after known
-    unfolding fetched_said passing
-    block-lacks e = record { is = λ go. sym (named go ∙ rw e); ready = rw e at o.ready; kept = rw e at o.kept }
+    kept_length : (f : Result ℕ Unfetched) → result_unwrap_or f len ≡ fetched_length len f
+    kept_length (Ok l) = refl
+    kept_length (Err e) = refl
 
-    pub block-full : f ≡ fetched.Full → SweptIs c width i due buffer len (swept len k) after known
-    unfolding fetched_said passing
-    block-full e = record { is = λ go. sym (named go ∙ rw e); ready = rw e at o.ready; kept = rw e at o.kept }
+    -- a type that is not added leaves the length as it was
+    pub block-named : (l : ℕ) → l ≡ result_unwrap_or f len → SweptIs c width i due buffer len (swept l k) after known
+    block-named l e = let q : l ≡ fetched_length len f = e ∙ kept_length f in record { is = λ go. sym (named go ∙ rw (passed f, ← q)); ready = rw q o.ready; kept = rw q o.kept }

@@ -23,7 +23,8 @@ use Rattle.type_cache.proofs.Appends.{refused-cut, done_none, buffer-kept}
 use Rattle.plan_type_adds.specs.Knows.{Knows, AppendedIn}
 use Rattle.resolvers.proofs.Chains.{found-valid, found_type}
 use Rattle.type_provider.proofs.Numbers.{found-is}
-use Rattle.plan_adds.specs.declared.Fetched.TheVariants.{More, NotFound, Full}
+use Rattle.std.specs.Prelude.{Ok, Err}
+use Rattle.plan_adds.specs.declared.Unfetched.TheVariants as unfetched
 use Rattle.plan_adds.specs.Adds.{ours, append_of, fetch_by, fetch_of, on, room}
 use Rattle.plan_adds.specs.State.{Ready, Kept, fetched_said, FetchedIs}
 
@@ -57,7 +58,7 @@ refused-is buffer len d k h = by (eqb (append_refusal buffer len d) 0) refl h
     by false e g = (cc, eqb-false _ _ e)
 
 module _ (c : List ℕ) (b : ℕ) (buffer : List ℕ) (len : ℕ) (f : Found) (ef : f ≡ find c (type_name_of (take len buffer) b)) where
-  pub fetch_lacks : f ≡ Nothing → (known : List ℕ) → Ready c buffer len known → FetchedIs c b buffer len NotFound buffer known
+  pub fetch_lacks : f ≡ Nothing → (known : List ℕ) → Ready c buffer len known → FetchedIs c b buffer len (Err unfetched.NotFound) buffer known
   unfolding fetched_said fetch_by
   fetch_lacks h known o = record { is = rw (← ef, h); ready = o; kept = kept-all buffer len }
 
@@ -73,7 +74,7 @@ module _ (c : List ℕ) (b : ℕ) (buffer : List ℕ) (len : ℕ) (f : Found) (e
       abbrev d : List ℕ
       d = definition_of c n
 
-      pub fetch_done : (l : ℕ) → r ≡ Done l → FetchedIs c b buffer len (More l) after known
+      pub fetch_done : (l : ℕ) → r ≡ Done l → FetchedIs c b buffer len (Ok l) after known
       unfolding fetched_said append_of
       fetch_done l e =
           let z : append_call buffer len d ≡ Done l = sym (appended-is _ _ a.appends.answer) ∙ e in
@@ -94,7 +95,7 @@ module _ (c : List ℕ) (b : ℕ) (buffer : List ℕ) (len : ℕ) (f : Found) (e
         kept : Kept buffer len after len
         kept = record { types = rw e at a.types }
 
-        pub fetch_full : k ≡ 15 → FetchedIs c b buffer len Full after known
+        pub fetch_full : k ≡ 15 → FetchedIs c b buffer len (Err unfetched.Full) after known
         unfolding fetched_said append_of
         fetch_full g =
             let w = refused-is buffer len d k z in
@@ -102,7 +103,7 @@ module _ (c : List ℕ) (b : ℕ) (buffer : List ℕ) (len : ℕ) (f : Found) (e
             let y : after ≡ buffer = a.appends.bytes ∙ buffer-kept buffer len d w.1 in
             record { is = sym (at ∙ rw (q, y)); ready = ready; kept = kept }
 
-        pub fetch_known : (k ≡ 15 → ⊥) → FetchedIs c b buffer len (More len) after known
+        pub fetch_known : (k ≡ 15 → ⊥) → FetchedIs c b buffer len (Ok len) after known
         unfolding fetched_said append_of
         fetch_known g =
             let w = refused-is buffer len d k z in

@@ -6,13 +6,14 @@ use Prim.Native.Nat.{ℕ, suc, ◌+◌, ◌-◌, ◌/◌, ◌≤◌, ◌<◌}
 use native.Mathlib.Omega.{arith}
 use native.Mathlib.Numerals.{add-one}
 use borrow.Author.Tests.{lt-ltb, le-ltb}
-use lib.ListN.{length, get_or, take, drop, length-take, drop_of_length-le}
-use lib.Seq.{drop-cons, get_or-take}
+use lib.ListN.{length, get_or, take, drop, drop_of_length-le}
+use lib.Seq.{drop-cons}
 use lib.Dec.{ltb}
 use Rattle.type_book.specs.Book.{blocks}
 use Rattle.closure.specs.Calls.{Ours}
-use Rattle.plan_adds.specs.declared.Fetched.{Fetched}
-use Rattle.plan_adds.specs.declared.Fetched.TheVariants as fetched
+use Rattle.std.specs.Prelude.{Result, Ok, Err}
+use Rattle.plan_adds.specs.declared.Unfetched.{Unfetched}
+use Rattle.plan_adds.specs.declared.Unfetched.TheVariants as unfetched
 use Rattle.plan_adds.specs.declared.Swept.{Swept}
 use Rattle.plan_adds.specs.declared.Added.{Added}
 use Rattle.plan_adds.specs.declared.Added.TheVariants.{More, NotFound, Full}
@@ -23,36 +24,35 @@ use Rattle.plan_adds.proofs.Fetches.{ready-cut, kept-all, kept_then}
 -- ---- the loop of `add_listed`
 
 -- before block i of the list
-pub record AddsTo (adding : Adding) (c list buffer₀ : List ℕ) (len₀ n i : ℕ) (buffer : List ℕ) (at : ℕ) (known : List ℕ) : Type 0 where
-  pub rest : adding ≡ add_listed c (drop i (take n list)) (ours buffer at)
+pub record AddsTo (adding : Adding) (c bs buffer₀ : List ℕ) (len₀ i : ℕ) (buffer : List ℕ) (at : ℕ) (known : List ℕ) : Type 0 where
+  pub rest : adding ≡ add_listed c (drop i bs) (ours buffer at)
   pub ready : Ready c buffer at known
   pub kept : Kept buffer₀ len₀ buffer at
 
-pub adds-start : (c list buffer : List ℕ) (len n : ℕ) (known : List ℕ) → Ready c buffer len known
-    → AddsTo (add_listed c (take n list) (ours buffer len)) c list buffer len n 0 buffer len known
-adds-start c list buffer len n known o = record { rest = refl; ready = o; kept = kept-all buffer len }
+pub adds-start : (c bs buffer : List ℕ) (len : ℕ) (known : List ℕ) → Ready c buffer len known
+    → AddsTo (add_listed c bs (ours buffer len)) c bs buffer len 0 buffer len known
+adds-start c bs buffer len known o = record { rest = refl; ready = o; kept = kept-all buffer len }
 
-module _ (adding : Adding) (c list buffer₀ : List ℕ) (len₀ n i : ℕ) (buffer : List ℕ) (at : ℕ) (known : List ℕ)
-    (o : AddsTo adding c list buffer₀ len₀ n i buffer at known) where
+module _ (adding : Adding) (c bs buffer₀ : List ℕ) (len₀ i : ℕ) (buffer : List ℕ) (at : ℕ) (known : List ℕ)
+    (o : AddsTo adding c bs buffer₀ len₀ i buffer at known) where
   pub adds-ready : Ready c buffer at known
   adds-ready = o.ready
 
-  pub adds-end : n ≤ i → AddedIs adding c buffer₀ len₀ (More at) buffer known
+  pub adds-end : length bs ≤ i → AddedIs adding c buffer₀ len₀ (More at) buffer known
   unfolding added_said add_listed
   adds-end h =
-      let z : length (take n list) ≤ i = omega (arith, length-take n list) in
-      let q : drop i (take n list) ≡ [] = drop_of_length-le (take n list) z in
+      let q : drop i bs ≡ [] = drop_of_length-le bs h in
       record { is = sym (o.rest ∙ rw q); ready = o.ready; kept = o.kept }
 
-  module _ (l : i < n) (w : n ≤ length list) (f : Fetched) (after known' : List ℕ) (g : FetchedIs c (get_or list i 0) buffer at f after known') where
-    taken : drop i (take n list) ≡ get_or list i 0 ∷ drop (i + 1) (take n list)
-    taken = drop-cons (take n list) i 0 (omega (arith, length-take n list)) ∙ rw (get_or-take n list i 0 l, add-one)
+  module _ (l : i < length bs) (f : Result ℕ Unfetched) (after known' : List ℕ) (g : FetchedIs c (get_or bs i 0) buffer at f after known') where
+    taken : drop i bs ≡ get_or bs i 0 ∷ drop (i + 1) bs
+    taken = drop-cons bs i 0 l ∙ rw add-one
 
-    onward : adding ≡ then_on (fetched_said (get_or list i 0) at f after) (add_listed c (drop (i + 1) (take n list)))
+    onward : adding ≡ then_on (fetched_said (get_or bs i 0) at f after) (add_listed c (drop (i + 1) bs))
     unfolding add_listed
     onward = o.rest ∙ rw (taken, g.is)
 
-    pub adds_again : (k : ℕ) → f ≡ fetched.More k → AddsTo adding c list buffer₀ len₀ n (i + 1) after k known'
+    pub adds_again : (k : ℕ) → f ≡ Ok k → AddsTo adding c bs buffer₀ len₀ (i + 1) after k known'
     unfolding fetched_said then_on
     adds_again k e =
         record {
@@ -61,20 +61,20 @@ module _ (adding : Adding) (c list buffer₀ : List ℕ) (len₀ n i : ℕ) (buf
           kept = kept_then buffer₀ len₀ buffer at after k o.kept (rw e at g.kept);
         }
 
-    pub adds-lacks : f ≡ fetched.NotFound → AddedIs adding c buffer₀ len₀ (NotFound (get_or list i 0) at) after known'
+    pub adds-lacks : (x : Unfetched) → f ≡ Err x → x ≡ unfetched.NotFound → AddedIs adding c buffer₀ len₀ (NotFound (get_or bs i 0) at) after known'
     unfolding fetched_said then_on added_said
-    adds-lacks e =
+    adds-lacks x e q =
         record {
-          is = sym (onward ∙ rw e);
+          is = sym (onward ∙ rw (e, q));
           ready = rw e at g.ready;
           kept = kept_then buffer₀ len₀ buffer at after at o.kept (rw e at g.kept);
         }
 
-    pub adds-full : f ≡ fetched.Full → AddedIs adding c buffer₀ len₀ (Full at) after known'
+    pub adds-full : (x : Unfetched) → f ≡ Err x → x ≡ unfetched.Full → AddedIs adding c buffer₀ len₀ (Full at) after known'
     unfolding fetched_said then_on added_said
-    adds-full e =
+    adds-full x e q =
         record {
-          is = sym (onward ∙ rw e);
+          is = sym (onward ∙ rw (e, q));
           ready = rw e at g.ready;
           kept = kept_then buffer₀ len₀ buffer at after at o.kept (rw e at g.kept);
         }

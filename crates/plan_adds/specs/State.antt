@@ -1,12 +1,12 @@
 -- What is known of our buffer in the midst of the adds, and what their parts promise each other. Assumes nothing.
-use Rattle.std.specs.Prelude.{◌≡◌, true, List, ℕ, take}
+use Rattle.std.specs.Prelude.{◌≡◌, true, Result, Ok, Err, List, ℕ, take}
 use Rattle.type_book.specs.Book.{is_type}
 use Rattle.type_book_check.specs.declared.BookCheck.TheVariants.{Valid}
 use Rattle.type_book_check.specs.Check.{check_book}
 use Rattle.plan_type_adds.specs.Knows.{Knows}
 use Rattle.closure.specs.Calls.{Ours}
-use Rattle.plan_adds.specs.declared.Fetched.{Fetched}
-use Rattle.plan_adds.specs.declared.Fetched.TheVariants as fetched
+use Rattle.plan_adds.specs.declared.Unfetched.{Unfetched}
+use Rattle.plan_adds.specs.declared.Unfetched.TheVariants as unfetched
 use Rattle.plan_adds.specs.declared.Added.{Added}
 use Rattle.plan_adds.specs.declared.Added.TheVariants as added
 use Rattle.plan_adds.specs.declared.Swept.{Swept}
@@ -22,19 +22,18 @@ pub record Kept (buffer : List ℕ) (len : ℕ) (after : List ℕ) (len' : ℕ) 
   pub types : (m : ℕ) → is_type (take len buffer) m ≡ true → is_type (take len' after) m ≡ true
 
 -- what is said of one type: its definition is added, or it was known; or the controller's book lacks it, or there is no room
-abbrev pub fetched_length : ℕ → Fetched → ℕ
-fetched_length len (fetched.More l) = l
-fetched_length len fetched.NotFound = len
-fetched_length len fetched.Full = len
+abbrev pub fetched_length : ℕ → Result ℕ Unfetched → ℕ
+fetched_length len (Ok l) = l
+fetched_length len (Err e) = len
 
 -- the same with our buffer, as an adding
-unfoldable pub fetched_said : ℕ → ℕ → Fetched → List ℕ → Adding
-fetched_said b len (fetched.More l) buffer = on (ours buffer l)
-fetched_said b len fetched.NotFound buffer = lacks b (ours buffer len)
-fetched_said b len fetched.Full buffer = room (ours buffer len)
+unfoldable pub fetched_said : ℕ → ℕ → Result ℕ Unfetched → List ℕ → Adding
+fetched_said b len (Ok l) buffer = on (ours buffer l)
+fetched_said b len (Err unfetched.NotFound) buffer = lacks b (ours buffer len)
+fetched_said b len (Err unfetched.Full) buffer = room (ours buffer len)
 
 -- the promise of adding one type: what is said of it, that all is ready for the next, and that our types are kept
-pub record FetchedIs (c : List ℕ) (b : ℕ) (buffer : List ℕ) (len : ℕ) (r : Fetched) (after known : List ℕ) : Type 0 where
+pub record FetchedIs (c : List ℕ) (b : ℕ) (buffer : List ℕ) (len : ℕ) (r : Result ℕ Unfetched) (after known : List ℕ) : Type 0 where
   pub is : fetched_said b len r after ≡ fetch_of c b (ours buffer len)
   pub ready : Ready c after (fetched_length len r) known
   pub kept : Kept buffer len after (fetched_length len r)

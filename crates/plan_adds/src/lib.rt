@@ -23,15 +23,14 @@ use type_provider::Found;
 // The blocks of a book at most.
 const MAX_BLOCKS: u32 = 65536;
 
-// The length of our book with the type, if it was not known; or the controller's book lacks it, or there is no room for it.
+// Why a type is not added: the controller's book lacks it, or there is no room for it.
 #[derive(Clone, Copy)]
-enum Fetched {
-    More(usize),
+enum Unfetched {
     NotFound,
     Full,
 }
 
-// The same of several types: the block whose type name was not found, and the length at which the adding ended.
+// The length of our book with several types; or the block whose type name was not found, or no room, and the length at which the adding ended.
 #[derive(Clone, Copy)]
 pub enum Added {
     More(usize),
@@ -71,7 +70,8 @@ fn find_theirs(book: &[u8], controller: &[u8], index: &[u32], trust: Trust, b: u
     find_in(controller, index, trust, block::type_name(book, b))
 }
 
-// Adds the type that block b of our book names from the controller's book. A name that our book knows by now is none to add.
+// Adds the type that block b of our book names from the controller's book: the length of our book then. A name that our book knows by now is none
+// to add.
 fn fetch(
     buffer: &mut [u8],
     len: usize,
@@ -80,22 +80,22 @@ fn fetch(
     trust: Trust,
     known: &mut [u8],
     b: u32,
-) -> Fetched
+) -> Result<usize, Unfetched>
     requires { ValidBook controller.now × Trusted controller.now index.now trust × Ready controller.now buffer.old len known.old }
     ensures { FetchedIs controller.now b buffer.old len result buffer.new known.new }
 {
     let found = find_theirs(&buffer[..len], controller, index, trust, b);
     let Found::At(n) = found else {
-        return Fetched::NotFound;
+        return Err(Unfetched::NotFound);
     };
     let answer = append_in(buffer, len, controller, n, known);
     match answer {
-        Appended::Done(l) => Fetched::More(l),
+        Appended::Done(l) => Ok(l),
         Appended::Refused(k) => {
             if k == 15 {
-                return Fetched::Full;
+                return Err(Unfetched::Full);
             }
-            Fetched::More(len)
+            Ok(len)
         }
     }
 }
@@ -115,22 +115,13 @@ fn add_listed(
     ensures { AddedIs (add_listed controller.now (take n list.now) (ours buffer.old len)) controller.now buffer.old len result buffer.new known.new }
 {
     let mut at = len;
-    let mut i = 0;
-    while i < n {
-        let b = list[i];
-        let fetched = fetch(buffer, at, controller, index, trust, known, b);
+    for b in &list[..n] {
+        let fetched = fetch(buffer, at, controller, index, trust, known, *b);
         match fetched {
-            Fetched::More(l) => {
-                at = l;
-            }
-            Fetched::NotFound => {
-                return Added::NotFound(b, at);
-            }
-            Fetched::Full => {
-                return Added::Full(at);
-            }
+            Ok(l) => at = l,
+            Err(Unfetched::NotFound) => return Added::NotFound(*b, at),
+            Err(Unfetched::Full) => return Added::Full(at),
         }
-        i += 1;
     }
     Added::More(at)
 }
@@ -184,12 +175,10 @@ fn sweep_block(
     match here {
         Due::Rest(k) => Swept { len, due: k },
         Due::Names(k) => {
-            let trust = by.trust;
-            let fetched = fetch(buffer, len, controller, index, trust, known, i);
-            match fetched {
-                Fetched::More(l) => Swept { len: l, due: k },
-                Fetched::NotFound => Swept { len, due: k },
-                Fetched::Full => Swept { len, due: k },
+            let fetched = fetch(buffer, len, controller, index, by.trust, known, i);
+            Swept {
+                len: fetched.unwrap_or(len),
+                due: k,
             }
         }
     }
@@ -208,16 +197,14 @@ fn sweep(
     ensures { SweepIs (sweep_of controller.now by.width by.from (ours buffer.old len)) controller.now buffer.old len result buffer.new known.new }
 {
     let mut at = len;
-    let mut i = by.from;
     let mut due: u32 = 0;
-    while i < MAX_BLOCKS {
+    for i in by.from..MAX_BLOCKS {
         if at / BLOCK <= i as usize {
             return at;
         }
         let swept = sweep_block(buffer, at, controller, index, by, known, i, due);
         at = swept.len;
         due = swept.due;
-        i += 1;
     }
     at
 }

@@ -29,9 +29,10 @@ use Rattle.plan_adds.specs.declared.Added.TheVariants as added
 use Rattle.plan_adds.specs.Adds.{ours}
 use Rattle.plan_adds.specs.State.{added_said}
 use Rattle.plan_save.specs.declared.Plan.TheVariants as plan
-use Rattle.plan_save.specs.declared.Asked.{Asked}
-use Rattle.plan_save.specs.declared.Asked.TheVariants.{Complete, Lists, NotWhole}
-use Rattle.plan_save.specs.declared.Round.TheVariants as round
+use Rattle.plan_save.specs.declared.Plan.{Plan}
+use Rattle.std.specs.declared.ops.ControlFlow.{ControlFlow}
+use Rattle.std.specs.declared.ops.ControlFlow.TheVariants.{Continue, Break}
+use Rattle.std.specs.Prelude.{Option, Some, None, Result, Ok, Err}
 use Rattle.resolvers.proofs.Numbers.{long-numbers}
 use Rattle.plan_save.specs.Rounds.{next_round, not_whole}
 use Rattle.plan_save.specs.State.{says_no, ListSaid, ListedIs, AskSaid, AskedIs, plan_said, round_said, AfterAdds}
@@ -71,51 +72,48 @@ module _ (book : List ℕ) (width root : ℕ) (sc list : List ℕ) (r : Missing)
     same_count : k ≡ count w
     same_count = third_same _ _ _ _ _ _ (sym e ∙ is)
 
-    pub ask-some : t ≡ true → ListedIs w (Lists n) list'
+    pub ask-some : t ≡ true → ListedIs w (Ok n) list'
     ask-some h = record { says = (sym same-mark ∙ h, same_number, rw (same_number, holds) (take-append_seam (listed w) (drop (length (listed w)) list))) }
 
     module _ (h : t ≡ false) where
-      pub ask-names : k ≡ 4097 → ListedIs w (NotWhole 9) list'
+      pub ask-names : k ≡ 4097 → ListedIs w (Err 9) list'
       ask-names g = let q : count w ≡ 4097 = sym same_count ∙ g in record { says = (sym same-mark ∙ h, rw q) }
 
-      pub ask-chain : (k ≡ 4097 → ⊥) → ListedIs w (NotWhole 8) list'
+      pub ask-chain : (k ≡ 4097 → ⊥) → ListedIs w (Err 8) list'
       ask-chain g = record { says = (sym same-mark ∙ h, rw (ne_eqb (count w) 4097 (λ q. g (same_count ∙ q)), long-numbers)) }
 
   -- an ask of a checked book is not refused
-  pub ask-never : (k : ℕ) → r ≡ missing.Refused k → ListedIs w (NotWhole k) list'
+  pub ask-never : (k : ℕ) → r ≡ missing.Refused k → ListedIs w (Err k) list'
   ask-never k e = absurd (never-same k _ _ _ (sym e ∙ is))
 
 -- ---- read-modify-write
 module _ (book : List ℕ) (width root : ℕ) (sc : List ℕ) (a : Rmw) (sc' : List ℕ) (o : RmwIn true book width root sc a sc') where
-  pub no-yes : a ≡ rmw.Yes → false ≡ says_no (rmw_answer true book width root)
-  unfolding says_no
-  no-yes h = rw (← rmw_is _ _ o.answer, h)
-
   pub no-no : a ≡ rmw.No → true ≡ says_no (rmw_answer true book width root)
   unfolding says_no
   no-no h = rw (← rmw_is _ _ o.answer, h)
 
-  pub no-lacks : (b : ℕ) → a ≡ rmw.NotFound b → false ≡ says_no (rmw_answer true book width root)
+  pub no-other : (a ≡ rmw.No → ⊥) → false ≡ says_no (rmw_answer true book width root)
   unfolding says_no
-  no-lacks b h = rw (← rmw_is _ _ o.answer, h)
-
-  pub no-refused : (n : ℕ) → a ≡ rmw.Refused n → false ≡ says_no (rmw_answer true book width root)
-  unfolding says_no
-  no-refused n h = rw (← rmw_is _ _ o.answer, h)
+  no-other other = rw (← rmw_is _ _ o.answer) (by a refl)
+    where
+      by : (r : Rmw) → a ≡ r → false ≡ says_no a
+      by rmw.Yes h = rw h
+      by rmw.No h = absurd (other h)
+      by (rmw.NotFound b) h = rw h
+      by (rmw.Refused n) h = rw h
 
 module _ (book : List ℕ) (width root : ℕ) (n : Bool) (e : n ≡ says_no (rmw_answer true book width root)) where
-  pub ask-complete : n ≡ true → (list : List ℕ) → AskedIs book width (walk_of book width root) Complete list
+  pub ask-complete : n ≡ true → (list : List ℕ) → AskedIs book width (walk_of book width root) (Ok None) list
   unfolding rmw_answer
   ask-complete h list = record { says = sym e ∙ h }
 
-  pub ask-other : n ≡ false → (r : Asked) (list : List ℕ) → ListedIs (walk_of book width root) r list → AskedIs book width (walk_of book width root) r list
-  unfolding rmw_answer
-  ask-other h r list o = record { says = by r o.says }
-    where
-      by : (r : Asked) → ListSaid (walk_of book width root) r list → AskSaid book width (walk_of book width root) r list
-      by Complete s = absurd s
-      by (Lists k) s = (s.0, s.1, s.2, sym e ∙ h)
-      by (NotWhole k) s = s
+  module _ (h : n ≡ false) (k : ℕ) (list : List ℕ) where
+    pub ask-lists : ListedIs (walk_of book width root) (Ok k) list → AskedIs book width (walk_of book width root) (Ok (Some k)) list
+    unfolding rmw_answer
+    ask-lists o = let s = o.says in record { says = (s.0, s.1, s.2, sym e ∙ h) }
+
+    pub ask-not-whole : ListedIs (walk_of book width root) (Err k) list → AskedIs book width (walk_of book width root) (Err k) list
+    ask-not-whole o = record { says = o.says }
 
 -- ---- what it says of the ask
 
@@ -160,19 +158,19 @@ module _ (book : List ℕ) (width : ℕ) where
   complete-yes (met b x TooLong w) a e h = absurd (let z : ◌≡◌ {A = ℕ} 0 1 = cc in omega arith)
 
 -- ---- what follows from the adds
-again-same : (l m : ℕ) → round.Again l ≡ round.Again m → l ≡ m
+again-same : (l m : ℕ) → ◌≡◌ {A = ControlFlow Plan ℕ} (Continue l) (Continue m) → l ≡ m
 again-same l m e = cc
 
 module _ (a : Added) where
-  pub adds_on : (l : ℕ) → a ≡ added.More l → AfterAdds a (round.Again l)
+  pub adds_on : (l : ℕ) → a ≡ added.More l → AfterAdds a (Continue l)
   unfolding round_said added_said next_round
   adds_on l h = record { is = λ go buffer. rw h; same = λ m e. rw h (again-same l m e) }
 
-  pub adds_lack : (b l : ℕ) → a ≡ added.NotFound b l → AfterAdds a (round.Is (plan.NotFound b l))
+  pub adds_lack : (b l : ℕ) → a ≡ added.NotFound b l → AfterAdds a (Break (plan.NotFound b l))
   unfolding round_said plan_said added_said next_round
   adds_lack b l h = record { is = λ go buffer. rw h; same = λ m e. absurd (let z : ◌≡◌ {A = ℕ} 0 1 = cc in omega arith) }
 
-  pub adds-full : (l : ℕ) → a ≡ added.Full l → AfterAdds a (round.Is (plan.Refused 15 l))
+  pub adds-full : (l : ℕ) → a ≡ added.Full l → AfterAdds a (Break (plan.Refused 15 l))
   unfolding round_said plan_said added_said next_round
   adds-full l h = record { is = λ go buffer. rw h; same = λ m e. absurd (let z : ◌≡◌ {A = ℕ} 0 1 = cc in omega arith) }
 

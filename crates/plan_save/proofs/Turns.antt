@@ -28,10 +28,9 @@ use Rattle.plan_adds.specs.Adds.{ours, add_all}
 use Rattle.plan_adds.specs.State.{Ready, added_said, added_length, AddedIs}
 use Rattle.plan_save.specs.declared.Plan.{Plan}
 use Rattle.plan_save.specs.declared.Plan.TheVariants as plan
-use Rattle.plan_save.specs.declared.Asked.{Asked}
-use Rattle.plan_save.specs.declared.Asked.TheVariants.{Complete, Lists, NotWhole}
-use Rattle.plan_save.specs.declared.Round.{Round}
-use Rattle.plan_save.specs.declared.Round.TheVariants.{Again, Is}
+use Rattle.std.specs.declared.ops.ControlFlow.{ControlFlow}
+use Rattle.std.specs.declared.ops.ControlFlow.TheVariants.{Continue, Break}
+use Rattle.std.specs.Prelude.{Option, Some, None, Result, Ok, Err}
 use Rattle.plan_save.specs.Rounds.{Decision, ruled, next_round, closing, not_whole, round_of, swept_from, rounds_then, plan_from}
 use Rattle.plan_save.specs.State.{half_of, Prepared, plan_said, round_said, Follows, RoundIs, says_no, AskSaid, AskedIs, AfterAdds, AddedRound, PlannedIs}
 use Rattle.plan_save.proofs.Asks.{no-complete, no-is, complete-yes}
@@ -85,50 +84,50 @@ none-long : (l : List ℕ) → length l ≡ 0 → l ≡ []
 none-long [] e = refl
 none-long (x ∷ l) e = absurd (omega arith)
 
-module _ (book : List ℕ) (width : ℕ) (w : Walk) (a : Asked) (list : List ℕ) (o : AskedIs book width w a list) where
-  lists : (n : ℕ) → a ≡ Lists n → (whole w ≡ true) × (n ≡ length (listed w)) × (take n list ≡ listed w) × (says_no (rmw_of book width w) ≡ false)
+module _ (book : List ℕ) (width : ℕ) (w : Walk) (a : Result (Option ℕ) ℕ) (list : List ℕ) (o : AskedIs book width w a list) where
+  lists : (n : ℕ) → a ≡ Ok (Some n) → (whole w ≡ true) × (n ≡ length (listed w)) × (take n list ≡ listed w) × (says_no (rmw_of book width w) ≡ false)
   lists n e = rw e at o.says
 
-  not-whole : (k : ℕ) → a ≡ NotWhole k → (whole w ≡ false) × (k ≡ not_whole w)
+  not-whole : (k : ℕ) → a ≡ Err k → (whole w ≡ false) × (k ≡ not_whole w)
   not-whole k e = rw e at o.says
 
-  pub lists-fit : (n : ℕ) → a ≡ Lists n → n ≤ length list
-  lists-fit n e =
-      let q = lists n e in
+  pub lists-fit : (x : Option ℕ) → a ≡ Ok x → (n : ℕ) → x ≡ Some n → n ≤ length list
+  lists-fit x i n e =
+      let q = lists n (i ∙ ap (λ (y : Option ℕ). Ok y) e) in
       let z : length (take n list) ≡ n = ap (λ (l : List ℕ). length l) q.2 ∙ sym q.1 in
       omega (arith, length-take n list)
 
-module _ (c : List ℕ) (width root : ℕ) (buffer : List ℕ) (len from : ℕ) (a : Asked) (list : List ℕ) (o : AskedIs (take len buffer) width (walk_of (take len buffer) width root) a list) where
+module _ (c : List ℕ) (width root : ℕ) (buffer : List ℕ) (len from : ℕ) (a : Result (Option ℕ) ℕ) (list : List ℕ) (o : AskedIs (take len buffer) width (walk_of (take len buffer) width root) a list) where
   abbrev w : Walk
   w = walk_of (take len buffer) width root
 
-  pub round-not-whole : (k : ℕ) → a ≡ NotWhole k → (known hints : List ℕ) (t : Trust) → Trusted c (half_of hints) t
-      → RoundIs c width root buffer len from (Is (plan.Refused k len)) buffer known hints t
+  pub round-not-whole : (k : ℕ) → a ≡ Err k → (known hints : List ℕ) (t : Trust) → Trusted c (half_of hints) t
+      → RoundIs c width root buffer len from (Break (plan.Refused k len)) buffer known hints t
   unfolding round_said plan_said round_of
   round-not-whole k e known hints t h =
       let q = not-whole (take len buffer) width w a list o k e in
       record { is = λ go. rw (q.0, q.1); follows = tt; trusted = h }
 
   -- the answer is "no": then the ask is whole and lists none
-  pub round-no : a ≡ Complete → (known hints : List ℕ) (t : Trust) → Trusted c (half_of hints) t → RoundIs c width root buffer len from (Is (plan.No len)) buffer known hints t
+  pub round-no : (x : Option ℕ) → a ≡ Ok x → x ≡ None → (known hints : List ℕ) (t : Trust) → Trusted c (half_of hints) t → RoundIs c width root buffer len from (Break (plan.No len)) buffer known hints t
   unfolding round_said plan_said round_of closing ruled
-  round-no e known hints t h =
-      let k : says_no (rmw_of (take len buffer) width w) ≡ true = rw e at o.says in
+  round-no x i e known hints t h =
+      let k : says_no (rmw_of (take len buffer) width w) ≡ true = rw (i, e) at o.says in
       let q = no-complete (take len buffer) width w k in
       record { is = λ go. sym (rw (q.all, q.none, no-is (take len buffer) width (rmw_of (take len buffer) width w) k)); follows = tt; trusted = h }
 
-  module _ (n : ℕ) (e : a ≡ Lists n) where
+  module _ (x : Option ℕ) (i : a ≡ Ok x) (n : ℕ) (e : x ≡ Some n) where
     q : (whole w ≡ true) × (n ≡ length (listed w)) × (take n list ≡ listed w) × (says_no (rmw_of (take len buffer) width w) ≡ false)
-    q = lists (take len buffer) width w a list o n e
+    q = lists (take len buffer) width w a list o n (i ∙ ap (λ (y : Option ℕ). Ok y) e)
 
     -- none is missing, and the answer is not "no"
-    pub round-yes : n ≡ 0 → (known hints : List ℕ) (t : Trust) → Trusted c (half_of hints) t → RoundIs c width root buffer len from (Is (plan.Yes len)) buffer known hints t
+    pub round-yes : n ≡ 0 → (known hints : List ℕ) (t : Trust) → Trusted c (half_of hints) t → RoundIs c width root buffer len from (Break (plan.Yes len)) buffer known hints t
     unfolding round_said plan_said round_of closing ruled
     round-yes z known hints t h =
         let y : listed w ≡ [] = none-long (listed w) (sym q.1 ∙ z) in
         record { is = λ go. sym (rw (q.0, y, complete-yes (take len buffer) width w q.0 y q.3)); follows = tt; trusted = h }
 
-    module _ (z : n ≡ 0 → ⊥) (h : is_type (take len buffer) root ≡ true) (r : Round) (after known : List ℕ)
+    module _ (z : n ≡ 0 → ⊥) (h : is_type (take len buffer) root ≡ true) (r : ControlFlow Plan ℕ) (after known : List ℕ)
         (g : AddedRound c width from (take n list) buffer len r after known) where
       some : (l : List ℕ) → n ≡ length l → (go : Ours → Decision) → closing go c width from w (ours buffer len) l ≡ next_round go (add_all c width from l (ours buffer len))
       unfolding closing
@@ -145,25 +144,25 @@ module _ (c : List ℕ) (width root : ℕ) (buffer : List ℕ) (len from : ℕ) 
 
 -- the adds of a round
 module _ (c : List ℕ) (width from : ℕ) (bs buffer : List ℕ) (len : ℕ) (d : Added) (after known : List ℕ)
-    (g : AddedIs (add_all c width from bs (ours buffer len)) c buffer len d after known) (r : Round) (f : AfterAdds d r) where
-  next : (root : ℕ) → is_type (take len buffer) root ≡ true → (r' : Round) → r ≡ r' → Follows c root r' after known
-  next root h (Again l) y =
+    (g : AddedIs (add_all c width from bs (ours buffer len)) c buffer len d after known) (r : ControlFlow Plan ℕ) (f : AfterAdds d r) where
+  next : (root : ℕ) → is_type (take len buffer) root ≡ true → (r' : ControlFlow Plan ℕ) → r ≡ r' → Follows c root r' after known
+  next root h (Continue l) y =
       let s : added_length d ≡ l = f.same l y in
       (rw s at g.ready, rw s at (g.kept.types root h))
-  next root h (Is p) y = tt
+  next root h (Break p) y = tt
 
   pub adds_are : AddedRound c width from bs buffer len r after known
   adds_are = record { is = λ go. f.is go after ∙ ap (next_round go) g.is; follows = λ root h. next root h r refl }
 
 -- ---- the rounds
 module _ (book : List ℕ) (left : ℕ) where
-  pub from_first : left ≤ 2 → 0 < left → 0 ≡ swept_from (left - 1) book
+  pub from_first : left < 2 → 0 ≡ swept_from left book
   unfolding swept_from
-  from_first h l = sym (rw (lt-ltb (left - 1) 2 (omega arith)))
+  from_first h = sym (rw (lt-ltb left 2 h))
 
-  pub from-new : 2 < left → (k : ℕ) → k ≡ blocks book → k ≡ swept_from (left - 1) book
+  pub from-new : 2 ≤ left → (k : ℕ) → k ≡ blocks book → k ≡ swept_from left book
   unfolding swept_from
-  from-new h k e = e ∙ sym (rw (le-ltb (left - 1) 2 (omega arith)))
+  from-new h k e = e ∙ sym (rw (le-ltb left 2 h))
 
   pub from-fits : ValidBook book → (k : ℕ) → k ≡ blocks book → k < 4294967296
   from-fits v k e = omega (arith, (valid-size book v).few)
@@ -194,18 +193,18 @@ module _ (o : Decision) (c : List ℕ) (width root : ℕ) (buffer : List ℕ) (a
   unfolding rounds_then plan_said
   rounds-end h = let q : left ≡ 0 = omega arith in record { is = sym (inv.rest ∙ rw q) }
 
-  module _ (l : 0 < left) (from : ℕ) (ef : from ≡ swept_from (left - 1) (take at buffer)) (r : Round) (after known' hints' : List ℕ)
+  module _ (l : 0 < left) (from : ℕ) (ef : from ≡ swept_from (left - 1) (take at buffer)) (r : ControlFlow Plan ℕ) (after known' hints' : List ℕ)
       (g : RoundIs c width root buffer at from r after known' hints' t) where
     goes : o ≡ round_said (plan_from c width root (left - 1)) r after
     unfolding rounds_then
     goes = let q : left ≡ suc (left - 1) = omega arith in inv.rest ∙ ap (λ (k : ℕ). plan_from c width root k (ours buffer at)) q ∙ rw (← ef) (sym (g.is (plan_from c width root (left - 1))))
 
-    pub rounds-again : (k : ℕ) → r ≡ Again k → RoundsTo o c width root after k known' (left - 1) hints' t
+    pub rounds-again : (k : ℕ) → r ≡ Continue k → RoundsTo o c width root after k known' (left - 1) hints' t
     unfolding round_said
     rounds-again k e =
-        let f : Follows c root (Again k) after known' = rw e at g.follows in
+        let f : Follows c root (Continue k) after known' = rw e at g.follows in
         record { rest = goes ∙ rw e; ready = f.0; holds = f.1; trusted = g.trusted }
 
-    pub rounds-is : (p : Plan) → r ≡ Is p → PlannedIs o p after
+    pub rounds-is : (p : Plan) → r ≡ Break p → PlannedIs o p after
     unfolding round_said
     rounds-is p e = record { is = sym (goes ∙ rw e) }

@@ -23,6 +23,7 @@ use plan_type_adds::mark_known;
 use resolve_missing_types::Missing;
 use resolve_read_modify_write::Rmw;
 use resolve_walk::scratch_fits;
+use std::ops::ControlFlow;
 use type_book::block;
 use type_book_check::{RootCheck, check_book, check_root, refusal_of};
 use type_index::{Trust, fill_names};
@@ -47,22 +48,6 @@ pub enum Plan {
     Refused(u8, usize),
 }
 
-// What an ask says: that nothing is missing and no type keeps state; how many blocks are listed, where some type may keep it; or that it is not
-// whole, with 9 or 8.
-#[derive(Clone, Copy)]
-enum Asked {
-    Complete,
-    Lists(usize),
-    NotWhole(u8),
-}
-
-// After a round: another one, with the length of our book, or the answer.
-#[derive(Clone, Copy)]
-enum Round {
-    Again(usize),
-    Is(Plan),
-}
-
 // ---- rounds
 
 // Whether read-modify-write answers "no": every type that the root is made of is in our book then, and none keeps state. The index of our book is
@@ -75,15 +60,10 @@ fn is_no(book: &[u8], index: &mut [u32], width: u8, root: u32, scratch: &mut [u3
     let answer = resolve_read_modify_write::requires_read_modify_write_in(
         book, index, width, root, scratch,
     );
-    match answer {
-        Rmw::Yes => false,
-        Rmw::No => true,
-        Rmw::NotFound(_) => false,
-        Rmw::Refused(_) => false,
-    }
+    matches!(answer, Rmw::No)
 }
 
-// Asks for the list of the missing types.
+// Asks for the list of the missing types: how many blocks are listed; 9 or 8 where the list is not whole.
 fn ask_lists(
     book: &[u8],
     index: &[u32],
@@ -91,7 +71,7 @@ fn ask_lists(
     root: u32,
     scratch: &mut [u32],
     list: &mut [u32],
-) -> Asked
+) -> Result<usize, u8>
     requires { ValidBook book.now × (is_type book.now root ≡ true) × (8192 ≤ length scratch.old) × (4096 ≤ length list.old) }
     ensures { ListedIs (walk_of book.now width root) result list.new }
 {
@@ -99,18 +79,19 @@ fn ask_lists(
     match missing {
         Missing::Listed(n, whole, count) => {
             if whole {
-                return Asked::Lists(n);
+                return Ok(n);
             }
             if count == 4097 {
-                return Asked::NotWhole(9);
+                return Err(9);
             }
-            Asked::NotWhole(8)
+            Err(8)
         }
-        Missing::Refused(k) => Asked::NotWhole(k),
+        Missing::Refused(k) => Err(k),
     }
 }
 
-// Asks for the missing types of the root. Read-modify-write comes first: its walk ends at the first name that our book lacks, and where it
+// Asks for the missing types of the root: how many blocks are listed, where some type may keep state; nothing where nothing is missing and no type
+// keeps any; 9 or 8 where the list is not whole. Read-modify-write comes first: its walk ends at the first name that our book lacks, and where it
 // answers "no" it is the only one.
 fn ask(
     book: &[u8],
@@ -119,24 +100,25 @@ fn ask(
     root: u32,
     scratch: &mut [u32],
     list: &mut [u32],
-) -> Asked
+) -> Result<Option<usize>, u8>
     requires { ValidBook book.now × (is_type book.now root ≡ true) × (8192 ≤ length scratch.old) × (4096 ≤ length list.old) }
     ensures { AskedIs book.now width (walk_of book.now width root) result list.new }
 {
     if is_no(book, index, width, root, scratch) {
-        return Asked::Complete;
+        return Ok(None);
     }
-    ask_lists(book, index, width, root, scratch, list)
+    let n = ask_lists(book, index, width, root, scratch, list)?;
+    Ok(Some(n))
 }
 
-// What follows from the adds of a round.
-fn after_adds(added: Added) -> Round
+// What follows from the adds of a round: another round, with the length of our book, or the answer.
+fn after_adds(added: Added) -> ControlFlow<Plan, usize>
     ensures { AfterAdds added result }
 {
     match added {
-        Added::More(l) => Round::Again(l),
-        Added::NotFound(b, l) => Round::Is(Plan::NotFound(b, l)),
-        Added::Full(l) => Round::Is(Plan::Refused(15, l)),
+        Added::More(l) => ControlFlow::Continue(l),
+        Added::NotFound(b, l) => ControlFlow::Break(Plan::NotFound(b, l)),
+        Added::Full(l) => ControlFlow::Break(Plan::Refused(15, l)),
     }
 }
 
@@ -150,7 +132,7 @@ fn add_round(
     known: &mut [u8],
     list: &[u32],
     n: usize,
-) -> Round
+) -> ControlFlow<Plan, usize>
     requires { ValidBook controller.now × Trusted controller.now (half_of index.now) by.trust × Ready controller.now buffer.old len known.old × (n ≤ length list.now) }
     ensures { AddedRound controller.now by.width by.from (take n list.now) buffer.old len result buffer.new known.new }
 {
@@ -170,7 +152,7 @@ fn one_round(
     root: u32,
     scratch: &mut [u32],
     list: &mut [u32],
-) -> Round
+) -> ControlFlow<Plan, usize>
     requires { ValidBook controller.now × Trusted controller.now (half_of index.old) by.trust × Ready controller.now buffer.old len known.old × (is_type (take len buffer.old) root ≡ true) × (8192 ≤ length scratch.old) × (4096 ≤ length list.old) }
     ensures { RoundIs controller.now by.width root buffer.old len by.from result buffer.new known.new index.new by.trust }
 {
@@ -184,24 +166,24 @@ fn one_round(
         list,
     );
     match asked {
-        Asked::Complete => Round::Is(Plan::No(len)),
-        Asked::NotWhole(k) => Round::Is(Plan::Refused(k, len)),
-        Asked::Lists(n) => {
+        Ok(None) => ControlFlow::Break(Plan::No(len)),
+        Err(k) => ControlFlow::Break(Plan::Refused(k, len)),
+        Ok(Some(n)) => {
             if n == 0 {
-                return Round::Is(Plan::Yes(len));
+                return ControlFlow::Break(Plan::Yes(len));
             }
             add_round(buffer, len, controller, index, by, known, list, n)
         }
     }
 }
 
-// The block from which the types are swept, by the rounds that are left: the first new one, so that only what is needed is added. But where
+// The block from which the types are swept, by the rounds that are left after this one: the first new one, so that only what is needed is added. But where
 // types of ours alternate with lacking ones a round finds just one more; so in the end the whole book is swept.
 fn swept_from(book: &[u8], left: u32) -> u32
-    requires { ValidBook book.now × (0 < left) }
-    ensures { result ≡ swept_from (left - 1) book.now }
+    requires { ValidBook book.now }
+    ensures { result ≡ swept_from left book.now }
 {
-    if left <= SWEEP_ALL {
+    if left < SWEEP_ALL {
         return 0;
     }
     block::blocks(book) as u32
@@ -224,22 +206,16 @@ fn plan_rounds(
 {
     let mut list = [0u32; 4096];
     let mut at = len;
-    let mut left = ROUNDS;
-    while left > 0 {
+    for left in (0..ROUNDS).rev() {
         let from = swept_from(&buffer[..at], left);
         let by = AddBy { width, from, trust };
         let here = one_round(
             buffer, at, controller, index, by, known, root, scratch, &mut list,
         );
         match here {
-            Round::Again(l) => {
-                at = l;
-            }
-            Round::Is(plan) => {
-                return plan;
-            }
+            ControlFlow::Continue(l) => at = l,
+            ControlFlow::Break(plan) => return plan,
         }
-        left -= 1;
     }
     Plan::Refused(15, at)
 }

@@ -55,11 +55,8 @@ pub fn mark_known(book: &[u8], controller: &[u8], index: &[u32], trust: Trust, k
     ensures { Knows controller.now book.now known.new }
 {
     clear_bytes(known);
-    let n = searched(book);
-    let mut i: u32 = 0;
-    while i < n {
+    for i in 0..searched(book) {
         mark_block(book, controller, index, trust, known, i);
-        i += 1;
     }
 }
 

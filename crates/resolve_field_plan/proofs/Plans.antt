@@ -4,7 +4,7 @@ use mathlib.Core.Bool.{Bool, true, false}
 use mathlib.Core.List.{List, []}
 use Prim.Native.Nat.{ℕ, suc, ◌+◌, ◌*◌, ◌-◌, ◌/◌, ◌%◌, ◌≤◌, ◌<◌}
 use native.Mathlib.Omega.{arith}
-use lib.ListN.{length, get_or, set, get_or-eq_default}
+use lib.ListN.{length, get_or, set}
 use lib.Seq.{set_out, get_or-set_same, get_or-set_other}
 use lib.Dec.{eqb, leb}
 use borrow.Author.Tests.{eqb-true, eqb-false, leb-true, leb-false}
@@ -258,9 +258,6 @@ module _ (book : List ℕ) (width f n : ℕ) (v : ValidBook book) (w : find book
 pub recent_here : (plan : List ℕ) (i n j e : ℕ) → j < i → e ≡ get_or plan j 0 → (e - 1) / 1048576 ≡ n → Recent plan i n e
 recent_here plan i n j e l q m = record { found = λ _. record { place = j; inside = l; is = q; named-is = m } }
 
-pub recent_none : (plan : List ℕ) (i n : ℕ) → Recent plan i n 0
-recent_none plan i n = record { found = λ h. absurd (h refl) }
-
 pub entry-none : (book : List ℕ) (width f : ℕ) → PlanEntry book width f 0
 entry-none book width f = record { known = λ h. absurd (h refl) }
 
@@ -269,10 +266,7 @@ entry-none book width f = record { known = λ h. absurd (h refl) }
 pub entry_of : (book : List ℕ) (width t n i : ℕ) (plan : List ℕ) (e : ℕ) → Entries book width t plan → n ≡ fields_of book t → i < n → e ≡ get_or plan i 0 → PlanEntry book width (t + 1 + i) e
 entry_of book width t n i plan e h z l q = subst (PlanEntry book width (t + 1 + i)) (sym q) (h.at i (omega arith))
 
--- past its end a list has no entry, and keeps none
-pub entry_past : (plan : List ℕ) (i : ℕ) → length plan ≤ i → 0 ≡ get_or plan i 0
-entry_past plan i h = sym (get_or-eq_default plan 0 h)
-
+-- past its end a list keeps no entry
 pub note_past : (plan : List ℕ) (i e : ℕ) → length plan ≤ i → plan ≡ set plan i e
 note_past plan i e h = sym (set_out plan i e h)
 
@@ -322,7 +316,7 @@ module _ (book : List ℕ) (width t i : ℕ) (plan : List ℕ) (h : (j : ℕ) �
       by true e true s =
           let z : j ≡ i = eqb-true j i s in
           let b : length plan ≤ j = rw z (leb-true (length plan) i e) in
-          rw (set_out plan i (plan_entry_of x) (leb-true (length plan) i e), get_or-eq_default plan 0 b) (entry-none book width (t + 1 + j))
+          rw (set_out plan i (plan_entry_of x) (leb-true (length plan) i e) plan 0 b) (entry-none book width (t + 1 + j))
       by false e true s =
           let z : j ≡ i = eqb-true j i s in
           rw (z, get_or-set_same plan i (plan_entry_of x) 0 (leb-false (length plan) i e)) (record { known = λ n. record { entry = x; is = q; packed = refl } })

@@ -15,13 +15,13 @@ pub slice_bounds-swept_from-end-in-loop-left : goal.slice_bounds-swept_from-end-
 slice_bounds-swept_from-end-in-loop-left c = search ready-cut
 
 pub swept_from-from-requires : goal.swept_from-from-requires
-swept_from-from-requires c = (search ready-book, search rules)
+swept_from-from-requires c = search ready-book
 
 pub one_round-here-requires : goal.one_round-here-requires
 one_round-here-requires c = (search rules, search rounds-trusted, search rounds-ready, search rounds-holds, search rules, search rules)
 
-pub returns-in-Is : goal.returns-in-Is
-returns-in-Is c = search exits
+pub returns-in-Break : goal.returns-in-Break
+returns-in-Break c = search exits
 
 pub loop-left-preserved : goal.loop-left-preserved
 loop-left-preserved c = (search rounds-again, search rules, search rules, search rules, search rules, search rules)

@@ -4,14 +4,11 @@ use Rattle.plan_save.proofs.plan_save.Goals as goal
 
 ruleset exits = (save_refused, save_root, root_is)
 
--- src/lib.rt:279:31
 pub plan_at-requires : goal.plan_at-requires
 plan_at-requires c = search (save_checked, root_is)
 
--- src/lib.rt:265:1
 pub returns-in-Root : goal.returns-in-Root
 returns-in-Root c = search exits
 
--- src/lib.rt:265:1
 pub returns-in-Refused : goal.returns-in-Refused
 returns-in-Refused c = search exits

@@ -1,5 +1,4 @@
 use borrow.Author.Rules.{rules}
-use Prim.Native.Nat.{◌-◌}
 use Rattle.resolve_field_plan.proofs.Plans.{typed-small, named_small, planning_start, planning_end, planning_lacks, planning_endless, planning_again, planning_earlier, field-first, field-number}
 use Rattle.resolve_field_plan.proofs.plan_fields_in.Goals as goal
 

@@ -1,6 +1,4 @@
 -- `check_first` meets its contract. The loop keeps: the first refusal of all is that of the fields left. Assumes nothing.
-use borrow.Author.Rules.{rules}
-use Prim.Native.Nat.{◌-◌}
 use Rattle.resolve_field_types.proofs.Fields.{first-start, first-end, first-lacks, first-endless, first-again, field-first, field-number}
 use Rattle.resolve_field_types.proofs.check_first.Goals as goal
 

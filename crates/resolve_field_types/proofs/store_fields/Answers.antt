@@ -1,6 +1,5 @@
 -- `store_fields` meets its contract. The loop keeps: the records left, stored from here, give the whole, and no field left is refused. Assumes nothing.
 use borrow.Author.Rules.{rules}
-use Prim.Native.Nat.{◌-◌}
 use Rattle.resolve_field_types.proofs.Fields.{field-first, field-number}
 use Rattle.resolve_field_types.proofs.Records.{store-start, store-end, store-room, store-again, store-refused}
 use Rattle.resolve_field_types.proofs.store_fields.Goals as goal
