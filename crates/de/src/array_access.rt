@@ -126,15 +126,13 @@ pub(crate) fn elements(
     let mut here = put_frame(s, tape, text, ARRAY, p.named, n as u64);
     let stride = stride_of(n, bytes.len());
     let mut from: usize = 0;
-    let mut i: usize = 0;
-    while i < n {
+    for _ in 0..n {
         let Step::Next(_, _) = here else {
             return here;
         };
         let to = from + stride;
         here = element(here, book, index, p, plan, &bytes[from..to], tape, text);
         from = to;
-        i += 1;
     }
     put_frame(here, tape, text, ARRAY_END, 0, 0)
 }
@@ -169,10 +167,8 @@ pub(crate) fn element(
     let next = Place {
         named: p.t,
         d: p.d + 1,
-        t: p.t,
-        element: typed,
-        width: p.width,
         left: p.left - 1,
+        ..p
     };
     dimension(s, book, index, next, bytes, tape, text)
 }

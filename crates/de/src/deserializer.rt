@@ -1,5 +1,5 @@
 // The value of a type in some bytes.
-ghost use Rattle.std.specs.Prelude.{◌≡◌, true};
+ghost use Rattle.std.specs.Prelude.{◌≡◌, ◌≤◌, true};
 ghost use Rattle.type_book_check.specs.Check.{ValidBook};
 ghost use Rattle.type_book.specs.Book.{is_type};
 ghost use Rattle.type_category.specs.Category.{category_of};
@@ -43,9 +43,8 @@ pub(crate) fn value(
     let category = typed.category;
     let form = shape_of(category);
     let inside = Reading {
-        typed,
-        width: v.width,
         left: v.left - 1,
+        ..v
     };
     match form {
         Shape::Map => map(s, book, index, inside, plan, bytes, tape, text),
@@ -102,25 +101,14 @@ pub fn read_in(
 // The blocks of a book up to which the small index serves: half of its slots stay empty then, whatever the blocks are.
 const SMALL_BOOK: usize = 8192;
 
-// `read_in` with an index on the stack, for a book of at most SMALL_BOOK blocks.
-fn read_small(
-    book: &[u8],
-    width: u8,
-    root: u32,
-    memory: &[u8],
-    tape: &mut [u8],
-    text: &mut [u8],
-) -> ReadAnswer
-    requires { ValidBook book.now × (is_type book.now root ≡ true) }
-    ensures { ReadIs (root_trace (ctx book.now width) root memory.now) tape.old text.old result tape.new text.new }
-{
-    let mut index = [0u32; 16384];
-    type_index::fill_names(book, &mut index);
-    read_in(book, &index, width, root, memory, tape, text)
-}
+// Two slots for each block of a small book.
+const SMALL_INDEX: usize = 16384;
 
-// The same for a longer book: two slots for each of the 65,536 blocks that a book may have, so that no type goes without one.
-fn read_large(
+// Two slots for each of the 65,536 blocks that a book may have, so that no type goes without one.
+const LARGE_INDEX: usize = 131072;
+
+// `read_in` with an index of N slots on the stack.
+fn read_sized<const N: usize>(
     book: &[u8],
     width: u8,
     root: u32,
@@ -128,10 +116,10 @@ fn read_large(
     tape: &mut [u8],
     text: &mut [u8],
 ) -> ReadAnswer
-    requires { ValidBook book.now × (is_type book.now root ≡ true) }
+    requires { ValidBook book.now × (is_type book.now root ≡ true) × (N ≤ 131072) }
     ensures { ReadIs (root_trace (ctx book.now width) root memory.now) tape.old text.old result tape.new text.new }
 {
-    let mut index = [0u32; 131072];
+    let mut index = [0u32; N];
     type_index::fill_names(book, &mut index);
     read_in(book, &index, width, root, memory, tape, text)
 }
@@ -149,9 +137,9 @@ fn read_indexed(
     ensures { ReadIs (root_trace (ctx book.now width) root memory.now) tape.old text.old result tape.new text.new }
 {
     if type_book::block::blocks(book) <= SMALL_BOOK {
-        return read_small(book, width, root, memory, tape, text);
+        return read_sized::<SMALL_INDEX>(book, width, root, memory, tape, text);
     }
-    read_large(book, width, root, memory, tape, text)
+    read_sized::<LARGE_INDEX>(book, width, root, memory, tape, text)
 }
 
 // The memory by the type at block `root` of the book in the first `len` bytes of the buffer.

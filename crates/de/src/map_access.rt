@@ -68,8 +68,7 @@ pub(crate) fn members(
     let t = v.typed.resolved;
     let n = type_book::block::fields(book, t);
     let mut here = put_frame(s, tape, text, MAP, v.typed.named, n as u64);
-    let mut i: u32 = 0;
-    while i < n {
+    for i in 0..n {
         let Step::Next(_, _) = here else {
             return here;
         };
@@ -80,7 +79,6 @@ pub(crate) fn members(
             left: v.left,
         };
         here = member(here, book, index, m, bytes, tape, text);
-        i += 1;
     }
     put_frame(here, tape, text, MAP_END, 0, 0)
 }

@@ -27,25 +27,6 @@ use Rattle.de_leaf_output.specs.declared.LeafForm.{LeafForm}
 use Rattle.de_leaf_output.specs.declared.LeafForm.TheVariants as form
 use Rattle.de_leaf_output.specs.Leaves.{ends_at, end_byte, form_of, trace_of}
 
-pub form_known : {v : LeafValue} {f : LeafForm} (u : LeafValue) → v ≡ u → f ≡ form_of u → f ≡ form_of v
-form_known u e q = rw e q
-
--- a record that was made is the one of the form
-pub form_record : {v : LeafValue} (r : Record) (u : LeafValue) (k w a b : ℕ) → v ≡ u → r ≡ new_record k w a b → form.Record (new_record k w a b) ≡ form_of u → form.Record r ≡ form_of v
-form_record r u k w a b e q h = rw (e, q) h
-
-pub form_bool : {v : LeafValue} (r : Record) (b : Bool) (n : ℕ) → v ≡ leaf.Bool b → n ≡ cond b 1 0 → r ≡ new_record 6 0 0 n → form.Record r ≡ form_of v
-form_bool r b n e q h = rw (e, h, q)
-
-pub form_single : {v : LeafValue} (r : Record) (x : Float) (n : ℕ) → v ≡ leaf.Single x → n ≡ real_bits (real.Single x) → r ≡ new_record 9 0 0 n → form.Record r ≡ form_of v
-form_single r x n e q h = rw (e, h, q)
-
-pub form_double : {v : LeafValue} (r : Record) (x : Float) (n : ℕ) → v ≡ leaf.Double x → n ≡ real_bits (real.Double x) → r ≡ new_record 10 0 0 n → form.Record r ≡ form_of v
-form_double r x n e q h = rw (e, h, q)
-
-pub form_text : {v : LeafValue} (d : Decoder) (t : TextEnd) (w n : ℕ) → v ≡ leaf.Text d t → w ≡ end_byte t → n ≡ ends_at t → form.Text w d n ≡ form_of v
-form_text d t w n e b q = rw (e, b, q)
-
 module _ (m : ℕ) (mem : List ℕ) {tape txt : List ℕ} {s r : Step} (v : LeafValue) (f : LeafForm) (q : f ≡ form_of v) where
   pub leaf-record : {tape' txt' : List ℕ} (x y : Record) → f ≡ form.Record x → y ≡ declaring m x → From (one (rec y)) tape txt s r tape' txt' → From (trace_of m v mem) tape txt s r tape' txt'
   leaf-record x y e d h = rw (← q, e, ← d) h
@@ -59,11 +40,3 @@ module _ (m : ℕ) (mem : List ℕ) {tape txt : List ℕ} {s r : Step} (v : Leaf
 -- the value of type t, by a category that is its own
 pub leaf-at : (book : List ℕ) (width n t : ℕ) (mem : List ℕ) {tape tape' txt txt' : List ℕ} {s r : Step} (v : LeafValue) (y : AdsTypeCategory) → y ≡ category_of book width t → v ≡ leaf_by book width t y mem → From (trace_of n v mem) tape txt s r tape' txt' → From (trace_of n (leaf_at book width t mem) mem) tape txt s r tape' txt'
 leaf-at book width n t mem v y k e h = rw (← leaf-own book width t mem y v k e) h
-
--- ---- the first bytes
-
-pub first_part : (s : List ℕ) (n : ℕ) → n ≤ length s → take (n - 0) (drop 0 s) ≡ take n s
-first_part s n h = let e : n - 0 ≡ n = omega arith in rw e
-
-pub first-all : (s : List ℕ) (n : ℕ) → length s < n → s ≡ take n s
-first-all s n h = sym (take_all n s (omega arith))

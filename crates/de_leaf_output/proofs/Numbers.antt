@@ -163,9 +163,6 @@ module _ (name : List ℕ) where
     ltod = differs name (ascii_bytes "LTOD") b.lt;
   })
 
-  pub may_count : Uncounted name true
-  may_count = record { none = λ e. absurd (let z : ◌≡◌ {A = ℕ} 0 1 = cc in omega arith) }
-
   pub count-short : length name < 2 → Uncounted name false
   count-short h =
       let z : get_or name 1 0 ≡ 0 = get_or-eq_default name 0 (omega arith) in

@@ -30,29 +30,21 @@ pub struct Typed {
 fn first(bytes: &[u8], n: usize) -> &[u8]
     ensures { result.now ≡ take n bytes.now }
 {
-    if n <= bytes.len() {
-        return &bytes[0..n];
-    }
-    bytes
+    &bytes[..n.min(bytes.len())]
 }
 
 pub(crate) fn bit(b: bool) -> u64
     ensures { result ≡ cond b 1 0 }
 {
-    if b {
-        return 1;
-    }
-    0
+    u64::from(b)
 }
 
 // The number of bytes before a text's end, whether or not a terminator was found.
 fn before(end: TextEnd) -> usize
     ensures { result ≡ ends_at end }
 {
-    match end {
-        TextEnd::Terminated(n) => n,
-        TextEnd::Unterminated(n) => n,
-    }
+    let (TextEnd::Terminated(n) | TextEnd::Unterminated(n)) = end;
+    n
 }
 
 // Byte 1 of a text's record: 1 if a terminator was found, else 0.

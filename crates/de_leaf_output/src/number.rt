@@ -39,24 +39,10 @@ fn whole(x: u64) -> u64
 fn is_number(category: AdsTypeCategory) -> bool
     ensures { result ≡ is_number (kind_of_leaf category) }
 {
-    match category {
-        AdsTypeCategory::None => false,
-        AdsTypeCategory::Primitive => true,
-        AdsTypeCategory::Alias => false,
-        AdsTypeCategory::Enum => false,
-        AdsTypeCategory::Array => false,
-        AdsTypeCategory::Struct => false,
-        AdsTypeCategory::FunctionBlock => false,
-        AdsTypeCategory::Program => false,
-        AdsTypeCategory::Function => false,
-        AdsTypeCategory::SubRange => true,
-        AdsTypeCategory::String => false,
-        AdsTypeCategory::Bitset => true,
-        AdsTypeCategory::Pointer => false,
-        AdsTypeCategory::Union => false,
-        AdsTypeCategory::Reference => false,
-        AdsTypeCategory::Interface => false,
-    }
+    matches!(
+        category,
+        AdsTypeCategory::Primitive | AdsTypeCategory::SubRange | AdsTypeCategory::Bitset
+    )
 }
 
 // Whether the first two bytes of a name are those of a type that counts time: then the whole name must be compared.
@@ -66,27 +52,12 @@ fn may_count(name: &[u8]) -> bool
     if name.len() < 2 {
         return false;
     }
-    let a = name[0];
-    let b = name[1];
-    if a == b'T' {
-        if b == b'I' {
-            return true;
-        }
-        return b == b'O';
+    match name[0] {
+        b'T' => name[1] == b'I' || name[1] == b'O',
+        b'D' => name[1] == b'A' || name[1] == b'T',
+        b'L' => name[1] == b'D' || name[1] == b'T',
+        _ => false,
     }
-    if a == b'D' {
-        if b == b'A' {
-            return true;
-        }
-        return b == b'T';
-    }
-    if a == b'L' {
-        if b == b'D' {
-            return true;
-        }
-        return b == b'T';
-    }
-    false
 }
 
 fn integer_record(read: IntegerRead) -> Record
@@ -97,8 +68,7 @@ fn integer_record(read: IntegerRead) -> Record
             Integer::Signed(w, b) => Record::new(SIGNED, w, 0, b),
             Integer::Unsigned(w, n) => Record::new(UNSIGNED, w, 0, n),
         },
-        IntegerRead::Size => no_record(),
-        IntegerRead::Unsupported => no_record(),
+        _ => no_record(),
     }
 }
 
@@ -162,11 +132,7 @@ fn by_id(book: &[u8], t: u32, bytes: &[u8]) -> Record
 pub fn number_record(book: &[u8], typed: Typed, bytes: &[u8]) -> Record
     ensures { NumberRecordIs book.now typed bytes.now result }
 {
-    let category = typed.category;
-    if is_number(category) {
-        if may_count(block::name(book, typed.resolved)) {
-            return no_record();
-        }
+    if is_number(typed.category) && !may_count(block::name(book, typed.resolved)) {
         return by_id(book, typed.resolved, bytes).declaring(typed.named);
     }
     no_record()

@@ -1,5 +1,5 @@
 -- The test of an element's fields, by the dimension and the element's shape. Assumes nothing.
-use mathlib.Core.Path.{◌≡◌, ap, ◌∙◌}
+use mathlib.Core.Path.{◌≡◌, refl, ap, ◌∙◌}
 use mathlib.Core.Bool.{Bool, true, false}
 use mathlib.Core.List.{List}
 use Prim.Native.Nat.{ℕ}
@@ -30,18 +30,19 @@ module _ (book : List ℕ) (width d t e : ℕ) (b : Bool) (q : b ≡ is_last boo
     unfolding element_check shape_check element_plan shape_plan
     check-map z r before x = record { is = rw (← q, h, ← s, z) (check-is _ _ x.is); plan = rw (← q, h, ← s, z) x.plan; entries = λ f l m. x.entries f }
 
-    pub check-array : k ≡ shape.Array → ElementChecked book width d t e plan check.Fine plan
+    pub check-other : (k ≡ shape.Map → ⊥) → ElementChecked book width d t e plan check.Fine plan
     unfolding element_check shape_check element_plan shape_plan
-    check-array z = record {
-      is = rw (← q, h, ← s, z);
-      plan = rw (← q, h, ← s, z);
-      entries = λ f l m. absurd (let o : k ≡ shape.Map = s ∙ m in let w : ◌≡◌ {A = ℕ} 0 1 = cc in omega arith);
-    }
-
-    pub check-leaf : k ≡ shape.Leaf → ElementChecked book width d t e plan check.Fine plan
-    unfolding element_check shape_check element_plan shape_plan
-    check-leaf z = record {
-      is = rw (← q, h, ← s, z);
-      plan = rw (← q, h, ← s, z);
-      entries = λ f l m. absurd (let o : k ≡ shape.Map = s ∙ m in let w : ◌≡◌ {A = ℕ} 0 1 = cc in omega arith);
-    }
+    check-other n = by k refl
+      where
+        by : (j : Shape) → k ≡ j → ElementChecked book width d t e plan check.Fine plan
+        by shape.Map z = absurd (n z)
+        by shape.Array z = record {
+          is = rw (← q, h, ← s, z);
+          plan = rw (← q, h, ← s, z);
+          entries = λ f l m. absurd (n (s ∙ m));
+        }
+        by shape.Leaf z = record {
+          is = rw (← q, h, ← s, z);
+          plan = rw (← q, h, ← s, z);
+          entries = λ f l m. absurd (n (s ∙ m));
+        }

@@ -28,13 +28,10 @@ pub fn element_check(
     ensures { ElementChecked book.now width d t e plan.old result plan.new }
 {
     if is_last(book, d, t) {
-        let form = shape_of(category);
-        match form {
+        return match shape_of(category) {
             Shape::Map => resolve_field_plan::plan_fields_in(book, index, width, e, plan),
-            Shape::Array => FieldsCheck::Fine,
-            Shape::Leaf => FieldsCheck::Fine,
-        }
-    } else {
-        FieldsCheck::Fine
+            _ => FieldsCheck::Fine,
+        };
     }
+    FieldsCheck::Fine
 }

@@ -67,23 +67,23 @@ array_access::element-dimension-requires t c = (search rules, (search rules, sea
 pub array_access::element-returns : goal.array_access::element-returns
 array_access::element-returns t c = search element-further
 
-pub array_access::elements-loop-i-init : goal.array_access::elements-loop-i-init
-array_access::elements-loop-i-init t c = (search rules, search along-start, search rules, search rules, search elements-start)
+pub array_access::elements-loop-init : goal.array_access::elements-loop-init
+array_access::elements-loop-init t c = (search along-start, search rules, search rules, search elements-start)
 
 pub array_access::elements-returns-in_default : goal.array_access::elements-returns-in_default
 array_access::elements-returns-in_default t c = search elements-stop
 
 pub array_access::elements-overflow_add-to : goal.array_access::elements-overflow_add-to
-array_access::elements-overflow_add-to t c = along-fits _ _ _ _ _ _ _ _ _ (search rules) c.loop-i.invariant.1 (search rules)
+array_access::elements-overflow_add-to t c = along-fits _ _ _ _ _ _ _ _ _ (search rules) c.loop.invariant.0 (search rules)
 
 pub array_access::elements-slice_bounds-element-end : goal.array_access::elements-slice_bounds-element-end
-array_access::elements-slice_bounds-element-end t c = along-end _ _ _ _ _ _ _ _ _ (search rules) c.loop-i.invariant.1
+array_access::elements-slice_bounds-element-end t c = along-end _ _ _ _ _ _ _ _ _ (search rules) c.loop.invariant.0
 
 pub array_access::elements-element-here-requires : goal.array_access::elements-element-here-requires
 array_access::elements-element-here-requires t c = (search rules, (search rules, search rules, search rules, search rules, search element-fills))
 
-pub array_access::elements-loop-i-preserved : goal.array_access::elements-loop-i-preserved
-array_access::elements-loop-i-preserved t c = (search rules, search along-again, search rules, search rules, search elements-again)
+pub array_access::elements-loop-preserved : goal.array_access::elements-loop-preserved
+array_access::elements-loop-preserved t c = (search along-again, search rules, search rules, search elements-again)
 
 pub array_access::elements-returns : goal.array_access::elements-returns
 array_access::elements-returns t c = search elements-end
@@ -149,7 +149,7 @@ pub map_access::member-returns : goal.map_access::member-returns
 map_access::member-returns t c = search member-field
 
 pub map_access::members-loop-i-init : goal.map_access::members-loop-i-init
-map_access::members-loop-i-init t c = (search rules, search rules, search rules, search members-start)
+map_access::members-loop-i-init t c = (search rules, search rules, search members-start)
 
 pub map_access::members-returns-in_default : goal.map_access::members-returns-in_default
 map_access::members-returns-in_default t c = search members-stop
@@ -164,7 +164,7 @@ pub map_access::members-member-here-requires : goal.map_access::members-member-h
 map_access::members-member-here-requires t c = (search rules, (search rules, search entry_of))
 
 pub map_access::members-loop-i-preserved : goal.map_access::members-loop-i-preserved
-map_access::members-loop-i-preserved t c = (search rules, search rules, search rules, search members-again)
+map_access::members-loop-i-preserved t c = (search rules, search rules, search members-again)
 
 pub map_access::members-returns : goal.map_access::members-returns
 map_access::members-returns t c = search members-end

@@ -1,8 +1,5 @@
-use Rattle.de_leaf_output.proofs.Leaves.{first_part, first-all}
+use Rattle.std.proofs.lemmas.List.{take_min}
 use Rattle.de_leaf_output.proofs.first.Goals as goal
 
-pub returns-then-n-bytes : goal.returns-then-n-bytes
-returns-then-n-bytes c = search first_part
-
 pub returns : goal.returns
-returns c = search first-all
+returns c = rw c.min.ensures (take_min c.args.n c.args.bytes.now)

@@ -42,7 +42,7 @@ pub array_writer::dimension-returns-in-Stop : goal.array_writer::dimension-retur
 array_writer::dimension-returns-in-Stop t c = search dimensions
 
 pub array_writer::each_element-loop-i-init : goal.array_writer::each_element-loop-i-init
-array_writer::each_element-loop-i-init t c = (search rules, search along-start, search rules, search elements-start)
+array_writer::each_element-loop-i-init t c = (search along-start, search rules, search elements-start)
 
 pub array_writer::each_element-returns-in_default : goal.array_writer::each_element-returns-in_default
 array_writer::each_element-returns-in_default t c = search elements-exits
@@ -51,22 +51,22 @@ pub array_writer::each_element-returns-then-q-i : goal.array_writer::each_elemen
 array_writer::each_element-returns-then-q-i t c = search elements-exits
 
 pub array_writer::each_element-overflow_add-to : goal.array_writer::each_element-overflow_add-to
-array_writer::each_element-overflow_add-to t c = along-fits _ _ _ _ _ _ _ _ _ (search rules) c.loop-i.invariant.1 (search rules)
+array_writer::each_element-overflow_add-to t c = along-fits _ _ _ _ _ _ _ _ _ (search rules) c.loop-i.invariant.0 (search rules)
 
 pub array_writer::each_element-slice_bounds-part-end : goal.array_writer::each_element-slice_bounds-part-end
-array_writer::each_element-slice_bounds-part-end t c = part_end _ _ _ _ _ _ _ _ _ _ (search rules) c.loop-i.invariant.2 c.loop-i.invariant.1
+array_writer::each_element-slice_bounds-part-end t c = part_end _ _ _ _ _ _ _ _ _ _ (search rules) c.loop-i.invariant.1 c.loop-i.invariant.0
 
 pub array_writer::each_element-element-here-requires : goal.array_writer::each_element-element-here-requires
 array_writer::each_element-element-here-requires t c = (search rules, (search rules, search rules, search rules, search rules, search rules, search rules, search part-fills))
 
 pub array_writer::each_element-loop-i-preserved : goal.array_writer::each_element-loop-i-preserved
-array_writer::each_element-loop-i-preserved t c = (search rules, search along-again, search rules, search elements-again)
+array_writer::each_element-loop-i-preserved t c = (search along-again, search rules, search elements-again)
 
 pub array_writer::each_element-returns-in_default-here : goal.array_writer::each_element-returns-in_default-here
 array_writer::each_element-returns-in_default-here t c = search elements-exits
 
-pub array_writer::each_element-returns-then-i-q : goal.array_writer::each_element-returns-then-i-q
-array_writer::each_element-returns-then-i-q t c = search elements-exits
+pub array_writer::each_element-returns-then-q : goal.array_writer::each_element-returns-then-q
+array_writer::each_element-returns-then-q t c = search elements-exits
 
 pub array_writer::each_element-returns : goal.array_writer::each_element-returns
 array_writer::each_element-returns t c = search elements-exits
@@ -92,8 +92,8 @@ array_writer::element-returns t c = let p = c.requires in search (element-furthe
 pub array_writer::elements-each_element-requires : goal.array_writer::elements-each_element-requires
 array_writer::elements-each_element-requires t c = (search rules, (search rules, search rules, search rules, search rules, search rules, search element-none, search firsts_empty, search rules))
 
-pub map_writer::each_key-loop-i-init : goal.map_writer::each_key-loop-i-init
-map_writer::each_key-loop-i-init t c = (search rules, search keys-start)
+pub map_writer::each_key-loop-init : goal.map_writer::each_key-loop-init
+map_writer::each_key-loop-init t c = (search rules, search keys-start)
 
 pub map_writer::each_key-returns-in_default : goal.map_writer::each_key-returns-in_default
 map_writer::each_key-returns-in_default t c = search keys-exits
@@ -101,8 +101,8 @@ map_writer::each_key-returns-in_default t c = search keys-exits
 pub map_writer::each_key-keyed_value-here-requires : goal.map_writer::each_key-keyed_value-here-requires
 map_writer::each_key-keyed_value-here-requires t c = (search rules, search key-all)
 
-pub map_writer::each_key-loop-i-preserved : goal.map_writer::each_key-loop-i-preserved
-map_writer::each_key-loop-i-preserved t c = (search rules, search keys-turn)
+pub map_writer::each_key-loop-preserved : goal.map_writer::each_key-loop-preserved
+map_writer::each_key-loop-preserved t c = (search rules, search keys-turn)
 
 pub map_writer::each_key-returns-in_default-here : goal.map_writer::each_key-returns-in_default-here
 map_writer::each_key-returns-in_default-here t c = search keys-exits

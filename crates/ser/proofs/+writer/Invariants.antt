@@ -1,7 +1,7 @@
 -- The levels left fall from a value to the values in it. At one level each function counts as more than those that it calls.
 -- A loop over keys or elements keeps the length of the bytes, and what is still to be written then gives what the whole gives.
 use mathlib.Core.Path.{◌≡◌}
-use Prim.Native.Nat.{◌+◌, ◌*◌, ◌-◌, ◌≤◌}
+use Prim.Native.Nat.{◌+◌, ◌*◌, ◌-◌}
 use lib.ListN.{length}
 use Rattle.ser.specs.Write.{write_ctx, outcome_of, ◌then_writes◌, write_walk, keys_from, elements_write, element_written}
 use Rattle.tape_shape.proofs.Strides.{Along}
@@ -42,13 +42,7 @@ abbrev pub decreases-serializer::value : goal.decreases-serializer::value
 decreases-serializer::value l = 8 * l.v.left
 
 abbrev pub invariant-array_writer::each_element-loop-i : goal.invariant-array_writer::each_element-loop-i
-invariant-array_writer::each_element-loop-i l = (l.i ≤ l.q.n) × Along l.book l.q.d l.q.t l.q.e l.q.n l.stride l.from l.i (length l.initial.out) × (length l.out ≡ length l.initial.out) × ((outcome_of l.here l.out then_writes elements_write (write_walk (write_ctx l.book l.q.width l.tape l.text) l.q.left) (write_ctx l.book l.q.width l.tape l.text) (element_written (write_ctx l.book l.q.width l.tape l.text) l.q.d l.q.t l.q.e) (stride_of l.book l.q.d l.q.t l.q.e) l.q.n l.i l.from (l.q.k - l.i)) ≡ (outcome_of l.initial.here l.initial.out then_writes elements_write (write_walk (write_ctx l.book l.q.width l.tape l.text) l.q.left) (write_ctx l.book l.q.width l.tape l.text) (element_written (write_ctx l.book l.q.width l.tape l.text) l.q.d l.q.t l.q.e) (stride_of l.book l.q.d l.q.t l.q.e) l.q.n 0 0 l.q.k))
+invariant-array_writer::each_element-loop-i l = Along l.book l.q.d l.q.t l.q.e l.q.n l.stride l.from l.i (length l.initial.out) × (length l.out ≡ length l.initial.out) × ((outcome_of l.here l.out then_writes elements_write (write_walk (write_ctx l.book l.q.width l.tape l.text) l.q.left) (write_ctx l.book l.q.width l.tape l.text) (element_written (write_ctx l.book l.q.width l.tape l.text) l.q.d l.q.t l.q.e) (stride_of l.book l.q.d l.q.t l.q.e) l.q.n l.i l.from (l.q.k - l.i)) ≡ (outcome_of l.initial.here l.initial.out then_writes elements_write (write_walk (write_ctx l.book l.q.width l.tape l.text) l.q.left) (write_ctx l.book l.q.width l.tape l.text) (element_written (write_ctx l.book l.q.width l.tape l.text) l.q.d l.q.t l.q.e) (stride_of l.book l.q.d l.q.t l.q.e) l.q.n 0 0 l.q.k))
 
-abbrev pub decreases-array_writer::each_element-loop-i : goal.decreases-array_writer::each_element-loop-i
-decreases-array_writer::each_element-loop-i l = l.q.k - l.i
-
-abbrev pub invariant-map_writer::each_key-loop-i : goal.invariant-map_writer::each_key-loop-i
-invariant-map_writer::each_key-loop-i l = (length l.out ≡ length l.initial.out) × ((outcome_of l.here l.out then_writes keys_from (write_walk (write_ctx l.book l.m.width l.tape l.text) l.m.left) (write_ctx l.book l.m.width l.tape l.text) l.m.t (l.m.n - l.i)) ≡ (outcome_of l.initial.here l.initial.out then_writes keys_from (write_walk (write_ctx l.book l.m.width l.tape l.text) l.m.left) (write_ctx l.book l.m.width l.tape l.text) l.m.t l.m.n))
-
-abbrev pub decreases-map_writer::each_key-loop-i : goal.decreases-map_writer::each_key-loop-i
-decreases-map_writer::each_key-loop-i l = l.m.n - l.i
+abbrev pub invariant-map_writer::each_key-loop : goal.invariant-map_writer::each_key-loop
+invariant-map_writer::each_key-loop l = (length l.out ≡ length l.initial.out) × ((outcome_of l.here l.out then_writes keys_from (write_walk (write_ctx l.book l.m.width l.tape l.text) l.m.left) (write_ctx l.book l.m.width l.tape l.text) l.m.t (l.m.n - l.counter)) ≡ (outcome_of l.initial.here l.initial.out then_writes keys_from (write_walk (write_ctx l.book l.m.width l.tape l.text) l.m.left) (write_ctx l.book l.m.width l.tape l.text) l.m.t l.m.n))

@@ -1,17 +1,23 @@
+use native.Mathlib.Omega.{arith}
 use Rattle.ser_leaf.proofs.Leaves.{count-signed, count-unsigned, count-below, count-above, count-other}
 use Rattle.ser_leaf.proofs.count_leaf.Goals as goal
 
-pub returns-then-kind-eq-SIGNED : goal.returns-then-kind-eq-SIGNED
-returns-then-kind-eq-SIGNED c = search (count-signed, count-unsigned, count-below, count-above, count-other)
+ruleset exits = (count-signed, count-unsigned, count-below, count-above, count-other)
 
-pub returns-then-kind-eq-UNSIGNED : goal.returns-then-kind-eq-UNSIGNED
-returns-then-kind-eq-UNSIGNED c = search (count-signed, count-unsigned, count-below, count-above, count-other)
+pub returns-in-7 : goal.returns-in-7
+returns-in-7 c = search exits
 
-pub returns-then-kind-lt-BOOL : goal.returns-then-kind-lt-BOOL
-returns-then-kind-lt-BOOL c = search (count-signed, count-unsigned, count-below, count-above, count-other)
+pub returns-in-8 : goal.returns-in-8
+returns-in-8 c = search exits
 
-pub returns-then-kind-gt-UNIT : goal.returns-then-kind-gt-UNIT
-returns-then-kind-gt-UNIT c = search (count-signed, count-unsigned, count-below, count-above, count-other)
+pub returns-in-6-to-13 : goal.returns-in-6-to-13
+returns-in-6-to-13 c = count-other c.args.width c.args.r c.args.out.now (λ e. omega arith) (λ e. omega arith) (omega arith) (omega arith)
 
-pub returns : goal.returns
-returns c = search (count-signed, count-unsigned, count-below, count-above, count-other)
+pub returns-in-6-to-13-2 : goal.returns-in-6-to-13-2
+returns-in-6-to-13-2 c = count-other c.args.width c.args.r c.args.out.now (λ e. omega arith) (λ e. omega arith) (omega arith) (omega arith)
+
+pub returns-in_default : goal.returns-in_default
+returns-in_default c = count-below c.args.width c.args.r c.args.out.now (λ e. omega arith) (λ e. omega arith) (omega arith)
+
+pub returns-in_default-2 : goal.returns-in_default-2
+returns-in_default-2 c = count-above c.args.width c.args.r c.args.out.now (λ e. omega arith) (λ e. omega arith) (omega arith) (omega arith)

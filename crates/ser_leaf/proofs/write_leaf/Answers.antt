@@ -1,32 +1,34 @@
 use Rattle.ser_leaf.proofs.Leaves.{write_count, write_bool, write_signed, write_unsigned, write_single, write_double, write_text, write_entry, write_unit, write_none}
 use Rattle.ser_leaf.proofs.write_leaf.Goals as goal
 
+ruleset exits = (write_count, write_bool, write_signed, write_unsigned, write_single, write_double, write_text, write_entry, write_unit, write_none)
+
 pub returns-then-count-ne0 : goal.returns-then-count-ne0
-returns-then-count-ne0 c = search write_count
+returns-then-count-ne0 c = search exits
 
-pub returns-then-kind-eq-BOOL : goal.returns-then-kind-eq-BOOL
-returns-then-kind-eq-BOOL c = search write_bool
+pub returns-in-6 : goal.returns-in-6
+returns-in-6 c = search exits
 
-pub returns-then-kind-eq-SIGNED : goal.returns-then-kind-eq-SIGNED
-returns-then-kind-eq-SIGNED c = search write_signed
+pub returns-in-7 : goal.returns-in-7
+returns-in-7 c = search exits
 
-pub returns-then-kind-eq-UNSIGNED : goal.returns-then-kind-eq-UNSIGNED
-returns-then-kind-eq-UNSIGNED c = search write_unsigned
+pub returns-in-8 : goal.returns-in-8
+returns-in-8 c = search exits
 
-pub returns-then-kind-eq-REAL32 : goal.returns-then-kind-eq-REAL32
-returns-then-kind-eq-REAL32 c = search write_single
+pub returns-in-9 : goal.returns-in-9
+returns-in-9 c = search exits
 
-pub returns-then-kind-eq-REAL64 : goal.returns-then-kind-eq-REAL64
-returns-then-kind-eq-REAL64 c = search write_double
+pub returns-in-10 : goal.returns-in-10
+returns-in-10 c = search exits
 
-pub returns-then-kind-eq-TEXT : goal.returns-then-kind-eq-TEXT
-returns-then-kind-eq-TEXT c = search write_text
+pub returns-in-11 : goal.returns-in-11
+returns-in-11 c = search exits
 
-pub returns-then-kind-eq-ENUM : goal.returns-then-kind-eq-ENUM
-returns-then-kind-eq-ENUM c = search write_entry
+pub returns-in-12 : goal.returns-in-12
+returns-in-12 c = search exits
 
-pub returns-then-kind-eq-UNIT : goal.returns-then-kind-eq-UNIT
-returns-then-kind-eq-UNIT c = search write_unit
+pub returns-in-13 : goal.returns-in-13
+returns-in-13 c = search exits
 
-pub returns : goal.returns
-returns c = search write_none
+pub returns-in_default : goal.returns-in_default
+returns-in_default c = search exits

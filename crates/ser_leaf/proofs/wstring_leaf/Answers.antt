@@ -1,13 +1,6 @@
-use Rattle.ser_leaf.proofs.Leaves.{padded-short, padded-full, padded-done}
+use Rattle.std.proofs.Common.{rules}
+use Rattle.enc_utf_16.specs.Encode as utf16
 use Rattle.ser_leaf.proofs.wstring_leaf.Goals as goal
 
-ruleset exits = (padded-short, padded-full, padded-done)
-
-pub returns-then-out-lt2 : goal.returns-then-out-lt2
-returns-then-out-lt2 c = search exits
-
-pub returns-in-Next : goal.returns-in-Next
-returns-in-Next c = search exits
-
-pub returns-in-Full : goal.returns-in-Full
-returns-in-Full c = search exits
+pub returns : goal.returns
+returns c = c.padded_leaf.ensures (utf16.encode16_text c.args.text.now) (λ lent p now h. search rules)

@@ -1,25 +1,20 @@
+use mathlib.Core.Path.{refl}
+use Rattle.ser.specs.Write.{write_ctx}
 use Rattle.ser.proofs.Wholes.{before_same, book_written, book-refused}
 use borrow.Author.Rules.{rules}
 use Rattle.ser.proofs.serializer.write_indexed.Goals as goal
 
-ruleset exits = (book_written, book-refused)
+pub returns-in-Some : goal.returns-in-Some
+returns-in-Some c = book-refused (write_ctx c.args.book.now c.args.width c.args.tape.now c.args.text.now) c.args.root c.args.image.now c.args.output.now c.in-Some.k c.in-Some.ensures.0 c.in-Some.ensures.1 c.finish.ensures
 
--- src/serializer.rt:305:9
-pub returns-then-k-ne0 : goal.returns-then-k-ne0
-returns-then-k-ne0 c = search exits
+pub write_sized-requires : goal.write_sized-requires
+write_sized-requires c = (search rules, search rules, before_same _ _ _ _ _ 0 c.in_default.ensures refl, search rules)
 
--- src/serializer.rt:308:9
-pub write_small-requires : goal.write_small-requires
-write_small-requires c = (search rules, search rules, search before_same)
-
--- src/serializer.rt:308:9
 pub returns-then-blocks-le-SMALL_BOOK : goal.returns-then-blocks-le-SMALL_BOOK
-returns-then-blocks-le-SMALL_BOOK c = search exits
+returns-then-blocks-le-SMALL_BOOK c = book_written (write_ctx c.args.book.now c.args.width c.args.tape.now c.args.text.now) c.args.root c.args.image.now c.args.output.now 0 c.in_default.ensures refl c.write_sized.ensures
 
--- src/serializer.rt:310:5
-pub write_large-requires : goal.write_large-requires
-write_large-requires c = (search rules, search rules, search before_same)
+pub write_sized-requires-2 : goal.write_sized-requires-2
+write_sized-requires-2 c = (search rules, search rules, before_same _ _ _ _ _ 0 c.in_default.ensures refl, search rules)
 
--- src/serializer.rt:291:1
 pub returns : goal.returns
-returns c = search exits
+returns c = book_written (write_ctx c.args.book.now c.args.width c.args.tape.now c.args.text.now) c.args.root c.args.image.now c.args.output.now 0 c.in_default.ensures refl c.write_sized-2.ensures
