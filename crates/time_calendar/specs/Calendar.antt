@@ -1,5 +1,5 @@
 -- The Gregorian calendar by its rule, from 1970-01-01 on (document 02, change request 7). Assumes nothing.
-use Rattle.std.specs.Prelude.{Bool, cond, not, ◌&&◌, ◌||◌, [], ◌∷◌, ℕ, zero, suc, ◌+◌, ◌-◌, ◌%◌, get_or, eqb, leb, ltb}
+use Rattle.std.specs.Prelude.{Bool, cond, not, ◌&&◌, ◌||◌, List, [], ◌∷◌, ℕ, zero, suc, ◌+◌, ◌-◌, ◌%◌, get_or, eqb, leb, ltb}
 use Rattle.time_calendar.specs.declared.Date.{Date}
 
 -- a year is leap if 4 divides it, and 100 doesn't unless 400 does
