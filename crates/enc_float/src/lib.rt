@@ -37,32 +37,10 @@ fn real_width(id: AdsTypeId) -> usize
     ensures { result ≡ real_width id }
 {
     match id {
-        AdsTypeId::Void => 0,
-        AdsTypeId::Int16 => 0,
-        AdsTypeId::Int32 => 0,
         AdsTypeId::Real32 => 4,
         AdsTypeId::Real64 => 8,
-        AdsTypeId::Int8 => 0,
-        AdsTypeId::UInt8 => 0,
-        AdsTypeId::UInt16 => 0,
-        AdsTypeId::UInt32 => 0,
-        AdsTypeId::Int64 => 0,
-        AdsTypeId::UInt64 => 0,
-        AdsTypeId::String => 0,
-        AdsTypeId::WString => 0,
-        AdsTypeId::Real80 => 0,
-        AdsTypeId::Bit => 0,
-        AdsTypeId::MaxTypes => 0,
-        AdsTypeId::BigType => 0,
-        AdsTypeId::Unknown(_) => 0,
+        _ => 0,
     }
-}
-
-// The same number, wider.
-fn wide(x: u32) -> u64
-    ensures { result ≡ x }
-{
-    x as u64
 }
 
 // The real of 4 bytes of a bit pattern. Without its sign a pattern above infinity's is a NaN's, which has no f32 of its
@@ -120,7 +98,7 @@ impl Real {
                 if x != x {
                     return 0x7fc0_0000;
                 }
-                return wide(f32::to_bits(x));
+                return u64::from(f32::to_bits(x));
             }
             Real::Double(x) => {
                 if x != x {
@@ -129,7 +107,7 @@ impl Real {
                 return f64::to_bits(x);
             }
             Real::NanSingle(bits) => {
-                return bits as u64;
+                return u64::from(bits);
             }
             Real::NanDouble(bits) => {
                 return bits;
@@ -143,10 +121,8 @@ fn size(value: Real) -> usize
     ensures { result ≡ real_size value }
 {
     match value {
-        Real::Single(_) => 4,
-        Real::Double(_) => 8,
-        Real::NanSingle(_) => 4,
-        Real::NanDouble(_) => 8,
+        Real::Single(_) | Real::NanSingle(_) => 4,
+        Real::Double(_) | Real::NanDouble(_) => 8,
     }
 }
 

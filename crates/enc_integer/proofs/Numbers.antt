@@ -1,6 +1,6 @@
 -- The numbers of an integer, and of what a read and a write answer, tell it. Assumes nothing.
 use mathlib.Core.Path.{◌≡◌, refl, ap}
-use mathlib.Core.List.{List, [], ◌∷◌}
+use mathlib.Core.List.{[], ◌∷◌}
 use Prim.Native.Nat.{ℕ}
 use native.Mathlib.Omega.{arith}
 use Rattle.enc_number.specs.Answer.{refusal_of}

@@ -8,9 +8,6 @@ ghost use Rattle.enc_integer.specs.Integer.{twos_complement, twos_bits, integer_
 use enc_number::le::{le_store, le_value};
 use type_id::AdsTypeId;
 
-// The largest number of 64 bits.
-const MAX: u64 = 0xFFFF_FFFF_FFFF_FFFF;
-
 // An integer with its width in bytes. A signed one holds its two's complement of 64 bits.
 #[derive(Clone, Copy)]
 pub enum Integer {
@@ -43,24 +40,11 @@ fn id_width(id: AdsTypeId) -> u8
     ensures { result ≡ id_width id }
 {
     match id {
-        AdsTypeId::Void => 0,
-        AdsTypeId::Int16 => 2,
-        AdsTypeId::Int32 => 4,
-        AdsTypeId::Real32 => 0,
-        AdsTypeId::Real64 => 0,
-        AdsTypeId::Int8 => 1,
-        AdsTypeId::UInt8 => 1,
-        AdsTypeId::UInt16 => 2,
-        AdsTypeId::UInt32 => 4,
-        AdsTypeId::Int64 => 8,
-        AdsTypeId::UInt64 => 8,
-        AdsTypeId::String => 0,
-        AdsTypeId::WString => 0,
-        AdsTypeId::Real80 => 0,
-        AdsTypeId::Bit => 0,
-        AdsTypeId::MaxTypes => 0,
-        AdsTypeId::BigType => 0,
-        AdsTypeId::Unknown(_) => 0,
+        AdsTypeId::Int8 | AdsTypeId::UInt8 => 1,
+        AdsTypeId::Int16 | AdsTypeId::UInt16 => 2,
+        AdsTypeId::Int32 | AdsTypeId::UInt32 => 4,
+        AdsTypeId::Int64 | AdsTypeId::UInt64 => 8,
+        _ => 0,
     }
 }
 
@@ -68,26 +52,10 @@ fn id_width(id: AdsTypeId) -> u8
 fn is_signed(id: AdsTypeId) -> bool
     ensures { result ≡ id_signed id }
 {
-    match id {
-        AdsTypeId::Void => false,
-        AdsTypeId::Int16 => true,
-        AdsTypeId::Int32 => true,
-        AdsTypeId::Real32 => false,
-        AdsTypeId::Real64 => false,
-        AdsTypeId::Int8 => true,
-        AdsTypeId::UInt8 => false,
-        AdsTypeId::UInt16 => false,
-        AdsTypeId::UInt32 => false,
-        AdsTypeId::Int64 => true,
-        AdsTypeId::UInt64 => false,
-        AdsTypeId::String => false,
-        AdsTypeId::WString => false,
-        AdsTypeId::Real80 => false,
-        AdsTypeId::Bit => false,
-        AdsTypeId::MaxTypes => false,
-        AdsTypeId::BigType => false,
-        AdsTypeId::Unknown(_) => false,
-    }
+    matches!(
+        id,
+        AdsTypeId::Int8 | AdsTypeId::Int16 | AdsTypeId::Int32 | AdsTypeId::Int64
+    )
 }
 
 // The largest number of that many bytes.
@@ -95,7 +63,7 @@ fn largest(width: u8) -> u64
     requires { (1 ≤ width) × (width ≤ 8) }
     ensures { result + 1 ≡ 2 ^ (8 * width) }
 {
-    MAX >> (64 - 8 * (width as u64))
+    u64::MAX >> (64 - 8 * (width as u64))
 }
 
 // Repeats the sign bit of a number of that many bytes, up to 64 bits.
@@ -108,7 +76,7 @@ fn sign_extended(value: u64, width: u8) -> u64
     if value <= most / 2 {
         return value;
     }
-    value + (MAX - most)
+    value + (u64::MAX - most)
 }
 
 // Reads the integer that the bytes hold, by the id's width and sign.
@@ -141,7 +109,7 @@ pub fn fits_signed(value: Integer, width: u8) -> bool
                 return true;
             }
             // The lowest value, -most - 1, in two's complement.
-            return MAX - most <= bits;
+            return u64::MAX - most <= bits;
         }
         Integer::Unsigned(_, bits) => {
             return bits <= most;
@@ -158,7 +126,7 @@ pub fn fits_unsigned(value: Integer, width: u8) -> bool
     match value {
         Integer::Signed(_, bits) => {
             // A value below 0 has its sign bit set.
-            if MAX / 2 < bits {
+            if u64::MAX / 2 < bits {
                 return false;
             }
             return bits <= most;
@@ -186,8 +154,7 @@ fn bits(value: Integer) -> u64
     ensures { result ≡ pattern_of value }
 {
     match value {
-        Integer::Signed(_, bits) => bits,
-        Integer::Unsigned(_, bits) => bits,
+        Integer::Signed(_, bits) | Integer::Unsigned(_, bits) => bits,
     }
 }
 

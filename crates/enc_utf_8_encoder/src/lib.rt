@@ -7,7 +7,7 @@ ghost use Rattle.enc_utf_8.specs.Utf8.{utf8_of, three, four};
 
 use enc_utf_8::Put;
 
-// One byte.
+// One byte. (This function and the three that follow were tried as one over `[u8; N]`, by `copy_from_slice`: that took up to half as long again.)
 fn put_1(out: &mut [u8], at: usize, a: u8) -> Put
     ensures { Wrote (a ∷ []) out.old at result out.new }
 {

@@ -1,5 +1,5 @@
 -- The months of a year: tests that are computed for each month and each day of both kinds of years, and the laws that they give. Assumes nothing.
-use mathlib.Core.Path.{◌≡◌, refl, sym, ap, ◌∙◌}
+use mathlib.Core.Path.{◌≡◌, refl, sym}
 use mathlib.Core.Bool.{Bool, true, false, cond, ◌&&◌}
 use mathlib.Core.List.{List, [], ◌∷◌}
 use Prim.Native.Nat.{ℕ, zero, suc, ◌+◌, ◌-◌, ◌*◌, ◌/◌, ◌^◌, ◌≤◌, ◌<◌}
@@ -7,7 +7,7 @@ use native.Mathlib.Omega.{arith}
 use lib.ListN.{get_or, length}
 use lib.Dec.{eqb, leb, ltb}
 use borrow.Author.Tests.{eqb-true, eqb-false, leb-true, ltb-true, ltb-false, lt-ltb, le-ltb, eq-eqb, ne_eqb}
-use Rattle.time_calendar.specs.Calendar.{is_leap, year_days, month_days, months_days}
+use Rattle.time_calendar.specs.Calendar.{month_days, months_days}
 use Rattle.time_calendar.specs.Places.{InMonth, even_day}
 use Rattle.time_calendar.proofs.Rising.{rises}
 

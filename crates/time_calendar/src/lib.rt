@@ -1,7 +1,7 @@
 // The Gregorian calendar: the date of a day since 1970-01-01 and back, by the cycles of 400, 100 and 4 years.
 #![tactic(auto)]
 
-ghost use Rattle.std.specs.Prelude.{◌≡◌, true, ◌+◌, ◌-◌, ◌≤◌, ◌<◌, min};
+ghost use Rattle.std.specs.Prelude.{◌≡◌, true, ◌+◌, ◌-◌, ◌≤◌, ◌<◌};
 ghost use Rattle.time_calendar.specs.Calendar.{is_leap, years_days, months_days, names_date, day_number, date_of, month_days};
 ghost use Rattle.time_calendar.specs.Places.{InYear, InMonth, even_day};
 
@@ -31,15 +31,6 @@ fn is_leap(year: u32) -> bool
     year % 4 == 0
 }
 
-fn at_most_three(n: u32) -> u32
-    ensures { result ≡ min n 3 }
-{
-    if n < 3 {
-        return n;
-    }
-    3
-}
-
 // The days from 1970-01-01 to the first of a year.
 fn year_start(year: u32) -> u32
     requires { (1970 ≤ year) × (year < 10000) }
@@ -58,11 +49,11 @@ fn year_of(day: u32) -> u32
     let since = day + BEFORE_1970;
     let long = since / 146_097;
     let in_long = since % 146_097;
-    let hundred = at_most_three(in_long / 36_524);
+    let hundred = (in_long / 36_524).min(3);
     let in_hundred = in_long - hundred * 36_524;
     let four = in_hundred / 1_461;
     let in_four = in_hundred % 1_461;
-    let one = at_most_three(in_four / 365);
+    let one = (in_four / 365).min(3);
     1601 + long * 400 + hundred * 100 + four * 4 + one
 }
 
