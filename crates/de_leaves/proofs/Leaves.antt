@@ -130,19 +130,17 @@ module _ (width : ℕ) (mem : List ℕ) (r : LeafValue) where
   unfolding pointer_leaf
   pointer_two h i ei e = rw (h, ← ei) e
 
-  module _ (n2 : width ≡ 2 → ⊥) where
-    pub pointer_four : width ≡ 4 → (i : IntegerRead) → i ≡ read_integer UInt32 mem → r ≡ integer_leaf i → r ≡ pointer_leaf width mem
-    unfolding pointer_leaf
-    pointer_four h i ei e = rw (h, ← ei) e
+  pub pointer_four : width ≡ 4 → (i : IntegerRead) → i ≡ read_integer UInt32 mem → r ≡ integer_leaf i → r ≡ pointer_leaf width mem
+  unfolding pointer_leaf
+  pointer_four h i ei e = rw (h, ← ei) e
 
-    module _ (n4 : width ≡ 4 → ⊥) where
-      pub pointer_eight : width ≡ 8 → (i : IntegerRead) → i ≡ read_integer UInt64 mem → r ≡ integer_leaf i → r ≡ pointer_leaf width mem
-      unfolding pointer_leaf
-      pointer_eight h i ei e = rw (h, ← ei) e
+  pub pointer_eight : width ≡ 8 → (i : IntegerRead) → i ≡ read_integer UInt64 mem → r ≡ integer_leaf i → r ≡ pointer_leaf width mem
+  unfolding pointer_leaf
+  pointer_eight h i ei e = rw (h, ← ei) e
 
-      pub pointer_other : (width ≡ 8 → ⊥) → r ≡ leaf.Refused 13 → r ≡ pointer_leaf width mem
-      unfolding pointer_leaf
-      pointer_other n8 e = rw (ne_eqb width 2 n2, ne_eqb width 4 n4, ne_eqb width 8 n8) e
+  pub pointer_other : (width ≡ 2 → ⊥) → (width ≡ 4 → ⊥) → (width ≡ 8 → ⊥) → r ≡ leaf.Refused 13 → r ≡ pointer_leaf width mem
+  unfolding pointer_leaf
+  pointer_other n2 n4 n8 e = rw (ne_eqb width 2 n2, ne_eqb width 4 n4, ne_eqb width 8 n8) e
 
 -- ---- a text
 
@@ -175,30 +173,24 @@ module _ (book : List ℕ) (t : ℕ) (mem : List ℕ) (size : ℕ) (es : size �
 -- ---- an enum
 
 module _ (book mem : List ℕ) (n k : ℕ) where
-  pub entry-start : entry_from book mem n k ≡ entry_from book mem (n + 0) (k - 0)
-  entry-start =
-      let e : n + 0 ≡ n = omega arith in
-      let f : k - 0 ≡ k = omega arith in
-      rw (e, f)
+  pub entry-start : entry_from book mem n k ≡ entry_from book mem n (n + k - n)
+  entry-start = let e : n + k - n ≡ k = omega arith in rw e
 
-  module _ (i : ℕ) (inv : entry_from book mem n k ≡ entry_from book mem (n + i) (k - i)) where
-    module _ (l : i < k) (v : List ℕ) (ev : v ≡ value_of book (n + i)) (b : Bool) (eb : b ≡ same_name v mem) where
-      entry-turn : entry_from book mem n k ≡ cond b (At (n + i)) (entry_from book mem (n + (i + 1)) (k - (i + 1)))
+  module _ (i : ℕ) (inv : entry_from book mem n k ≡ entry_from book mem i (n + k - i)) where
+    module _ (l : i < n + k) (v : List ℕ) (ev : v ≡ value_of book i) (b : Bool) (eb : b ≡ same_name v mem) where
+      entry-turn : entry_from book mem n k ≡ cond b (At i) (entry_from book mem (i + 1) (n + k - (i + 1)))
       unfolding entry_from
-      entry-turn =
-          let z : k - i ≡ suc (k - (i + 1)) = omega arith in
-          let y : n + i + 1 ≡ n + (i + 1) = omega arith in
-          inv ∙ rw (z, y, eb, ev)
+      entry-turn = let z : n + k - i ≡ suc (n + k - (i + 1)) = omega arith in inv ∙ rw (z, eb, ev)
 
-      pub entry_here : b ≡ true → At (n + i) ≡ entry_from book mem n k
+      pub entry_here : b ≡ true → At i ≡ entry_from book mem n k
       entry_here h = sym (entry-turn ∙ rw h)
 
-      pub entry-again : b ≡ false → entry_from book mem n k ≡ entry_from book mem (n + (i + 1)) (k - (i + 1))
+      pub entry-again : b ≡ false → entry_from book mem n k ≡ entry_from book mem (i + 1) (n + k - (i + 1))
       entry-again h = entry-turn ∙ rw h
 
-    pub entry-none : k ≤ i → Nothing ≡ entry_from book mem n k
+    pub entry-none : n + k ≤ i → Nothing ≡ entry_from book mem n k
     unfolding entry_from
-    entry-none h = let z : k - i ≡ 0 = omega arith in sym (inv ∙ rw z)
+    entry-none h = let z : n + k - i ≡ 0 = omega arith in sym (inv ∙ rw z)
 
 module _ (book : List ℕ) (t : ℕ) (mem : List ℕ) (size : ℕ) (es : size ≡ size_of book t) (r : LeafValue) where
   pub enum-size : (length mem ≡ size → ⊥) → r ≡ leaf.Refused 10 → r ≡ enum_leaf book t mem

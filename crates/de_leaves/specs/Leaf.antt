@@ -1,5 +1,5 @@
 -- What the bytes of a type stand for that is neither struct nor array (document 01: deserializer.rs, refusals 10 to 13). Assumes nothing.
-use Rattle.std.specs.Prelude.{Bool, true, false, cond, not, List, [], ◌∷◌, ℕ, zero, suc, ◌+◌, length, get_or, eqb}
+use Rattle.std.specs.Prelude.{true, false, cond, not, List, [], ◌∷◌, ℕ, zero, suc, ◌+◌, length, get_or, eqb}
 use Rattle.enc_number.specs.Answer.{refusal_of, truth_number}
 use Rattle.enc_number.specs.Refusals as refusal
 use Rattle.type_id.specs.TypeId.{id_of}

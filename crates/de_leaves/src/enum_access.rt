@@ -9,12 +9,10 @@ pub(crate) fn find_entry(book: &[u8], bytes: &[u8], n: u32, k: u32) -> Found
     requires { n + k < 65537 }
     ensures { result ≡ entry_from book.now bytes.now n k }
 {
-    let mut i: u32 = 0;
-    while i < k {
-        if type_book::block::same_name(type_book::block::value(book, n + i), bytes) {
-            return Found::At(n + i);
+    for i in n..n + k {
+        if type_book::block::same_name(type_book::block::value(book, i), bytes) {
+            return Found::At(i);
         }
-        i += 1;
     }
     Found::Nothing
 }

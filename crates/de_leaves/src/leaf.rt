@@ -50,21 +50,13 @@ fn kind_of(category: AdsTypeCategory) -> LeafKind
 {
     match category {
         AdsTypeCategory::None => LeafKind::Unit,
-        AdsTypeCategory::Primitive => LeafKind::Number,
-        AdsTypeCategory::Alias => LeafKind::None,
-        AdsTypeCategory::Enum => LeafKind::Enum,
-        AdsTypeCategory::Array => LeafKind::None,
-        AdsTypeCategory::Struct => LeafKind::None,
-        AdsTypeCategory::FunctionBlock => LeafKind::None,
-        AdsTypeCategory::Program => LeafKind::None,
-        AdsTypeCategory::Function => LeafKind::None,
-        AdsTypeCategory::SubRange => LeafKind::Number,
+        AdsTypeCategory::Primitive | AdsTypeCategory::SubRange | AdsTypeCategory::Bitset =>
+            LeafKind::Number,
         AdsTypeCategory::String => LeafKind::Text,
-        AdsTypeCategory::Bitset => LeafKind::Number,
-        AdsTypeCategory::Pointer => LeafKind::Pointer,
-        AdsTypeCategory::Union => LeafKind::None,
-        AdsTypeCategory::Reference => LeafKind::Pointer,
-        AdsTypeCategory::Interface => LeafKind::Pointer,
+        AdsTypeCategory::Enum => LeafKind::Enum,
+        AdsTypeCategory::Pointer | AdsTypeCategory::Reference | AdsTypeCategory::Interface =>
+            LeafKind::Pointer,
+        _ => LeafKind::None,
     }
 }
 
@@ -110,8 +102,7 @@ fn number_leaf(book: &[u8], t: u32, bytes: &[u8]) -> LeafValue
     if id.to_u32() == 33 {
         return bool_leaf(bytes);
     }
-    let real = real_from_le_slice(bytes, id);
-    match real {
+    match real_from_le_slice(bytes, id) {
         RealRead::Value(v) => real_leaf(v),
         RealRead::Size => LeafValue::Refused(10),
         RealRead::Unsupported => integer_leaf(try_from_le_slice(bytes, id)),
@@ -122,16 +113,12 @@ fn number_leaf(book: &[u8], t: u32, bytes: &[u8]) -> LeafValue
 fn pointer_leaf(width: u8, bytes: &[u8]) -> LeafValue
     ensures { result ≡ pointer_leaf width bytes.now }
 {
-    if width == 2 {
-        return integer_leaf(try_from_le_slice(bytes, AdsTypeId::UInt16));
+    match width {
+        2 => integer_leaf(try_from_le_slice(bytes, AdsTypeId::UInt16)),
+        4 => integer_leaf(try_from_le_slice(bytes, AdsTypeId::UInt32)),
+        8 => integer_leaf(try_from_le_slice(bytes, AdsTypeId::UInt64)),
+        _ => LeafValue::Refused(13),
     }
-    if width == 4 {
-        return integer_leaf(try_from_le_slice(bytes, AdsTypeId::UInt32));
-    }
-    if width == 8 {
-        return integer_leaf(try_from_le_slice(bytes, AdsTypeId::UInt64));
-    }
-    LeafValue::Refused(13)
 }
 
 // A WSTRING is UTF-16, a STRING is UTF-8 where its own block is marked so, else Windows-1252.
@@ -200,8 +187,7 @@ pub fn leaf_by(book: &[u8], width: u8, t: u32, category: AdsTypeCategory, bytes:
     if count != 0 {
         return pointer_leaf(count, bytes);
     }
-    let kind = kind_of(category);
-    match kind {
+    match kind_of(category) {
         LeafKind::Number => number_leaf(book, t, bytes),
         LeafKind::Text => text_leaf(book, t, bytes),
         LeafKind::Enum => enum_leaf(book, t, bytes),

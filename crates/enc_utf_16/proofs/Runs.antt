@@ -1,7 +1,7 @@
 -- A text that is read scalar value by scalar value, measured and written: one turn of each loop, and its ends. The laws hold of any
 -- `scalars_of`, which reads scalar values from bytes, and any `bytes_of`, which encodes one of them. Assumes nothing.
 use mathlib.Core.Path.{◌≡◌, refl, sym, ap, ◌∙◌}
-use mathlib.Core.Bool.{Bool, true, false, cond}
+use mathlib.Core.Bool.{Bool, true, false}
 use mathlib.Core.List.{List, [], ◌++◌, flat_map}
 use Prim.Native.Nat.{ℕ, ◌+◌, ◌-◌, ◌≤◌, ◌<◌}
 use native.Mathlib.Omega.{arith}
@@ -10,7 +10,6 @@ use lib.Dec.{leb}
 use borrow.Author.Tests.{le-leb, lt-leb, leb-true, leb-false}
 use Rattle.enc_utf_8.specs.declared.Put.{Put}
 use Rattle.enc_utf_8.specs.declared.Put.TheVariants.{Next, Full}
-use Rattle.enc_utf_8.specs.declared.Room.{Room}
 use Rattle.enc_utf_8.specs.declared.Room.TheVariants.{Fits, Over}
 use Rattle.enc_utf_8.specs.Buffer.{splice, Wrote, room_for}
 use Rattle.enc_utf_8.proofs.Splices.{splice-none, splice-long, splice-splice, wrote-splice, wrote-full, wrote_none, wrote_as, went, stayed}
@@ -64,28 +63,6 @@ room-over n room h = rw (lt-leb n room h)
 
 pub room_fits : (n m room : ℕ) → m ≡ n → m ≤ room → Fits m ≡ room_for n room
 room_fits n m room e h = let k : n ≤ room = omega arith in rw (le-leb n room k, e)
-
--- what an answer tells of the length
-over_by : (n room : ℕ) (b : Bool) → leb n room ≡ b → Over ≡ cond b (Fits n) Over → room < n
-over_by n room true e h = absurd (let z : ◌≡◌ {A = ℕ} 0 1 = cc in omega arith)
-over_by n room false e h = leb-false n room e
-
-pub told_over : (n room : ℕ) (r : Room) → r ≡ room_for n room → r ≡ Over → room < n
-told_over n room r e q = over_by n room (leb n room) refl (sym q ∙ e)
-
-fits_by : (n room m : ℕ) (b : Bool) → leb n room ≡ b → Fits m ≡ cond b (Fits n) Over → n ≤ room
-fits_by n room m true e h = leb-true n room e
-fits_by n room m false e h = absurd (let z : ◌≡◌ {A = ℕ} 0 1 = cc in omega arith)
-
-pub told-fits : (n room m : ℕ) (r : Room) → r ≡ room_for n room → r ≡ Fits m → n ≤ room
-told-fits n room m r e q = fits_by n room m (leb n room) refl (sym q ∙ e)
-
--- the same as a test
-pub test-over : (n room : ℕ) (r : Room) → r ≡ room_for n room → r ≡ Over → false ≡ leb n room
-test-over n room r e q = sym (lt-leb n room (told_over n room r e q))
-
-pub test_fits : (n room m : ℕ) (r : Room) → r ≡ room_for n room → r ≡ Fits m → true ≡ leb n room
-test_fits n room m r e q = sym (le-leb n room (told-fits n room m r e q))
 
 -- ---- a text in its room
 

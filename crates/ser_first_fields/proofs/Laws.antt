@@ -10,7 +10,7 @@ use borrow.Author.Tests.{eqb-true, eqb-false}
 use lib.ListN.{length, get_or, replicate, get_or-replicate, length-replicate, get_or-eq_default}
 use lib.Dec.{eqb, ltb}
 use borrow.Author.Tests.{ltb-true, ltb-false}
-use Rattle.type_book.specs.Book.{fields_of, entries_of, name_of, same_name}
+use Rattle.type_book.specs.Book.{fields_of, name_of, same_name}
 use Rattle.type_book.proofs.Names.{same_eq, same_refl}
 use Rattle.type_provider.specs.declared.Found.{Found}
 use Rattle.type_provider.specs.declared.Found.TheVariants.{At, Nothing}

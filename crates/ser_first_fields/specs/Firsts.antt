@@ -1,7 +1,7 @@
 -- What the bits of a type's fields say, and the marks by which they are found. No contract of a public function of the papers cites this.
 -- Assumes nothing.
 use Rattle.std.specs.Prelude.{◌≡◌, true, List, ℕ, ◌+◌, ◌%◌, ◌<◌}
-use Rattle.type_book.specs.Book.{fields_of, name_of}
+use Rattle.type_book.specs.Book.{name_of}
 use Rattle.type_provider.specs.declared.Found.{Found}
 use Rattle.type_provider.specs.declared.Found.TheVariants.{At, Nothing}
 use Rattle.ser_named_blocks.specs.Named.{field_named}

@@ -36,44 +36,32 @@ fn note_fields(book: &[u8], t: u32, k: u32, c: u32, names: &mut [u32], firsts: &
     ensures { Firsts book.now t firsts.new }
 {
     let n = block::fields(book, t);
-    let mut i: u32 = 0;
-    while i < n {
+    for i in 0..n {
         note_field(book, t, k, c, i, names, firsts);
-        i += 1;
     }
 }
 
-// All fields in one class, with marks for up to 256 names, on the stack.
-fn note_few(book: &[u8], t: u32, firsts: &mut [u32])
-    requires { (t + fields_of book.now t + entries_of book.now t < 65536) × (fields_of book.now t ≤ 32 * length firsts.old) × Firsts book.now t firsts.old }
+// All fields of one class, with N numbers of marks on the stack: few enough for each level of a walk to have them there.
+fn note_class<const N: usize>(book: &[u8], t: u32, k: u32, c: u32, firsts: &mut [u32])
+    requires { (t + fields_of book.now t + entries_of book.now t < 65536) × (fields_of book.now t ≤ 32 * length firsts.old) × (0 < k) × (0 < N) × (N ≤ 32768) × Firsts book.now t firsts.old }
     ensures { Firsts book.now t firsts.new }
 {
-    let mut names = [0u32; 256];
-    note_fields(book, t, 1, 0, &mut names, firsts);
-}
-
-// One class, with marks for some two thousand names: few enough for each level of a walk to have them on its stack.
-fn note_class(book: &[u8], t: u32, k: u32, c: u32, firsts: &mut [u32])
-    requires { (t + fields_of book.now t + entries_of book.now t < 65536) × (fields_of book.now t ≤ 32 * length firsts.old) × (0 < k) × Firsts book.now t firsts.old }
-    ensures { Firsts book.now t firsts.new }
-{
-    let mut names = [0u32; 1024];
+    let mut names = [0u32; N];
     note_fields(book, t, k, c, &mut names, firsts);
 }
 
 // The fields to a class: of so many names one in some hundreds finds its marks taken.
 const CLASS_FIELDS: u32 = 2048;
 
-// The same for many fields, class after class: each class is one pass over the fields, and has marks of its own.
+// All fields of a type that has many, class after class: each class is one pass over the fields, and has marks of its own for some
+// two thousand names.
 fn note_many(book: &[u8], t: u32, firsts: &mut [u32])
     requires { (t + fields_of book.now t + entries_of book.now t < 65536) × (fields_of book.now t ≤ 32 * length firsts.old) × Firsts book.now t firsts.old }
     ensures { Firsts book.now t firsts.new }
 {
     let k = block::fields(book, t) / CLASS_FIELDS + 1;
-    let mut c: u32 = 0;
-    while c < k {
-        note_class(book, t, k, c, firsts);
-        c += 1;
+    for c in 0..k {
+        note_class::<1024>(book, t, k, c, firsts);
     }
 }
 
@@ -88,7 +76,7 @@ pub fn note_firsts(book: &[u8], t: u32, firsts: &mut [u32])
         return;
     }
     if n <= 256 {
-        note_few(book, t, firsts);
+        note_class::<256>(book, t, 1, 0, firsts);
         return;
     }
     note_many(book, t, firsts);
@@ -117,10 +105,8 @@ pub fn field_named_as(book: &[u8], t: u32, firsts: &[u32], f: u32) -> u32
     requires { (t + fields_of book.now t + entries_of book.now t < 65536) × Firsts book.now t firsts.now }
     ensures { result ≡ found_block (field_named book.now t (name_of book.now f)) }
 {
-    if t < f {
-        if bit(firsts, f - t - 1) {
-            return f;
-        }
+    if t < f && bit(firsts, f - t - 1) {
+        return f;
     }
     field_block(book, t, block::name(book, f))
 }

@@ -10,30 +10,24 @@ use Rattle.type_provider.specs.declared.Found.TheVariants.{At, Nothing}
 use Rattle.ser_named_blocks.specs.Named.{named_from, field_named, entry_named}
 
 module _ (book name : List ℕ) (n k : ℕ) where
-  pub named_start : named_from book name n k ≡ named_from book name (n + 0) (k - 0)
-  named_start =
-      let e : n + 0 ≡ n = omega arith in
-      let f : k - 0 ≡ k = omega arith in
-      rw (e, f)
+  pub named_start : named_from book name n k ≡ named_from book name n (n + k - n)
+  named_start = let e : n + k - n ≡ k = omega arith in rw e
 
-  module _ (i : ℕ) (inv : named_from book name n k ≡ named_from book name (n + i) (k - i)) where
-    module _ (l : i < k) (v : List ℕ) (ev : v ≡ name_of book (n + i)) (b : Bool) (eb : b ≡ same_name v name) where
-      named-turn : named_from book name n k ≡ cond b (At (n + i)) (named_from book name (n + (i + 1)) (k - (i + 1)))
+  module _ (i : ℕ) (inv : named_from book name n k ≡ named_from book name i (n + k - i)) where
+    module _ (l : i < n + k) (v : List ℕ) (ev : v ≡ name_of book i) (b : Bool) (eb : b ≡ same_name v name) where
+      named-turn : named_from book name n k ≡ cond b (At i) (named_from book name (i + 1) (n + k - (i + 1)))
       unfolding named_from
-      named-turn =
-          let z : k - i ≡ suc (k - (i + 1)) = omega arith in
-          let y : n + i + 1 ≡ n + (i + 1) = omega arith in
-          inv ∙ rw (z, y, eb, ev)
+      named-turn = let z : n + k - i ≡ suc (n + k - (i + 1)) = omega arith in inv ∙ rw (z, eb, ev)
 
-      pub named_here : b ≡ true → At (n + i) ≡ named_from book name n k
+      pub named_here : b ≡ true → At i ≡ named_from book name n k
       named_here h = sym (named-turn ∙ rw h)
 
-      pub named_again : b ≡ false → named_from book name n k ≡ named_from book name (n + (i + 1)) (k - (i + 1))
+      pub named_again : b ≡ false → named_from book name n k ≡ named_from book name (i + 1) (n + k - (i + 1))
       named_again h = named-turn ∙ rw h
 
-    pub named_none : k ≤ i → Nothing ≡ named_from book name n k
+    pub named_none : n + k ≤ i → Nothing ≡ named_from book name n k
     unfolding named_from
-    named_none h = let z : k - i ≡ 0 = omega arith in sym (inv ∙ rw z)
+    named_none h = let z : n + k - i ≡ 0 = omega arith in sym (inv ∙ rw z)
 
 module _ (book name : List ℕ) (t : ℕ) (r : Found) (f : ℕ) (ef : f ≡ fields_of book t) where
   pub field_is : r ≡ named_from book name (t + 1) f → r ≡ field_named book t name

@@ -12,12 +12,10 @@ fn find_named(book: &[u8], name: &[u8], n: u32, k: u32) -> Found
     requires { n + k < 65537 }
     ensures { result ≡ named_from book.now name.now n k }
 {
-    let mut i: u32 = 0;
-    while i < k {
-        if type_book::block::same_name(type_book::block::name(book, n + i), name) {
-            return Found::At(n + i);
+    for i in n..n + k {
+        if type_book::block::same_name(type_book::block::name(book, i), name) {
+            return Found::At(i);
         }
-        i += 1;
     }
     Found::Nothing
 }

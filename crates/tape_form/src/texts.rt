@@ -17,10 +17,7 @@ fn ahead(len: usize, e: usize) -> usize
     requires { e ≤ len }
     ensures { (e ≤ result) × (result ≤ len) }
 {
-    if len - e < AHEAD {
-        return len;
-    }
-    e + AHEAD
+    e.saturating_add(AHEAD).min(len)
 }
 
 // The first finding grows past `e`, or up to an error before it. No byte but those at an error is looked at twice.
@@ -59,10 +56,8 @@ fn is_later(text: &[u8], known: &mut [usize; 3], a: usize, e: usize) -> bool
 {
     let lo = known[1];
     let hi = known[2];
-    if lo <= a {
-        if e <= hi {
-            return part_well_formed(&text[lo..hi], a - lo, e - lo);
-        }
+    if lo <= a && e <= hi {
+        return part_well_formed(&text[lo..hi], a - lo, e - lo);
     }
     if well_formed(&text[a..e]) {
         keep(text, known, a, e);

@@ -4,7 +4,7 @@ use mathlib.Core.Bool.{Bool, true, false}
 use mathlib.Core.List.{List}
 use Prim.Native.Nat.{ℕ, zero, suc, ◌+◌, ◌*◌, ◌-◌, ◌/◌, ◌≤◌, ◌<◌, min}
 use native.Mathlib.Omega.{arith}
-use native.Mathlib.Nat.{mul_assoc, mul-one, mul-zero, mul-suc, div-lt_iff_lt-mul, min-eq_left, min-eq_right, min-le_right, mul-div_cancel_left}
+use native.Mathlib.Nat.{mul_assoc, mul-one, mul-zero, mul-suc, min-eq_left, min-eq_right, mul-div_cancel_left}
 use lib.Dec.{eqb, leb}
 use borrow.Author.Tests.{ne_eqb, leb-true, leb-false}
 use Rattle.type_book.specs.Book.{size_of, count_of, dimensions_of}
@@ -21,24 +21,6 @@ split {X} a b f g = by (leb a b) refl
     by : (t : Bool) → leb a b ≡ t → X
     by true e = f (leb-true a b e)
     by false e = g (leb-false a b e)
-
-module _ (p b : ℕ) where
-  pub times_none : b ≡ 0 → 0 ≡ min (p * b) top
-  times_none e = rw (e, mul-zero)
-
-  pub times_more : (b ≡ 0 → ⊥) → top / b < p → top ≡ min (p * b) top
-  times_more n h =
-      let k : 0 < b = omega arith in
-      let l : top < p * b = (div-lt_iff_lt-mul k).0 h in
-      sym (min-eq_right (omega arith))
-
-  pub times_fits : (b ≡ 0 → ⊥) → p ≤ top / b → p * b ≤ top
-  times_fits n h =
-      let k : 0 < b = omega arith in
-      split (p * b) top (λ z. z) (λ z. absurd (let y : top / b < p = (div-lt_iff_lt-mul k).1 z in omega arith))
-
-  pub times_is : (b ≡ 0 → ⊥) → p ≤ top / b → p * b ≡ min (p * b) top
-  times_is n h = sym (min-eq_left (times_fits n h))
 
 -- the top stays the top, unless a factor is 0
 pub times_again : (x b : ℕ) → min (min x top * b) top ≡ min (x * b) top
@@ -71,9 +53,6 @@ multiplied_again book t e d n c p q l ec eq m =
       is = eq ∙ rw m.is (times_again m.so_far c);
       rest = rw ec (mul_assoc m.so_far (count_of book t d) (product_from book t (d + 1) (n - (d + 1))) ∙ (rw k at m.rest));
     }
-
-pub multiplied_small : (book : List ℕ) (t e d k p : ℕ) → Multiplied book t e d k p → p ≤ top
-multiplied_small book t e d k p m = rw m.is (min-le_right m.so_far top)
 
 eqb-top : (x n : ℕ) → n < top → eqb (min x top) n ≡ eqb x n
 eqb-top x n h =

@@ -1,5 +1,5 @@
 // The shape of an array: its dimensions, the bytes of one index, the bytes of the whole.
-ghost use Rattle.std.specs.Prelude.{◌≡◌, ◌*◌, ◌≤◌, min, eqb, length};
+ghost use Rattle.std.specs.Prelude.{◌≡◌, ◌*◌, min, eqb, length};
 ghost use Rattle.tape_shape.specs.Array.{is_last, array_bytes, StrideIs};
 
 // No length reaches this, so a product that does needs not be known.
@@ -7,17 +7,9 @@ const TOP: u64 = 0x8000_0000_0000_0000;
 
 // The product, or TOP where it is more.
 fn times(p: u64, b: u32) -> u64
-    requires { p ≤ 0x8000_0000_0000_0000 }
     ensures { result ≡ min (p * b) 0x8000_0000_0000_0000 }
 {
-    if b == 0 {
-        return 0;
-    }
-    let m = b as u64;
-    if TOP / m < p {
-        return TOP;
-    }
-    p * m
+    p.saturating_mul(u64::from(b)).min(TOP)
 }
 
 // Whether the element's size times all counts is the number of bytes, exactly.
@@ -26,13 +18,11 @@ pub fn product_is(book: &[u8], t: u32, e: u32, bytes: &[u8]) -> bool
 {
     let dims = type_book::block::dimensions(book, t);
     let mut p = times(
-        type_book::block::count(book, t, 0) as u64,
+        u64::from(type_book::block::count(book, t, 0)),
         type_book::block::size(book, e),
     );
-    let mut d: u8 = 1;
-    while d < dims {
+    for d in 1..dims {
         p = times(p, type_book::block::count(book, t, d));
-        d += 1;
     }
     p == bytes.len() as u64
 }
@@ -41,7 +31,7 @@ pub fn product_is(book: &[u8], t: u32, e: u32, bytes: &[u8]) -> bool
 pub fn is_last(book: &[u8], d: u8, t: u32) -> bool
     ensures { result ≡ is_last book.now d t }
 {
-    type_book::block::dimensions(book, t) as u32 <= d as u32 + 1
+    u32::from(type_book::block::dimensions(book, t)) <= u32::from(d) + 1
 }
 
 // The bytes of one of n equal parts of `len`.

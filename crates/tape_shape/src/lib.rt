@@ -21,21 +21,9 @@ pub fn shape_of(category: AdsTypeCategory) -> Shape
     ensures { result ≡ shape_of category }
 {
     match category {
-        AdsTypeCategory::None => Shape::Leaf,
-        AdsTypeCategory::Primitive => Shape::Leaf,
-        AdsTypeCategory::Alias => Shape::Leaf,
-        AdsTypeCategory::Enum => Shape::Leaf,
         AdsTypeCategory::Array => Shape::Array,
-        AdsTypeCategory::Struct => Shape::Map,
-        AdsTypeCategory::FunctionBlock => Shape::Map,
-        AdsTypeCategory::Program => Shape::Leaf,
-        AdsTypeCategory::Function => Shape::Leaf,
-        AdsTypeCategory::SubRange => Shape::Leaf,
-        AdsTypeCategory::String => Shape::Leaf,
-        AdsTypeCategory::Bitset => Shape::Leaf,
-        AdsTypeCategory::Pointer => Shape::Leaf,
-        AdsTypeCategory::Union => Shape::Map,
-        AdsTypeCategory::Reference => Shape::Leaf,
-        AdsTypeCategory::Interface => Shape::Leaf,
+        AdsTypeCategory::Struct | AdsTypeCategory::FunctionBlock | AdsTypeCategory::Union =>
+            Shape::Map,
+        _ => Shape::Leaf,
     }
 }

@@ -7,8 +7,8 @@ pub returns-then-firsts-n : goal.returns-then-firsts-n
 returns-then-firsts-n c = search firsts_none
 
 -- src/lib.rt:94:9
-pub note_few-requires : goal.note_few-requires
-note_few-requires c = (search rules, search enough-bits, search firsts_none)
+pub note_class-requires : goal.note_class-requires
+note_class-requires c = (search rules, search enough-bits, search rules, search rules, search rules, search firsts_none)
 
 -- src/lib.rt:97:5
 pub note_many-requires : goal.note_many-requires

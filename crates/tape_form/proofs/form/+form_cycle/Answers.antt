@@ -9,26 +9,26 @@ ruleset members = (member-end, member-value, member-other)
 
 ruleset severals = (several_broken, several-end)
 
-pub array-loop-taken-init : goal.array-loop-taken-init
-array-loop-taken-init t c = (search rules, search rules, search several-start)
+pub array-loop-init : goal.array-loop-init
+array-loop-init t c = (search rules, search several-start)
 
 pub array-returns-in_default : goal.array-returns-in_default
 array-returns-in_default t c = search severals
 
-pub array-loop-taken-preserved : goal.array-loop-taken-preserved
-array-loop-taken-preserved t c = (search rules, search rules, search several-again)
+pub array-loop-preserved : goal.array-loop-preserved
+array-loop-preserved t c = (search rules, search several-again)
 
 pub array-returns : goal.array-returns
 array-returns t c = search severals
 
-pub map-loop-i-init : goal.map-loop-i-init
-map-loop-i-init t c = (search rules, search rules, search several-start)
+pub map-loop-init : goal.map-loop-init
+map-loop-init t c = (search rules, search several-start)
 
 pub map-returns-in_default : goal.map-returns-in_default
 map-returns-in_default t c = search severals
 
-pub map-loop-i-preserved : goal.map-loop-i-preserved
-map-loop-i-preserved t c = (search rules, search rules, search several-again)
+pub map-loop-preserved : goal.map-loop-preserved
+map-loop-preserved t c = (search rules, search several-again)
 
 pub map-returns : goal.map-returns
 map-returns t c = search severals

@@ -1,7 +1,7 @@
 -- The levels left fall from a value to the values in it. An array, a map and a member count as more than the value that they hold at the same level.
 -- A loop over elements or members has found what `several` finds after them.
 use mathlib.Core.Path.{◌≡◌}
-use Prim.Native.Nat.{◌+◌, ◌*◌, ◌-◌, ◌≤◌}
+use Prim.Native.Nat.{◌+◌, ◌*◌, ◌-◌}
 use Rattle.tape_form.specs.Known.{KnownTexts}
 use Rattle.tape_form.specs.Form.{form_ctx, several, member_at, value_at}
 use Rattle.tape_form.proofs.form.+form_cycle.Given as goal
@@ -18,14 +18,8 @@ decreases-member l = 3 * l.left + 1
 abbrev pub decreases-value : goal.decreases-value
 decreases-value l = 3 * l.left
 
-abbrev pub invariant-array-loop-taken : goal.invariant-array-loop-taken
-invariant-array-loop-taken l = (l.taken ≤ l.n) × KnownTexts l.text l.known × (several (form_ctx l.book l.tape l.text) (value_at (form_ctx l.book l.tape l.text) l.left) 2 (l.n - l.taken) l.here ≡ several (form_ctx l.book l.tape l.text) (value_at (form_ctx l.book l.tape l.text) l.left) 2 l.n l.initial.here)
+abbrev pub invariant-array-loop : goal.invariant-array-loop
+invariant-array-loop l = KnownTexts l.text l.known × (several (form_ctx l.book l.tape l.text) (value_at (form_ctx l.book l.tape l.text) l.left) 2 (l.n - l.counter) l.here ≡ several (form_ctx l.book l.tape l.text) (value_at (form_ctx l.book l.tape l.text) l.left) 2 l.n l.initial.here)
 
-abbrev pub decreases-array-loop-taken : goal.decreases-array-loop-taken
-decreases-array-loop-taken l = l.n - l.taken
-
-abbrev pub invariant-map-loop-i : goal.invariant-map-loop-i
-invariant-map-loop-i l = (l.i ≤ l.n) × KnownTexts l.text l.known × (several (form_ctx l.book l.tape l.text) (member_at (form_ctx l.book l.tape l.text) (value_at (form_ctx l.book l.tape l.text) l.left)) 5 (l.n - l.i) l.here ≡ several (form_ctx l.book l.tape l.text) (member_at (form_ctx l.book l.tape l.text) (value_at (form_ctx l.book l.tape l.text) l.left)) 5 l.n l.initial.here)
-
-abbrev pub decreases-map-loop-i : goal.decreases-map-loop-i
-decreases-map-loop-i l = l.n - l.i
+abbrev pub invariant-map-loop : goal.invariant-map-loop
+invariant-map-loop l = KnownTexts l.text l.known × (several (form_ctx l.book l.tape l.text) (member_at (form_ctx l.book l.tape l.text) (value_at (form_ctx l.book l.tape l.text) l.left)) 5 (l.n - l.counter) l.here ≡ several (form_ctx l.book l.tape l.text) (member_at (form_ctx l.book l.tape l.text) (value_at (form_ctx l.book l.tape l.text) l.left)) 5 l.n l.initial.here)

@@ -1,10 +1,10 @@
+use mathlib.Core.Path.{◌∙◌}
+use borrow.Author.Tests.{le-ltb}
 use Rattle.tape_form.proofs.Tests.{block-past, block-kind}
 use Rattle.tape_form.proofs.ranges.is_block.Goals as goal
 
-ruleset exits = (block-past, block-kind)
+pub returns-then-n-book : goal.returns-then-n-book
+returns-then-n-book c = search block-kind
 
-pub returns-then-blocks-n : goal.returns-then-blocks-n
-returns-then-blocks-n c = search exits
-
-pub returns : goal.returns
-returns c = search exits
+pub returns-else-n-book : goal.returns-else-n-book
+returns-else-n-book c = le-ltb _ _ c.if-n-book.false ∙ block-past _ _ _ c.if-n-book.false

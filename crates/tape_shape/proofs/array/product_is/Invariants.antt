@@ -1,9 +1,6 @@
-use Prim.Native.Nat.{◌-◌, ◌<◌}
+use Prim.Native.Nat.{◌-◌}
 use Rattle.tape_shape.proofs.Products.{Multiplied}
 use Rattle.tape_shape.proofs.array.product_is.Given as goal
 
 abbrev pub invariant-loop-d : goal.invariant-loop-d
-invariant-loop-d l = (0 < l.d) × Multiplied l.book l.t l.e l.d (l.dims - l.d) l.p
-
-abbrev pub decreases-loop-d : goal.decreases-loop-d
-decreases-loop-d l = l.dims - l.d
+invariant-loop-d l = Multiplied l.book l.t l.e l.d (l.dims - l.d) l.p
