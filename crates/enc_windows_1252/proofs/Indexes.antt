@@ -2,12 +2,12 @@
 use mathlib.Core.Path.{◌≡◌, refl, sym, ap, ◌∙◌}
 use mathlib.Core.Bool.{Bool, true, false, cond}
 use mathlib.Core.List.{List}
-use Prim.Native.Nat.{ℕ, zero, suc, ◌+◌, ◌-◌, ◌≤◌, ◌<◌}
+use Prim.Native.Nat.{ℕ, zero, suc, ◌+◌, ◌-◌, ◌/◌, ◌%◌, ◌≤◌, ◌<◌}
 use native.Mathlib.Nat.{add-zero, zero-add, suc-add}
 use native.Mathlib.Omega.{arith}
 use lib.ListN.{get_or}
 use lib.Dec.{ltb, eqb}
-use borrow.Author.Tests.{le-ltb, le-leb, lt-leb, eq-eqb, ne_eqb, eqb-true, ltb-true}
+use borrow.Author.Tests.{le-ltb, lt-ltb, le-leb, lt-leb, eq-eqb, ne_eqb, eqb-true, ltb-true, ltb-false}
 use Rattle.enc_windows_1252.specs.declared.Byte.{Byte}
 use Rattle.enc_windows_1252.specs.declared.Byte.TheVariants.{Is, None}
 use Rattle.enc_windows_1252.specs.Index.{listed_points, code_point, code_points, first_from, byte_of}
@@ -29,6 +29,22 @@ unfolding code_point
 own-high b h =
     let l : 0x80 ≤ b = omega arith in
     rw (le-leb 0x80 b l, le-ltb b 0xa0 h)
+
+-- the bytes 80h to 9Fh, and all others
+pub point_listed : (b p : ℕ) → b / 32 ≡ 4 → p ≡ get_or listed_points (b % 32) 0 → p ≡ code_point b
+unfolding code_point
+point_listed b p e q =
+    let l : 0x80 ≤ b = omega arith in
+    let u : b < 0xa0 = omega arith in
+    let d : b - 0x80 ≡ b % 32 = omega arith in
+    rw (le-leb 0x80 b l, lt-ltb b 0xa0 u, d) q
+
+pub point_own : (b : ℕ) → (b / 32 ≡ 4 → ⊥) → b ≡ code_point b
+point_own b n = by (ltb b 0x80) refl
+  where
+    by : (t : Bool) → ltb b 0x80 ≡ t → b ≡ code_point b
+    by true t = sym (own-low b (ltb-true b 0x80 t))
+    by false t = let l : 0x80 ≤ b = ltb-false b 0x80 t in sym (own-high b (omega (arith, n)))
 
 -- ---- the byte of a code point: the inverse
 

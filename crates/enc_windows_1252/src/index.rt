@@ -62,7 +62,6 @@ fn listed_point(byte: u8) -> u32
 }
 
 // The code point of a byte: its own number, except 80h to 9Fh.
-#[tactic(auto, unfolding(crate::specs::Index::code_point))]
 pub fn code_point(byte: u8) -> u32
     ensures { result ≡ code_point byte }
 {

@@ -1,10 +1,10 @@
 -- The time of day: hour, minute, second and nanosecond, and the nanoseconds since midnight. Assumes nothing.
-use mathlib.Core.Path.{◌≡◌, refl, sym, ap, ◌∙◌}
-use mathlib.Core.Bool.{Bool, true, false, cond, ◌&&◌}
-use Prim.Native.Nat.{ℕ, ◌+◌, ◌*◌, ◌/◌, ◌%◌, ◌≤◌, ◌<◌}
+use mathlib.Core.Path.{◌≡◌, refl}
+use mathlib.Core.Bool.{Bool, true, false, ◌&&◌}
+use Prim.Native.Nat.{ℕ, ◌+◌, ◌*◌, ◌/◌, ◌%◌, ◌<◌}
 use native.Mathlib.Omega.{arith}
-use lib.Dec.{eqb, leb, ltb}
-use borrow.Author.Tests.{ltb-true, lt-ltb, le-ltb}
+use lib.Dec.{ltb}
+use borrow.Author.Tests.{ltb-true, lt-ltb}
 use Rattle.time_calendar.specs.declared.Date.{Date}
 use Rattle.time_parts.specs.declared.Parts.{Parts}
 use Rattle.time_parts.specs.Parts.{day_length, parts_at, names_clock, clock_of}
@@ -58,26 +58,6 @@ module _ (p : Parts) (e : names_clock p ≡ true) where
 pub clock_of_is : (p : Parts) → ((p.hour * 60 + p.minute) * 60 + p.second) * 1_000_000_000 + p.nanosecond ≡ clock_of p
 unfolding clock_of
 clock_of_is p = refl
-
--- names_clock
-module _ (p : Parts) where
-  pub no_hour : 23 < p.hour → false ≡ names_clock p
-  unfolding names_clock
-  no_hour h = sym (rw (le-ltb p.hour 24 (omega arith)))
-
-  module _ (h : p.hour ≤ 23) where
-    pub no_minute : 59 < p.minute → false ≡ names_clock p
-    unfolding names_clock
-    no_minute m = sym (rw (lt-ltb p.hour 24 (omega arith), le-ltb p.minute 60 (omega arith)))
-
-    module _ (m : p.minute ≤ 59) where
-      pub no_second : 59 < p.second → false ≡ names_clock p
-      unfolding names_clock
-      no_second s = sym (rw (lt-ltb p.hour 24 (omega arith), lt-ltb p.minute 60 (omega arith), le-ltb p.second 60 (omega arith)))
-
-      pub by_nanosecond : p.second ≤ 59 → ltb p.nanosecond 1_000_000_000 ≡ names_clock p
-      unfolding names_clock
-      by_nanosecond s = sym (rw (lt-ltb p.hour 24 (omega arith), lt-ltb p.minute 60 (omega arith), lt-ltb p.second 60 (omega arith)))
 
 -- a time of day is less than a day
 pub clock_few : (p : Parts) → names_clock p ≡ true → clock_of p < day_length

@@ -4,7 +4,7 @@ use mathlib.Core.Bool.{Bool, true, false, cond, ◌&&◌}
 use mathlib.Core.List.{List}
 use Prim.Native.Nat.{ℕ, ◌+◌, ◌-◌, ◌*◌, ◌/◌, ◌%◌, ◌^◌, ◌≤◌, ◌<◌}
 use native.Mathlib.Omega.{arith}
-use lib.Dec.{eqb, leb, ltb}
+use lib.Dec.{eqb, leb}
 use borrow.Author.Tests.{lt-ltb, le-ltb, le-leb, lt-leb, eq-eqb, ne_eqb, leb-false}
 use Rattle.time_calendar.specs.declared.Date.{Date}
 use Rattle.time_calendar.specs.Calendar.{names_date, day_number, date_of}
@@ -85,19 +85,6 @@ parts_say name n y r e q = ap parts_numbers (q ∙ ap (λ (x : TimeType). time_p
 -- ---- from parts to the count
 
 module _ (p : Parts) where
-  pub some_year : (p.year ≡ 0 → ⊥) → false ≡ dateless p
-  unfolding dateless
-  some_year h = sym (rw (ne_eqb p.year 0 h))
-
-  module _ (y : p.year ≡ 0) where
-    pub some_month : (p.month ≡ 0 → ⊥) → false ≡ dateless p
-    unfolding dateless
-    some_month h = sym (rw (eq-eqb p.year 0 y, ne_eqb p.month 0 h))
-
-    pub by_day : p.month ≡ 0 → eqb p.day 0 ≡ dateless p
-    unfolding dateless
-    by_day m = sym (rw (eq-eqb p.year 0 y, eq-eqb p.month 0 m))
-
   -- the tests have been passed
   pub clock_ok : (b : Bool) → b ≡ names_clock p → b ≡ true → names_clock p ≡ true
   clock_ok b e h = sym e ∙ h
@@ -107,21 +94,6 @@ module _ (p : Parts) where
 
   pub clock_short : (b : Bool) → b ≡ names_clock p → b ≡ true → (n : ℕ) → n ≡ clock_of p → n < day_length
   clock_short b e h n q = omega (arith, q, clock_few p (clock_ok b e h))
-
-  -- clock_nanoseconds
-  module _ (a : Bool) (ea : a ≡ dateless p) where
-    pub clock_dated : a ≡ false → count.Refused ≡ clock_nanoseconds p
-    unfolding clock_nanoseconds
-    clock_dated h = sym (rw (← ea, h))
-
-    module _ (h : a ≡ true) (b : Bool) (eb : b ≡ names_clock p) where
-      pub clock_unnamed : b ≡ false → count.Refused ≡ clock_nanoseconds p
-      unfolding clock_nanoseconds
-      clock_unnamed k = sym (rw (← ea, h, ← eb, k))
-
-      pub clock_told : b ≡ true → (n : ℕ) → n ≡ clock_of p → count.Told n ≡ clock_nanoseconds p
-      unfolding clock_nanoseconds
-      clock_told k n e = sym (rw (← ea, h, ← eb, k, e))
 
   -- moment_nanoseconds
   pub moment_late : 2554 < p.year → count.Refused ≡ moment_nanoseconds p

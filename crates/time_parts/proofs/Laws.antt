@@ -1,11 +1,11 @@
 -- From a count to its parts and back. Assumes nothing.
-use mathlib.Core.Path.{◌≡◌, refl, sym, ap, ◌∙◌}
+use mathlib.Core.Path.{◌≡◌, refl, sym, ◌∙◌}
 use mathlib.Core.Bool.{Bool, true, false, cond, ◌&&◌}
 use mathlib.Core.List.{List}
 use Prim.Native.Nat.{ℕ, ◌+◌, ◌*◌, ◌/◌, ◌%◌, ◌≤◌, ◌<◌}
 use native.Mathlib.Omega.{arith}
 use lib.Dec.{eqb, leb, ltb}
-use borrow.Author.Tests.{ltb-true, ltb-false, leb-true, lt-ltb, le-leb, eq-eqb, eqb-true}
+use borrow.Author.Tests.{ltb-true, leb-true, lt-ltb, le-leb, eq-eqb, eqb-true}
 use Rattle.time_calendar.specs.declared.Date.{Date}
 use Rattle.time_calendar.specs.Calendar.{names_date, day_number, date_of}
 use Rattle.time_calendar.proofs.Dates.{names-is, date-named, date-number, number-date}
@@ -13,11 +13,10 @@ use Rattle.time_types.specs.declared.TimeType.{TimeType}
 use Rattle.time_types.specs.declared.TimeType.TheVariants as time
 use Rattle.time_types.specs.Types.{time_type_of}
 use Rattle.time_parts.specs.declared.Parts.{Parts}
-use Rattle.time_parts.specs.declared.PartsAnswer.{PartsAnswer}
 use Rattle.time_parts.specs.declared.PartsAnswer.TheVariants as parts
 use Rattle.time_parts.specs.declared.CountAnswer.{CountAnswer}
 use Rattle.time_parts.specs.declared.CountAnswer.TheVariants as count
-use Rattle.time_parts.specs.Parts.{day_length, parts_at, clock_parts, moment_parts, time_parts, parts_named, names_clock, clock_of, dateless, date_in, moment_of, count_in, clock_count, moment_count, time_count, count_named}
+use Rattle.time_parts.specs.Parts.{day_length, parts_at, clock_parts, moment_parts, time_parts, names_clock, clock_of, dateless, date_in, moment_of, count_in, clock_count, moment_count, time_count}
 use Rattle.time_parts.specs.Laws.{Exact}
 use Rattle.time_parts.proofs.Clock.{and_first, and_second, clock_few, clock_there, clock_back, hour_back, minute_back, second_back, nanosecond_back}
 

@@ -44,9 +44,9 @@ const HOUR: u64 = 3_600_000_000_000;
 const DAY: u64 = 86_400_000_000_000;
 
 // The largest numbers of 32 and of 64 bits.
-const MAX32: u64 = 0xFFFF_FFFF;
+const MAX32: u64 = u32::MAX as u64;
 
-const MAX64: u64 = 0xFFFF_FFFF_FFFF_FFFF;
+const MAX64: u64 = u64::MAX;
 
 // The last year, and the last day since 1970-01-01, that 64 bits of nanoseconds reach.
 const LAST_YEAR: u32 = 2554;
@@ -128,19 +128,11 @@ pub fn parts_of(name: &[u8], count: u64) -> PartsAnswer
 // ---- from parts to the count
 
 // Whether hour, minute, second and nanosecond name a time of day.
+#[tactic(auto, unfolding(crate::specs::Parts::names_clock))]
 fn names_clock(p: Parts) -> bool
     ensures { result ≡ names_clock p }
 {
-    if 23 < p.hour {
-        return false;
-    }
-    if 59 < p.minute {
-        return false;
-    }
-    if 59 < p.second {
-        return false;
-    }
-    p.nanosecond < 1_000_000_000
+    p.hour < 24 && p.minute < 60 && p.second < 60 && p.nanosecond < 1_000_000_000
 }
 
 // The nanoseconds since midnight.
@@ -153,26 +145,19 @@ fn clock_of(p: Parts) -> u64
     seconds * SECOND + (p.nanosecond as u64)
 }
 
+#[tactic(auto, unfolding(crate::specs::Parts::dateless))]
 fn is_dateless(p: Parts) -> bool
     ensures { result ≡ dateless p }
 {
-    if p.year != 0 {
-        return false;
-    }
-    if p.month != 0 {
-        return false;
-    }
-    p.day == 0
+    p.year == 0 && p.month == 0 && p.day == 0
 }
 
+#[tactic(auto, unfolding(crate::specs::Nanoseconds::clock_nanoseconds))]
 fn clock_nanoseconds(p: Parts) -> CountAnswer
     ensures { result ≡ clock_nanoseconds p }
 {
-    if is_dateless(p) {
-        if names_clock(p) {
-            return CountAnswer::Told(clock_of(p));
-        }
-        return CountAnswer::Refused;
+    if is_dateless(p) && names_clock(p) {
+        return CountAnswer::Told(clock_of(p));
     }
     CountAnswer::Refused
 }
