@@ -177,8 +177,8 @@ fn one_round(
     }
 }
 
-// The block from which the types are swept, by the rounds that are left after this one: the first new one, so that only what is needed is added. But where
-// types of ours alternate with lacking ones a round finds just one more; so in the end the whole book is swept.
+// The block from which the types are swept, by the rounds that are left after this one: the first new one, so that only what is needed is added.
+// But where types of ours alternate with lacking ones a round finds just one more; so in the end the whole book is swept.
 fn swept_from(book: &[u8], left: u32) -> u32
     requires { ValidBook book.now }
     ensures { result ≡ swept_from left book.now }
