@@ -1,23 +1,15 @@
 -- A leaf's value as a form, and a form as a trace. Assumes nothing.
-use mathlib.Core.Path.{◌≡◌, sym}
-use mathlib.Core.Bool.{Bool, cond}
+use mathlib.Core.Path.{◌≡◌}
 use mathlib.Core.List.{List}
-use Prim.Native.Nat.{ℕ, ◌-◌, ◌≤◌, ◌<◌}
-use native.Mathlib.Omega.{arith}
-use lib.ListN.{length, take, drop}
-use lib.Seq.{take_all}
-use lib.Ieee.{Float}
-use Rattle.enc_float.specs.Float.{real_bits}
-use Rattle.enc_float.specs.declared.Real.TheVariants as real
-use Rattle.enc_utf_8.specs.declared.TextEnd.{TextEnd}
+use Prim.Native.Nat.{ℕ}
+use lib.ListN.{take}
 use Rattle.enc_text_decoder.specs.Text.{decoded_by}
 use Rattle.enc_text_decoder.specs.declared.Decoder.{Decoder}
-use Rattle.tape.specs.Record.{new_record, declaring}
+use Rattle.tape.specs.Record.{declaring}
 use Rattle.tape.specs.declared.record.Record.{Record}
 use Rattle.type_category.specs.Category.{category_of}
 use Rattle.type_category.specs.declared.type_category.AdsTypeCategory.{AdsTypeCategory}
 use Rattle.de_leaves.specs.declared.leaf.LeafValue.{LeafValue}
-use Rattle.de_leaves.specs.declared.leaf.LeafValue.TheVariants as leaf
 use Rattle.de_leaves.specs.Leaf.{leaf_by, leaf_at}
 use Rattle.de_leaves.proofs.Leaves.{leaf-own}
 use Rattle.de_output.specs.declared.Step.{Step}
@@ -25,7 +17,7 @@ use Rattle.de_output.specs.Trace.{rec, text, one, From, Halts}
 use Rattle.de_output.proofs.Runs.{halted}
 use Rattle.de_leaf_output.specs.declared.LeafForm.{LeafForm}
 use Rattle.de_leaf_output.specs.declared.LeafForm.TheVariants as form
-use Rattle.de_leaf_output.specs.Leaves.{ends_at, end_byte, form_of, trace_of}
+use Rattle.de_leaf_output.specs.Leaves.{form_of, trace_of}
 
 module _ (m : ℕ) (mem : List ℕ) {tape txt : List ℕ} {s r : Step} (v : LeafValue) (f : LeafForm) (q : f ≡ form_of v) where
   pub leaf-record : {tape' txt' : List ℕ} (x y : Record) → f ≡ form.Record x → y ≡ declaring m x → From (one (rec y)) tape txt s r tape' txt' → From (trace_of m v mem) tape txt s r tape' txt'

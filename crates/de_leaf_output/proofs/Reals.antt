@@ -1,6 +1,6 @@
 -- A real on the tape: the trace of a type with id Real32 (4) over 4 bytes is one record of kind 9, of Real64 (5) over 8 bytes one of kind 10;
 -- B is the little-endian number of the bytes, whatever they are, NaNs included. Assumes nothing.
-use mathlib.Core.Path.{◌≡◌, refl, ap, ◌∙◌}
+use mathlib.Core.Path.{◌≡◌, refl, ◌∙◌}
 use mathlib.Core.List.{List}
 use Prim.Native.Nat.{ℕ, ◌%◌, ◌^◌, ◌<◌}
 use native.Mathlib.Omega.{arith}

@@ -46,7 +46,8 @@ use Rattle.ser.specs.Write.{WriteCtx, Outcome, went, refused, ◌then_writes◌,
 use Rattle.ser.specs.Call.{type_write, root_write_by, root_write, book_write, write_answer_of}
 use Rattle.ser_laws.specs.Laws.{EndsAt, FormedEnds, SixteenIsForm}
 use Rattle.ser_laws.proofs.LeafForm.{Mild, mild_leaf}
-use Rattle.ser_laws.proofs.Plain.{different, and_left}
+use Rattle.ser_laws.proofs.Plain.{different}
+use Rattle.std.proofs.lemmas.Bool.{and_parts}
 
 -- ---- a walk that ends at a place and is not refused with 16
 
@@ -114,23 +115,23 @@ passed false p next h = broken_at h
 
 only-kind : (k : ℕ) (r : Record) → only_a k r ≡ true → r.kind ≡ k
 unfolding only_a
-only-kind k r h = eqb-true r.kind k (and_left (eqb r.kind k) _ h)
+only-kind k r h = eqb-true r.kind k (and_parts (eqb r.kind k) _ h).0
 
 empty-kind : (k : ℕ) (r : Record) → empty k r ≡ true → r.kind ≡ k
 unfolding empty
-empty-kind k r h = only-kind k r (and_left (only_a k r) _ h)
+empty-kind k r h = only-kind k r (and_parts (only_a k r) _ h).0
 
 closes-kind : (k : ℕ) (r : Record) → closes k r ≡ true → r.kind ≡ k
 unfolding closes
-closes-kind k r h = empty-kind k r (and_left (empty k r) _ h)
+closes-kind k r h = empty-kind k r (and_parts (empty k r) _ h).0
 
 names-kind : (book : List ℕ) (k kind : ℕ) (r : Record) → names_block book k kind r ≡ true → r.kind ≡ k
 unfolding names_block
-names-kind book k kind r h = only-kind k r (and_left (only_a k r) _ h)
+names-kind book k kind r h = only-kind k r (and_parts (only_a k r) _ h).0
 
 key-kind : (book : List ℕ) (r : Record) → is_key book r ≡ true → r.kind ≡ 4
 unfolding is_key
-key-kind book r h = names-kind book 4 2 r (and_left (names_block book 4 2 r) _ h)
+key-kind book r h = names-kind book 4 2 r (and_parts (names_block book 4 2 r) _ h).0
 
 opens-other : (book : List ℕ) (k : ℕ) (r : Record) → (r.kind ≡ k → ⊥) → opens book k r ≡ false
 unfolding opens only_a

@@ -35,7 +35,8 @@ use Rattle.tape_array_elements.specs.Element.{whole}
 use Rattle.de.specs.Walk.{ctx, typed_of}
 use Rattle.de.specs.Read.{root_by, root_trace, read_trace}
 use Rattle.ser_laws.specs.Laws.{ReadIsFormed}
-use Rattle.ser_laws.proofs.Plain.{different, and_right}
+use Rattle.ser_laws.proofs.Plain.{different}
+use Rattle.std.proofs.lemmas.Bool.{and_parts}
 use Rattle.ser_laws.proofs.ReadTree.{Stands, Value, Emits, bytes_take, base-typed, walk-emits}
 
 -- ---- a trace
@@ -88,7 +89,7 @@ fits-size (x ∷ xs) room h = let l = leb-true (0 + length (x ∷ xs)) room h in
 
 fits-text : (es : List TapeEvent) (tape_room text_room : ℕ) → fits es 0 0 tape_room text_room ≡ true → length (text_bytes es) ≤ text_room
 unfolding fits
-fits-text es tape_room text_room h = fits-size (text_bytes es) text_room (and_right (fits_in (tape_bytes 0 es) 0 tape_room) _ h)
+fits-text es tape_room text_room h = fits-size (text_bytes es) text_room (and_parts (fits_in (tape_bytes 0 es) 0 tape_room) _ h).1
 
 -- whole records
 module _ (book buffer : List ℕ) (es : List TapeEvent) (v : Value book buffer 64 0 es) where

@@ -59,7 +59,8 @@ use Rattle.ser_leaf.specs.declared.Target.{Target}
 use Rattle.ser_leaf.specs.declared.Target.TheVariants as target
 use Rattle.ser_leaf.specs.Leaf.{Leaf, holds, exactly, bool_write, real_id, real_bytes, real_write, integer_by, pointer_write, target_of, integer_write, entry_by, entry_leaf, enum_write, padded, string_bytes, text_by, text_write, leaf_write_by, count_leaf, leaf_for}
 use Rattle.ser_laws.specs.Trip.{zeros_after, is_whole, text_kept, entry_kept, leaf_kept}
-use Rattle.ser_laws.proofs.Plain.{different, and_left, and_right}
+use Rattle.ser_laws.proofs.Plain.{different}
+use Rattle.std.proofs.lemmas.Bool.{and_parts}
 use Rattle.ser_laws.proofs.ReadLeaf.{FineValue, read_fine, enum-fine, bits_small}
 use Rattle.ser_laws.proofs.WideTrip.{wide-again}
 use Rattle.ser_laws.proofs.TextId.{text_id}
@@ -269,8 +270,8 @@ module _ (book buffer : List ℕ) (decl : ℕ) (below : decl < 2 ^ 32) (width t 
   padded-back : (enc : List ℕ) (n least : ℕ) → enc ≡ take n mem → zeros_after n least mem ≡ true → padded enc least mem ≡ holds mem
   unfolding padded zeros_after
   padded-back enc n least e h =
-      let l = leb-true (n + least) (length mem) (and_left (leb (n + least) (length mem)) _ h) in
-      let z : drop n mem ≡ replicate (length mem - n) 0 = same_eq _ _ (and_right (leb (n + least) (length mem)) _ h) in
+      let l = leb-true (n + least) (length mem) (and_parts (leb (n + least) (length mem)) _ h).0 in
+      let z : drop n mem ≡ replicate (length mem - n) 0 = same_eq _ _ (and_parts (leb (n + least) (length mem)) _ h).1 in
       let q : length enc ≡ n = ap length e ∙ length-take-le n mem (omega arith) in
       let y : leb (length enc + least) (length mem) ≡ true = le-leb (length enc + least) (length mem) (omega (arith, q, l)) in
       rw (y, q, ← z, e) (ap holds (take-append-drop n mem))
@@ -322,7 +323,7 @@ module _ (book buffer : List ℕ) (decl : ℕ) (below : decl < 2 ^ 32) (width t 
     goes-marked end e m =
         record {
           goes = λ h.
-              goes-one-text _ _ (end-small end) (marked-back (ends_at end) e m (and_left (zeros_after (ends_at end) 1 mem) _ h) (and_right (zeros_after (ends_at end) 1 mem) _ h));
+              goes-one-text _ _ (end-small end) (marked-back (ends_at end) e m (and_parts (zeros_after (ends_at end) 1 mem) _ h).0 (and_parts (zeros_after (ends_at end) 1 mem) _ h).1);
         }
 
     -- a STRING, by its mark
@@ -336,7 +337,7 @@ module _ (book buffer : List ℕ) (decl : ℕ) (below : decl < 2 ^ 32) (width t 
     goes-wide end e =
         record {
           goes = λ h.
-              goes-one-text _ _ (end-small end) (wide_back (ends_at end) e (and_left (zeros_after (ends_at end) 2 mem) _ h) (and_right (zeros_after (ends_at end) 2 mem) _ h));
+              goes-one-text _ _ (end-small end) (wide_back (ends_at end) e (and_parts (zeros_after (ends_at end) 2 mem) _ h).0 (and_parts (zeros_after (ends_at end) 2 mem) _ h).1);
         }
 
     goes-text : (type_id_of book t ≡ 30) ⊎ (type_id_of book t ≡ 31) → Goes (leaves.text_leaf book t mem)

@@ -47,7 +47,8 @@ use Rattle.ser_leaf.specs.Leaf.{leaf_for}
 use Rattle.ser.specs.Write as ser
 use Rattle.ser.specs.Write.{Outcome, went}
 use Rattle.ser_laws.specs.Trip as trip
-use Rattle.ser_laws.proofs.Plain.{different, and_left, and_right}
+use Rattle.ser_laws.proofs.Plain.{different}
+use Rattle.std.proofs.lemmas.Bool.{and_parts}
 use Rattle.ser_laws.proofs.ReadTree.{Emits, emits-refused, emits_then, emits-after, GoodType, TypedField, field-typed, bytes_take, u32-small}
 use Rattle.ser_laws.proofs.TripLeaf.{LeafBack, leaf-back, rec_of, held_of}
 
@@ -219,11 +220,11 @@ module _ (book buffer tape : List ℕ) where
       members-back t mem b f (suc k) l h =
           let first : Bool = trip.finds f (field_named book t (name_of book f)) in
           let rest : Bool = trip.field_kept kept mem (resolve_field book width f) in
-          let g = and_right first _ h in
+          let g = (and_parts first _ h).1 in
           let z : f + 0 ≡ f = omega arith in
           emits_then book buffer (Back (ser.key_of write sc t) mem) (Back (ser.keys_from write sc t k) mem) _ _ _
-          (member_back t mem b f (rw z at (l 0 (omega arith))) (and_left first _ h) (and_left rest _ g))
-          (members-back t mem b (f + 1) k (λ j m. let e : f + suc j ≡ f + 1 + j = omega arith in rw e at (l (suc j) (omega arith))) (and_right rest _ g))
+          (member_back t mem b f (rw z at (l 0 (omega arith))) (and_parts first _ h).0 (and_parts rest _ g).0)
+          (members-back t mem b (f + 1) k (λ j m. let e : f + suc j ≡ f + 1 + j = omega arith in rw e at (l (suc j) (omega arith))) (and_parts rest _ g).1)
           (λ from es fs x y. back-then (ser.key_of write sc t) (ser.keys_from write sc t k) mem from es fs x y)
 
       map_back : (x : Typed) → GoodType book x → shape_of (category_of book width x.resolved) ≡ shape.Map → (mem : List ℕ) → Bytes mem
@@ -255,8 +256,8 @@ module _ (book buffer tape : List ℕ) where
           emits_then book buffer (Back (λ cur bytes. ser.placed at stride bytes (write (plain_item i) cur (cut at stride bytes))) mem)
           (Back (ser.elements_write write sc (plain_item i) stride n (index + 1) (at + stride) k) mem) _ _ _
           (emits-map (Back (write (plain_item i)) (cut at stride mem)) _ _ (λ from es x. back-placed (write (plain_item i)) at stride mem from es x)
-          (ih i _ g (bytes_take stride (drop at mem) (bytes_drop at mem b)) (and_left first _ h)))
-          (elements-back i g stride n mem b (index + 1) (at + stride) k (omega (arith, e)) (and_right first _ h))
+          (ih i _ g (bytes_take stride (drop at mem) (bytes_drop at mem b)) (and_parts first _ h).0))
+          (elements-back i g stride n mem b (index + 1) (at + stride) k (omega (arith, e)) (and_parts first _ h).1)
           (λ from es fs x y. back_as _ _ mem (λ cur. rw (lt-ltb index n (omega (arith, e)))) from (es ++ fs) (back-then _ _ mem from es fs x y))
 
       element_good : (d t : ℕ) (e : Typed) → GoodType book e → is_type book t ≡ true → Good (element_item book d t e)

@@ -16,7 +16,8 @@ use Rattle.enc_utf_16.specs.Decode as decode
 use Rattle.enc_utf_16.specs.Encode.{unit_bytes, leading_of, trailing_of, utf16_of, encode16_text}
 use Rattle.enc_utf_16_scalar.proofs.Decodes.{odd_byte, plain-unit, trailing_unit, leading_end, leading_odd, leading_pair, leading-restored}
 use Rattle.enc_utf_16_encoder.proofs.Encodes.{one_unit, two_units}
-use Rattle.ser_laws.proofs.Plain.{different, and_left, and_right}
+use Rattle.ser_laws.proofs.Plain.{different}
+use Rattle.std.proofs.lemmas.Bool.{and_parts}
 
 -- ---- code units
 
@@ -33,7 +34,7 @@ record Between (lo hi u : ℕ) : Type 0 where
   upto : u ≤ hi
 
 between : (lo hi u : ℕ) → (leb lo u && leb u hi) ≡ true → Between lo hi u
-between lo hi u h = record { from = leb-true lo u (and_left (leb lo u) _ h); upto = leb-true u hi (and_right (leb lo u) _ h) }
+between lo hi u h = record { from = leb-true lo u (and_parts (leb lo u) _ h).0; upto = leb-true u hi (and_parts (leb lo u) _ h).1 }
 
 past : (lo hi u : ℕ) → (leb lo u && leb u hi) ≡ false → lo ≤ u → hi < u
 past lo hi u h l = leb-false u hi (rw (le-leb lo u l) at h)
