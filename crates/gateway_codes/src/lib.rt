@@ -32,8 +32,5 @@ pub fn found(f: Found) -> u32
 pub fn truth(b: bool) -> u8
     ensures { result ≡ truth_number b }
 {
-    if b {
-        return 1;
-    }
-    0
+    b as u8
 }

@@ -8,6 +8,7 @@ use de_output::ReadAnswer;
 use gateway_lent_values::{done_2, lacks};
 
 // The numbers of records and of text bytes, 7 with its block, or another refusal.
+#[tactic(auto, unfolding(de_output::specs::Answer::read_numbers, gateway_lent_values::specs::Values::laid))]
 pub fn give_read(answer: ReadAnswer, values: &mut [u64]) -> u8
     ensures { Gives (read_numbers answer) values.old result values.new }
 {

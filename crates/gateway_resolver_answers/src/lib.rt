@@ -11,6 +11,7 @@ use resolve_field_types::FieldsAnswer;
 use resolvers::{Resolution, Resolved};
 
 // The block that a chain in a checked book ends at, 7 with its block, or 8.
+#[tactic(auto, unfolding(resolvers::specs::Resolve::resolved_numbers, gateway_lent_values::specs::Values::laid))]
 pub fn give_resolved(answer: Resolved, values: &mut [u64]) -> u8
     ensures { Gives (resolved_numbers answer) values.old result values.new }
 {
@@ -22,6 +23,7 @@ pub fn give_resolved(answer: Resolved, values: &mut [u64]) -> u8
 }
 
 // The block that the root comes to, 7 with its block, or another refusal.
+#[tactic(auto, unfolding(resolvers::specs::Calls::resolution_numbers, gateway_lent_values::specs::Values::laid))]
 pub fn give_resolution(answer: Resolution, values: &mut [u64]) -> u8
     ensures { Gives (resolution_numbers answer) values.old result values.new }
 {
@@ -33,6 +35,7 @@ pub fn give_resolution(answer: Resolution, values: &mut [u64]) -> u8
 }
 
 // The number of fields, 7 with its block, or another refusal.
+#[tactic(auto, unfolding(resolve_field_types::specs::Calls::fields_numbers, gateway_lent_values::specs::Values::laid))]
 pub fn give_fields(answer: FieldsAnswer, values: &mut [u64]) -> u8
     ensures { Gives (fields_numbers answer) values.old result values.new }
 {

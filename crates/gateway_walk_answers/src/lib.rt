@@ -11,6 +11,7 @@ use resolve_missing_types::Missing;
 use resolve_read_modify_write::Rmw;
 
 // 1 for yes and 0 for no, 7 with its block, or another refusal.
+#[tactic(auto, unfolding(resolve_read_modify_write::specs::Calls::rmw_numbers, gateway_lent_values::specs::Values::laid))]
 pub fn give_rmw(answer: Rmw, values: &mut [u64]) -> u8
     ensures { Gives (rmw_numbers answer) values.old result values.new }
 {
@@ -23,6 +24,7 @@ pub fn give_rmw(answer: Rmw, values: &mut [u64]) -> u8
 }
 
 // How many blocks are listed, 1 where the walk is whole, else 0, and how many names were met; or the refusal.
+#[tactic(auto, unfolding(resolve_missing_types::specs::Calls::missing_numbers, gateway_lent_values::specs::Values::laid))]
 pub fn give_missing(answer: Missing, values: &mut [u64]) -> u8
     ensures { Gives (missing_numbers answer) values.old result values.new }
 {

@@ -2,8 +2,8 @@
 // What does not fit is left out, and the answer then differs from the recorded one.
 use cases_file::input::first;
 
-// At most two numbers, each in as many bytes as its length says, low byte first.
-#[derive(Clone, Copy)]
+// At most two numbers, each in as many bytes as its length says, low byte first. No bytes where there is nothing to say.
+#[derive(Clone, Copy, Default)]
 pub struct Answered {
     pub head: u64,
     pub head_len: usize,
@@ -11,13 +11,12 @@ pub struct Answered {
     pub value_len: usize,
 }
 
-// A number alone, of no bytes where there is nothing to say.
+// A number alone.
 pub(crate) fn number(value: u64, len: usize) -> Answered {
     Answered {
-        head: 0,
-        head_len: 0,
         value,
         value_len: len,
+        ..Answered::default()
     }
 }
 
@@ -48,40 +47,32 @@ pub(crate) fn put(answer: &mut [u8], reply: Answered) -> usize {
 }
 
 pub(crate) fn put_byte(answer: &mut [u8], at: usize, byte: u8) -> usize {
-    if at < answer.len() {
-        answer[at] = byte;
-        return at + 1;
-    }
-    at
+    put_bytes(answer, at, &[byte])
 }
 
 pub(crate) fn put_bytes(answer: &mut [u8], at: usize, bytes: &[u8]) -> usize {
-    let mut to = at;
-    let mut i = 0;
-    while i < bytes.len() {
-        to = put_byte(answer, to, bytes[i]);
-        i += 1;
-    }
-    to
+    let Some(room) = answer.get_mut(at..) else {
+        return at;
+    };
+    let n = bytes.len().min(room.len());
+    room[..n].copy_from_slice(&bytes[..n]);
+    at + n
 }
 
 pub(crate) fn put_zeros(answer: &mut [u8], at: usize, n: usize) -> usize {
-    let mut to = at;
-    let mut i = 0;
-    while i < n {
-        to = put_byte(answer, to, 0);
-        i += 1;
-    }
-    to
+    let Some(room) = answer.get_mut(at..) else {
+        return at;
+    };
+    let n = n.min(room.len());
+    room[..n].fill(0);
+    at + n
 }
 
 // The low bytes of a number, at most eight of them, low byte first.
 pub(crate) fn put_number(answer: &mut [u8], at: usize, value: u64, len: usize) -> usize {
-    let mut bytes = [0u8; 8];
-    enc_number::le::le_store(value, &mut bytes);
-    put_bytes(answer, at, first(&bytes, len))
+    put_bytes(answer, at, first(&value.to_le_bytes(), len))
 }
 
 pub(crate) fn put_u32(answer: &mut [u8], at: usize, value: u32) -> usize {
-    put_number(answer, at, value as u64, 4)
+    put_bytes(answer, at, &value.to_le_bytes())
 }

@@ -1,6 +1,6 @@
 // The operations on a type book that answer with a number, by their numbers. The book is kept in a buffer from case to case:
 // `len` is its length there.
-use crate::answer::{Answered, byte, byte_and, not_found, number, put_byte, put_number};
+use crate::answer::{Answered, byte, byte_and, not_found, number, put_byte, put_u32};
 use crate::packing::unpack;
 use crate::sums::{SUM, put_sum};
 use cases_file::input::{byte_at, first, from, u32_at, u64_at};
@@ -29,7 +29,7 @@ pub(crate) fn run(operation: u8, input: &[u8], book: &mut [u8], len: usize) -> A
             byte_at(input, 0),
             u32_at(input, 1) as u64,
         )),
-        _ => number(0, 0),
+        _ => Answered::default(),
     }
 }
 
@@ -46,14 +46,7 @@ fn refusal_of_root(check: RootCheck) -> u8 {
     }
 }
 
-// Makes the sum of the block at a place right, where that is asked for.
-fn mend(book: &mut [u8], block: u32, is_asked: bool) {
-    if is_asked {
-        put_sum(book, block);
-    }
-}
-
-// The check of the book with one byte changed; after it the book is as before.
+// The check of the book with one byte changed, and where that is asked for its block's sum made right; after it the book is as before.
 fn changed(input: &[u8], book: &mut [u8], len: usize) -> u8 {
     let place = u32_at(input, 0) as usize;
     let block = u32_at(input, 0) / 512 * 512;
@@ -61,9 +54,11 @@ fn changed(input: &[u8], book: &mut [u8], len: usize) -> u8 {
     let old = byte_at(book, place);
     let sum = u32_at(book, sum_at);
     put_byte(book, place, byte_at(input, 4));
-    mend(book, block, byte_at(input, 5) == 1);
+    if byte_at(input, 5) == 1 {
+        put_sum(book, block);
+    }
     let check = type_book_check::check_book(book, len);
-    put_number(book, sum_at, sum as u64, 4);
+    put_u32(book, sum_at, sum);
     put_byte(book, place, old);
     type_book_check::refusal_of(check)
 }

@@ -1,6 +1,6 @@
 // The operations of the crates `enc_utf_8`, `enc_windows_1252` and `enc_utf_16`, by their numbers. Each takes a case's input and a lent buffer
 // `out`, which stands in the answer after the reply.
-use crate::answer::{Answered, byte, byte_and, number, put_number};
+use crate::answer::{Answered, byte, byte_and, number, put_number, put_u32};
 use cases_file::input::{byte_at, from, u16_at, u32_at};
 use enc_utf_8::{Char, Put, Room, TextEnd};
 use enc_windows_1252::Byte;
@@ -36,7 +36,7 @@ fn encoded(found: Byte) -> Answered {
     }
 }
 
-pub(crate) fn run_windows_1252(operation: u8, input: &[u8], out: &mut [u8]) -> Answered {
+pub(crate) fn run(operation: u8, input: &[u8], out: &mut [u8]) -> Answered {
     match operation {
         1 => number(enc_windows_1252::code_point(byte_at(input, 0)) as u64, 4),
         2 => encoded(enc_windows_1252::byte_of(u32_at(input, 0))),
@@ -45,66 +45,31 @@ pub(crate) fn run_windows_1252(operation: u8, input: &[u8], out: &mut [u8]) -> A
         5 => written(enc_windows_1252_decoder::decode(from(input, 2), out, u16_at(input, 0))),
         6 => room(enc_windows_1252_encoder::encoded_len(from(input, 2), u16_at(input, 0))),
         7 => written(enc_windows_1252_encoder::encode(input, out)),
-        _ => number(0, 0),
-    }
-}
-
-pub(crate) fn run_utf_16(operation: u8, input: &[u8], out: &mut [u8]) -> Answered {
-    match operation {
         8 => end(enc_utf_16::wstring_end(input)),
         9 => room(enc_utf_16_decoder::decoded_len(from(input, 2), u16_at(input, 0))),
         10 => written(enc_utf_16_decoder::decode(from(input, 2), out, u16_at(input, 0))),
         11 => room(enc_utf_16_encoder::encoded_len(from(input, 2), u16_at(input, 0))),
         12 => written(enc_utf_16_encoder::encode(input, out)),
-        _ => number(0, 0),
-    }
-}
-
-pub(crate) fn run_utf_8(operation: u8, input: &[u8], out: &mut [u8]) -> Answered {
-    match operation {
         13 => byte(enc_utf_8_decoder::well_formed(input) as u8),
         15 => written(enc_utf_8_encoder::put(out, u16_at(input, 0), u32_at(input, 2))),
         16 => number(enc_utf_8_encoder::utf8_len(u32_at(input, 0)) as u64, 1),
-        _ => number(0, 0),
+        _ => Answered::default(),
     }
 }
 
-// Where the next code point of a text begins, and where its answer goes.
-#[derive(Clone, Copy)]
-struct Place {
-    at: usize,
-    to: usize,
-}
-
-// A code point, and the place after it.
-fn put_item(answer: &mut [u8], to: usize, code: u32, next: usize) -> Place {
-    let after = put_number(answer, to, code as u64, 4);
-    Place {
-        at: next,
-        to: put_number(answer, after, next as u64, 4),
-    }
-}
-
-// The code point at a place or FFFFFFFFh for an ill_formed part, with the place after it.
-fn item(text: &[u8], at: usize, answer: &mut [u8], to: usize) -> Place {
-    match enc_utf_8_decoder::next(text, at) {
-        Char::Code(code, next) => put_item(answer, to, code, next),
-        Char::Error(next) => put_item(answer, to, 0xffff_ffff, next),
-        Char::End => Place { at, to },
-    }
-}
-
-// All the code points and ill_formed parts of a text, in order.
+// All the code points of a text in order, FFFFFFFFh for an ill-formed part, each with the place after it.
 pub(crate) fn items(text: &[u8], answer: &mut [u8]) -> usize {
     let mut at = 0;
     let mut to = 0;
     while at < text.len() {
-        let place = item(text, at, answer, to);
-        to = place.to;
-        if place.at <= at {
-            return to;
-        }
-        at = place.at;
+        let (code, next) = match enc_utf_8_decoder::next(text, at) {
+            Char::Code(code, next) => (code, next),
+            Char::Error(next) => (0xffff_ffff, next),
+            Char::End => break,
+        };
+        to = put_u32(answer, to, code);
+        to = put_number(answer, to, next as u64, 4);
+        at = next;
     }
     to
 }

@@ -1,6 +1,8 @@
 // The groups of byte strings whose texts in UTF-8 are recorded as one sum each: made, decoded or read, and summed.
 // tools/record_marked_strings.py makes the same groups, and says what a group's sum is.
-use crate::answer::{Answered, number, put_byte};
+ghost use Rattle.std.specs.Prelude.{◌<◌};
+
+use crate::answer::{Answered, number};
 use cases_file::input::{byte_at, first, u64_at};
 use de_output::ReadAnswer;
 use enc_utf_8::{Put, Room};
@@ -10,48 +12,38 @@ const LONGEST: usize = 40;
 
 const ROOM: usize = 120;
 
-// The sum of no texts.
+// The sum of no texts, and what it is multiplied with for each byte.
 const START: u64 = 0xcbf2_9ce4_8422_2325;
 
-const HALF: u64 = 0x1_0000_0000;
+const PRIME: u64 = 0x100_0000_01b3;
 
 // The decoder over a group, or the reader over the same group and the kept book.
 pub(crate) fn run(operation: u8, input: &[u8], book: &[u8]) -> Answered {
-    match operation {
-        17 => number(pairs(byte_at(input, 0), first(book, 0)), 8),
-        18 => number(leads(byte_at(input, 0), first(book, 0)), 8),
-        19 => number(random(u64_at(input, 0), first(book, 0)), 8),
-        20 => number(pairs(byte_at(input, 0), book), 8),
-        21 => number(leads(byte_at(input, 0), book), 8),
-        22 => number(random(u64_at(input, 0), book), 8),
-        _ => number(0, 0),
-    }
+    let sum = match operation {
+        17 => pairs(byte_at(input, 0), None),
+        18 => leads(byte_at(input, 0), None),
+        19 => random(u64_at(input, 0), None),
+        20 => pairs(byte_at(input, 0), Some(book)),
+        21 => leads(byte_at(input, 0), Some(book)),
+        22 => random(u64_at(input, 0), Some(book)),
+        _ => return Answered::default(),
+    };
+    number(sum, 8)
 }
 
 // ---- the text of a byte string
 
 // The text in as much room as the decoder itself asks for. A text that isn't written counts as empty, which differs from what is recorded.
-fn decoded_in(bytes: &[u8], text: &mut [u8], n: usize) -> usize {
-    if n <= text.len() {
-        match enc_utf_8_replacing::decode(bytes, &mut text[0..n], 0) {
-            Put::Next(end) => {
-                if end == n {
-                    return n;
-                }
-                return 0;
-            }
-            Put::Full => {
-                return 0;
-            }
-        }
-    }
-    0
-}
-
 fn decoded(bytes: &[u8], text: &mut [u8]) -> usize {
-    match enc_utf_8_replacing::decoded_len(bytes, text.len()) {
-        Room::Fits(n) => decoded_in(bytes, text, n),
-        Room::Over => 0,
+    let Room::Fits(n) = enc_utf_8_replacing::decoded_len(bytes, text.len()) else {
+        return 0;
+    };
+    let Some(text) = text.get_mut(..n) else {
+        return 0;
+    };
+    match enc_utf_8_replacing::decode(bytes, text, 0) {
+        Put::Next(end) if end == n => n,
+        _ => 0,
     }
 }
 
@@ -60,117 +52,80 @@ fn read(memory: &[u8], book: &[u8], text: &mut [u8]) -> usize {
     let mut tape = [0u8; 24];
     match de::deserializer::read(book, book.len(), 8, 0, memory, &mut tape, text) {
         ReadAnswer::Done(_, n) => n,
-        ReadAnswer::NotFound(_) => 0,
-        ReadAnswer::Refused(_) => 0,
+        _ => 0,
     }
 }
 
 // The text of the first n bytes where there is no book, else of all as a memory.
-fn text_of(bytes: &[u8], n: usize, book: &[u8], text: &mut [u8]) -> usize {
-    if book.len() == 0 {
-        return decoded(first(bytes, n), text);
+fn text_of(bytes: &[u8], n: usize, book: Option<&[u8]>, text: &mut [u8]) -> usize {
+    match book {
+        None => decoded(first(bytes, n), text),
+        Some(book) => read(bytes, book, text),
     }
-    read(bytes, book, text)
 }
 
 // ---- sums
 
-// The product with 2^40 + 1B3h, without what passes 64 bits.
-fn times_prime(x: u64) -> u64 {
-    let high = x / HALF * 0x1b3 + x % HALF * 0x100;
-    std::num::wrapping_add_u64(high % HALF * HALF, x % HALF * 0x1b3)
-}
-
 fn with_byte(sum: u64, byte: u8) -> u64 {
-    times_prime(sum ^ byte as u64)
-}
-
-fn with_bytes(start: u64, bytes: &[u8]) -> u64 {
-    let mut sum = start;
-    let mut i = 0;
-    while i < bytes.len() {
-        sum = with_byte(sum, bytes[i]);
-        i += 1;
-    }
-    sum
+    (sum ^ byte as u64).wrapping_mul(PRIME)
 }
 
 // A sum with the text of one more byte string.
-fn with_text(sum: u64, bytes: &[u8], n: usize, book: &[u8]) -> u64 {
+fn with_text(sum: u64, bytes: &[u8], n: usize, book: Option<&[u8]>) -> u64 {
     let mut text = [0u8; ROOM];
     let len = text_of(bytes, n, book, &mut text);
-    with_byte(with_bytes(sum, first(&text, len)), 0xff)
+    let sum = first(&text, len)
+        .iter()
+        .fold(sum, |sum, byte| with_byte(sum, *byte));
+    with_byte(sum, 0xff)
 }
 
 // ---- every second byte
 
-fn pair(sum: u64, a: u8, b: u8, book: &[u8]) -> u64 {
+fn pair(sum: u64, a: u8, b: u8, book: Option<&[u8]>) -> u64 {
     let mut bytes = [0u8; LONGEST];
     bytes[0] = a;
     bytes[1] = b;
     with_text(sum, &bytes, 2, book)
 }
 
-fn pairs(a: u8, book: &[u8]) -> u64 {
+fn pairs(a: u8, book: Option<&[u8]>) -> u64 {
     let mut sum = START;
-    let mut b: u32 = 0;
-    while b < 256 {
-        sum = pair(sum, a, (b % 256) as u8, book);
-        b += 1;
+    for b in 0..=255 {
+        sum = pair(sum, a, b, book);
     }
     sum
 }
 
 // ---- every class of second, third and fourth byte
 
-fn second(class: u32) -> u8 {
-    match class {
-        0 => 0x41,
-        1 => 0x7f,
-        2 => 0x80,
-        3 => 0x8f,
-        4 => 0x90,
-        5 => 0x9f,
-        6 => 0xa0,
-        7 => 0xbf,
-        8 => 0xc0,
-        9 => 0xe2,
-        _ => 0xff,
-    }
-}
+const SECOND: [u8; 11] = [
+    0x41, 0x7f, 0x80, 0x8f, 0x90, 0x9f, 0xa0, 0xbf, 0xc0, 0xe2, 0xff,
+];
 
-fn later(class: u32) -> u8 {
-    match class {
-        0 => 0x41,
-        1 => 0x7f,
-        2 => 0x80,
-        3 => 0xbf,
-        4 => 0xc0,
-        _ => 0xf1,
-    }
-}
+const LATER: [u8; 6] = [0x41, 0x7f, 0x80, 0xbf, 0xc0, 0xf1];
 
 // Of 462 tails the first 66 have two bytes, all others three.
-fn lead(sum: u64, a: u8, tail: u32, book: &[u8]) -> u64 {
+fn lead(sum: u64, a: u8, tail: usize, book: Option<&[u8]>) -> u64
+    requires { tail < 462 }
+{
     let mut bytes = [0u8; LONGEST];
     bytes[0] = a;
     if tail < 66 {
-        bytes[1] = second(tail / 6);
-        bytes[2] = later(tail % 6);
+        bytes[1] = SECOND[tail / 6];
+        bytes[2] = LATER[tail % 6];
         return with_text(sum, &bytes, 3, book);
     }
-    bytes[1] = second((tail - 66) / 36);
-    bytes[2] = later((tail - 66) / 6 % 6);
-    bytes[3] = later((tail - 66) % 6);
+    bytes[1] = SECOND[(tail - 66) / 36];
+    bytes[2] = LATER[(tail - 66) / 6 % 6];
+    bytes[3] = LATER[(tail - 66) % 6];
     with_text(sum, &bytes, 4, book)
 }
 
-fn leads(a: u8, book: &[u8]) -> u64 {
+fn leads(a: u8, book: Option<&[u8]>) -> u64 {
     let mut sum = START;
-    let mut tail: u32 = 0;
-    while tail < 462 {
+    for tail in 0..462 {
         sum = lead(sum, a, tail, book);
-        tail += 1;
     }
     sum
 }
@@ -179,52 +134,34 @@ fn leads(a: u8, book: &[u8]) -> u64 {
 
 // The next state of the sequence. What is drawn is the upper half of a state.
 fn next(state: u64) -> u64 {
-    let low = state % HALF;
-    let high = state / HALF * 0x4c95_7f2d % HALF + low * 0x5851_f42d % HALF;
-    let product = std::num::wrapping_add_u64(high % HALF * HALF, low * 0x4c95_7f2d);
-    std::num::wrapping_add_u64(product, 1442695040888963407)
+    state
+        .wrapping_mul(0x5851_f42d_4c95_7f2d)
+        .wrapping_add(1442695040888963407)
+}
+
+fn drawn(state: u64) -> usize {
+    (state >> 32) as usize
 }
 
 // Bytes at which the decoder takes another way.
-fn pool(n: u64) -> u8 {
-    match n {
-        0 => 0x41,
-        1 => 0x7f,
-        2 => 0x80,
-        3 => 0x8f,
-        4 => 0x90,
-        5 => 0x9f,
-        6 => 0xa0,
-        7 => 0xbf,
-        8 => 0xc2,
-        9 => 0xdf,
-        10 => 0xe0,
-        11 => 0xe2,
-        12 => 0xed,
-        13 => 0xef,
-        14 => 0xf0,
-        15 => 0xf3,
-        16 => 0xf4,
-        17 => 0xf5,
-        _ => 0xff,
-    }
-}
+const POOL: [u8; 19] = [
+    0x41, 0x7f, 0x80, 0x8f, 0x90, 0x9f, 0xa0, 0xbf, 0xc2, 0xdf, 0xe0, 0xe2, 0xed, 0xef, 0xf0, 0xf3,
+    0xf4, 0xf5, 0xff,
+];
 
-fn drawn_byte(plain: bool, n: u64) -> u8 {
+fn drawn_byte(plain: bool, n: usize) -> u8 {
     if plain {
         return (n % 256) as u8;
     }
-    pool(n % 19)
+    POOL[n % 19]
 }
 
-// Draws n bytes after a state, and returns the state after them.
-fn draw(bytes: &mut [u8], n: usize, plain: bool, start: u64) -> u64 {
+// Draws bytes after a state, and returns the state after them.
+fn draw(bytes: &mut [u8], plain: bool, start: u64) -> u64 {
     let mut state = start;
-    let mut i = 0;
-    while i < n {
+    for byte in bytes.iter_mut() {
         state = next(state);
-        put_byte(bytes, i, drawn_byte(plain, state / HALF));
-        i += 1;
+        *byte = drawn_byte(plain, drawn(state));
     }
     state
 }
@@ -236,24 +173,22 @@ struct Summed {
 }
 
 // First it is drawn of which bytes, then of how many, and then each byte.
-fn with_drawn(so_far: Summed, book: &[u8]) -> Summed {
+fn with_drawn(so_far: Summed, book: Option<&[u8]>) -> Summed {
     let choice = next(so_far.state);
     let length = next(choice);
-    let n = (length / HALF % 40) as usize;
+    let n = drawn(length) % 40;
     let mut bytes = [0u8; LONGEST];
-    let state = draw(&mut bytes, n, choice / HALF % 2 == 0, length);
+    let state = draw(&mut bytes[..n], drawn(choice) % 2 == 0, length);
     Summed {
         sum: with_text(so_far.sum, &bytes, n, book),
         state,
     }
 }
 
-fn random(state: u64, book: &[u8]) -> u64 {
+fn random(state: u64, book: Option<&[u8]>) -> u64 {
     let mut so_far = Summed { sum: START, state };
-    let mut i: u32 = 0;
-    while i < 1000 {
+    for _ in 0..1000 {
         so_far = with_drawn(so_far, book);
-        i += 1;
     }
     so_far.sum
 }

@@ -41,65 +41,27 @@ pub(crate) fn text() -> [u8; TEXT]
     [FILL; TEXT]
 }
 
-// At most the first n numbers.
-fn first_numbers(numbers: &[u32], n: usize) -> &[u32] {
-    if n <= numbers.len() {
-        return &numbers[0..n];
-    }
-    numbers
-}
-
-// What stands after them.
-fn numbers_from(numbers: &[u32], n: usize) -> &[u32] {
-    if n <= numbers.len() {
-        return &numbers[n..];
-    }
-    &numbers[0..0]
-}
-
-fn all_numbers_are(numbers: &[u32], value: u32) -> bool {
-    let mut i = 0;
-    while i < numbers.len() {
-        if numbers[i] != value {
-            return false;
-        }
-        i += 1;
-    }
-    true
-}
-
-fn all_bytes_are(bytes: &[u8], value: u8) -> bool {
-    let mut i = 0;
-    while i < bytes.len() {
-        if bytes[i] != value {
-            return false;
-        }
-        i += 1;
-    }
-    true
-}
-
 fn put_each(answer: &mut [u8], at: usize, numbers: &[u32]) -> usize {
     let mut to = at;
-    let mut i = 0;
-    while i < numbers.len() {
-        to = put_u32(answer, to, numbers[i]);
-        i += 1;
+    for number in numbers {
+        to = put_u32(answer, to, *number);
     }
     to
 }
 
-// 1 if every number is the value, else 0.
-pub(crate) fn put_numbers_are(answer: &mut [u8], at: usize, numbers: &[u32], value: u32) -> usize {
-    put_byte(answer, at, all_numbers_are(numbers, value) as u8)
+// 1 if every item is the value, else 0.
+pub(crate) fn put_all_are<T: Copy + PartialEq>(
+    answer: &mut [u8],
+    at: usize,
+    items: &[T],
+    value: T,
+) -> usize {
+    put_byte(answer, at, items.iter().all(|item| *item == value) as u8)
 }
 
-pub(crate) fn put_bytes_are(answer: &mut [u8], at: usize, bytes: &[u8], value: u8) -> usize {
-    put_byte(answer, at, all_bytes_are(bytes, value) as u8)
-}
-
-// The first n numbers, and 1 if the rest of them is as before, else 0.
+// At most the first n numbers, and 1 if the rest of them is as before, else 0.
 pub(crate) fn put_numbers(answer: &mut [u8], at: usize, numbers: &[u32], n: usize) -> usize {
-    let to = put_each(answer, at, first_numbers(numbers, n));
-    put_numbers_are(answer, to, numbers_from(numbers, n), FILL_NUMBER)
+    let (written, rest) = numbers.split_at(n.min(numbers.len()));
+    let to = put_each(answer, at, written);
+    put_all_are(answer, to, rest, FILL_NUMBER)
 }

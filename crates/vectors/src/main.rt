@@ -19,32 +19,26 @@ mod sums;
 mod writes;
 
 use std::io;
-use std::rt::Files;
 
-fn main(rt: HostRuntime) -> io::Result<()> {
-    let mut book = replay::book_buffer();
-    texts_and_numbers(&rt, &mut book)?;
-    checks_and_walks(&rt, &mut book)?;
-    reads_and_writes(&rt, &mut book)
-}
+const FILES: [&str; 11] = [
+    "windows-1252",
+    "utf-16",
+    "utf-8",
+    "numbers",
+    "checks",
+    "categories",
+    "walks",
+    "reads",
+    "limits",
+    "writes",
+    "marked-strings",
+];
 
 // Each file has the buffer for the book that is kept from case to case.
-fn texts_and_numbers<R: Files + Print>(rt: &R, book: &mut [u8]) -> io::Result<()> {
-    replay::file(rt, "windows-1252", book)?;
-    replay::file(rt, "utf-16", book)?;
-    replay::file(rt, "utf-8", book)?;
-    replay::file(rt, "numbers", book)
-}
-
-fn checks_and_walks<R: Files + Print>(rt: &R, book: &mut [u8]) -> io::Result<()> {
-    replay::file(rt, "checks", book)?;
-    replay::file(rt, "categories", book)?;
-    replay::file(rt, "walks", book)
-}
-
-fn reads_and_writes<R: Files + Print>(rt: &R, book: &mut [u8]) -> io::Result<()> {
-    replay::file(rt, "reads", book)?;
-    replay::file(rt, "limits", book)?;
-    replay::file(rt, "writes", book)?;
-    replay::file(rt, "marked-strings", book)
+fn main(rt: HostRuntime) -> io::Result<()> {
+    let mut book = replay::book_buffer();
+    for name in FILES {
+        replay::file(&rt, name, &mut book)?;
+    }
+    Ok(())
 }

@@ -16,13 +16,13 @@ const MISMATCH: u8 = 17;
 const OUT_OF_RANGE: u8 = 19;
 
 // Document 01's kinds of record.
-const SIGNED: u8 = 7;
-
-const UNSIGNED: u8 = 8;
-
-const SINGLE: u8 = 9;
-
-const DOUBLE: u8 = 10;
+#[derive(Clone, Copy)]
+enum Kind {
+    Signed = 7,
+    Unsigned = 8,
+    Single = 9,
+    Double = 10,
+}
 
 pub(crate) fn run(operation: u8, input: &[u8], out: &mut [u8]) -> Answered {
     match operation {
@@ -34,11 +34,11 @@ pub(crate) fn run(operation: u8, input: &[u8], out: &mut [u8]) -> Answered {
         37 => integer_write(input, out),
         38 => real_read(input),
         39 => real_write(input, out),
-        _ => number(0, 0),
+        _ => Answered::default(),
     }
 }
 
-// The place of an id in the list of ids, which tells the variants apart.
+// The place of an id in the list of ids, which tells the variants apart. No `as` gives it, since one of them holds a number.
 fn ordinal(id: AdsTypeId) -> u8 {
     match id {
         AdsTypeId::Void => 0,
@@ -69,11 +69,11 @@ fn type_id(n: u32) -> Answered {
 
 fn le_store(input: &[u8], out: &mut [u8]) -> Answered {
     enc_number::le::le_store(u64_at(input, 0), out);
-    number(0, 0)
+    Answered::default()
 }
 
 // Zero, the record's kind, its width and its bits.
-fn value(kind: u8, width: u8, bits: u64) -> Answered {
+fn value(kind: Kind, width: u8, bits: u64) -> Answered {
     Answered {
         head: 256 * (kind as u64) + 65536 * (width as u64),
         head_len: 3,
@@ -84,8 +84,8 @@ fn value(kind: u8, width: u8, bits: u64) -> Answered {
 
 fn integer(read: Integer) -> Answered {
     match read {
-        Integer::Signed(width, bits) => value(SIGNED, width, bits),
-        Integer::Unsigned(width, bits) => value(UNSIGNED, width, bits),
+        Integer::Signed(width, bits) => value(Kind::Signed, width, bits),
+        Integer::Unsigned(width, bits) => value(Kind::Unsigned, width, bits),
     }
 }
 
@@ -99,7 +99,7 @@ fn integer_read(input: &[u8]) -> Answered {
 }
 
 fn integer_of(kind: u8, width: u8, bits: u64) -> Integer {
-    if kind == SIGNED {
+    if kind == Kind::Signed as u8 {
         return Integer::Signed(width, bits);
     }
     Integer::Unsigned(width, bits)
@@ -120,12 +120,10 @@ fn integer_write(input: &[u8], out: &mut [u8]) -> Answered {
     byte(refusal_of(enc_integer::to_le_slice(value, id, out)))
 }
 
-fn kind_of(value: Real) -> u8 {
+fn kind_of(value: Real) -> Kind {
     match value {
-        Real::Single(_) => SINGLE,
-        Real::NanSingle(_) => SINGLE,
-        Real::Double(_) => DOUBLE,
-        Real::NanDouble(_) => DOUBLE,
+        Real::Single(_) | Real::NanSingle(_) => Kind::Single,
+        Real::Double(_) | Real::NanDouble(_) => Kind::Double,
     }
 }
 
@@ -146,6 +144,9 @@ fn refusal_of_real(write: RealWrite) -> u8 {
 }
 
 fn real_write(input: &[u8], out: &mut [u8]) -> Answered {
-    let value = enc_float::real_from_bits(byte_at(input, 0) == DOUBLE, u64_at(input, 1));
+    let value = enc_float::real_from_bits(
+        byte_at(input, 0) == Kind::Double as u8,
+        u64_at(input, 1),
+    );
     byte(refusal_of_real(enc_float::real_to_le_slice(value, out)))
 }

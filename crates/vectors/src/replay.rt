@@ -38,13 +38,15 @@ fn read_page<F: Read>(file: &mut F, page: &mut [u8]) -> io::Result<usize> {
     if read_full(file, &mut head)? < 4 {
         return Ok(0);
     }
-    let n = enc_number::le::le_u32(&head) as usize;
-    if n <= page.len() {
-        if read_full(file, &mut page[0..n])? == n {
-            return Ok(n);
-        }
+    let n = u32::from_le_bytes(head) as usize;
+    let Some(page) = page.get_mut(..n) else {
+        return Ok(0);
+    };
+    if read_full(file, page)? == n {
+        Ok(n)
+    } else {
+        Ok(0)
     }
-    Ok(0)
 }
 
 // Zeros for the book that is kept. The length is what lending the array as a slice needs.
@@ -61,14 +63,6 @@ fn page_buffer() -> [u8; PAGE]
     [0; PAGE]
 }
 
-fn fill(out: &mut [u8]) {
-    let mut i = 0;
-    while i < out.len() {
-        out[i] = FILL;
-        i += 1;
-    }
-}
-
 // Runs a case's operation on a filled buffer of the length that the case asks for, and compares the answer with the recorded
 // one.
 fn agrees(
@@ -79,14 +73,12 @@ fn agrees(
     work: &mut [u8],
     answer: &mut [u8],
 ) -> bool {
-    let room = u16_at(case, 1);
-    if room <= work.len() {
-        let out = &mut work[0..room];
-        fill(out);
-        let n = operation::run(byte_at(case, 0), from(case, HEAD), book, len, out, answer);
-        return recorded == first(answer, n);
-    }
-    false
+    let Some(out) = work.get_mut(..u16_at(case, 1)) else {
+        return false;
+    };
+    out.fill(FILL);
+    let n = operation::run(byte_at(case, 0), from(case, HEAD), book, len, out, answer);
+    recorded == first(answer, n)
 }
 
 fn run_case<R: Print>(
@@ -99,11 +91,11 @@ fn run_case<R: Print>(
     tally: Tally,
 ) -> io::Result<Tally> {
     let len = tally.book;
-    if agrees(case, recorded, book, len, work, answer) {
-        return Ok(tally.agreed(operation::book_after(byte_at(case, 0), len, answer)));
+    let agrees = agrees(case, recorded, book, len, work, answer);
+    if !agrees && tally.differences == 0 {
+        report::difference(rt, case, recorded, tally)?;
     }
-    report::difference(rt, case, recorded, tally)?;
-    Ok(tally.differed(operation::book_after(byte_at(case, 0), len, answer)))
+    Ok(tally.after(agrees, operation::book_after(byte_at(case, 0), len, answer)))
 }
 
 // All the cases of a page.
@@ -116,9 +108,8 @@ fn run_page<R: Print>(
     start: Tally,
 ) -> io::Result<Tally> {
     let mut tally = start;
-    let mut at = 0;
-    while at < page.len() {
-        let rest = from(page, at);
+    let mut rest = page;
+    while !rest.is_empty() {
         tally = run_case(
             rt,
             case_of(rest),
@@ -128,13 +119,12 @@ fn run_page<R: Print>(
             answer,
             tally,
         )?;
-        at += length_of(rest);
+        rest = from(rest, length_of(rest));
     }
     Ok(tally)
 }
 
-// All the pages of an open file. Nothing says that a file ends, so the loop counts its turns down from a number that no
-// file uses up.
+// All the pages of an open file. Nothing says that a file ends, so the loop has a number of turns that no file uses up.
 fn run_pages<R: Print, F: Read>(
     rt: &R,
     file: &mut F,
@@ -143,15 +133,13 @@ fn run_pages<R: Print, F: Read>(
     work: &mut [u8],
     answer: &mut [u8],
 ) -> io::Result<Tally> {
-    let mut tally = Tally::new();
-    let mut turns = u32::MAX;
-    while turns > 0 {
+    let mut tally = Tally::default();
+    for _ in 0..u32::MAX {
         let n = read_page(file, page)?;
         if n == 0 {
             break;
         }
         tally = run_page(rt, first(page, n), book, work, answer, tally)?;
-        turns -= 1;
     }
     Ok(tally)
 }

@@ -1,9 +1,10 @@
 // What the program writes: a line for each file, and above it the file's first difference.
+use cases_file::case::HEAD;
 use cases_file::input::{byte_at, first, from};
-use std::io;
+use std::{fmt, io};
 
 // How many cases were replayed and how many of them differ.
-#[derive(Clone, Copy)]
+#[derive(Clone, Copy, Default)]
 pub struct Tally {
     pub cases: u64,
     pub differences: u64,
@@ -11,60 +12,28 @@ pub struct Tally {
     pub book: usize,
 }
 
-// One more, up to the largest number.
-fn one_more(n: u64) -> u64 {
-    if n < u64::MAX {
-        return n + 1;
-    }
-    n
-}
-
 impl Tally {
-    // Before the first case.
-    pub(crate) fn new() -> Tally {
+    // After one more case, which leaves a book of this length.
+    pub(crate) fn after(self, agrees: bool, book: usize) -> Tally {
         Tally {
-            cases: 0,
-            differences: 0,
-            book: 0,
-        }
-    }
-
-    // After one more case that agrees, and leaves a book of this length.
-    pub(crate) fn agreed(self, book: usize) -> Tally {
-        Tally {
-            cases: one_more(self.cases),
-            differences: self.differences,
-            book,
-        }
-    }
-
-    // After one more case that differs.
-    pub(crate) fn differed(self, book: usize) -> Tally {
-        Tally {
-            cases: one_more(self.cases),
-            differences: one_more(self.differences),
+            cases: self.cases.saturating_add(1),
+            differences: self.differences.saturating_add(!agrees as u64),
             book,
         }
     }
 }
 
-// Writes bytes as hexadecimal digits.
-fn hex<R: Print>(rt: &R, bytes: &[u8]) -> io::Result<()> {
-    for byte in bytes {
-        print!(rt; "{byte:02x}")?;
+// At most the first 64 bytes, as hexadecimal digits.
+#[derive(Clone, Copy)]
+struct Hex<'a>(&'a [u8]);
+
+impl<'a> fmt::Display for Hex<'a> {
+    fn fmt<W: fmt::Write>(&self, f: &mut fmt::Formatter<W>) -> fmt::Result {
+        for byte in first(self.0, 64) {
+            write!(f, "{byte:02x}")?;
+        }
+        Ok(())
     }
-    Ok(())
-}
-
-// Writes a label and a number.
-fn number<R: Print>(rt: &R, label: &str, n: u64) -> io::Result<()> {
-    print!(rt; "{label}{n}")
-}
-
-// Writes a label and at most 64 bytes.
-fn part<R: Print>(rt: &R, label: &str, bytes: &[u8]) -> io::Result<()> {
-    rt.print(label)?;
-    hex(rt, first(bytes, 64))
 }
 
 // Writes a file's first difference: the case's number, its operation, its input and what is recorded.
@@ -74,20 +43,18 @@ pub(crate) fn difference<R: Print>(
     recorded: &[u8],
     tally: Tally,
 ) -> io::Result<()> {
-    if tally.differences > 0 {
-        return Ok(());
-    }
-    number(rt, "first difference: case ", tally.cases)?;
-    number(rt, " operation ", byte_at(case, 0) as u64)?;
-    part(rt, " input ", from(case, 5))?;
-    part(rt, " recorded ", recorded)?;
-    rt.println("")
+    let number = tally.cases;
+    let operation = byte_at(case, 0);
+    let input = Hex(from(case, HEAD));
+    let recorded = Hex(recorded);
+    println!(rt;
+        "first difference: case {number} operation {operation} input {input} recorded {recorded}"
+    )
 }
 
 // Writes how many cases a file has, and how many differ.
 pub(crate) fn total<R: Print>(rt: &R, name: &str, tally: Tally) -> io::Result<()> {
-    rt.print(name)?;
-    number(rt, " cases ", tally.cases)?;
-    number(rt, " differences ", tally.differences)?;
-    rt.println("")
+    let cases = tally.cases;
+    let differences = tally.differences;
+    println!(rt; "{name} cases {cases} differences {differences}")
 }

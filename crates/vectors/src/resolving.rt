@@ -2,13 +2,14 @@
 // book that is kept and with lent numbers.
 use crate::answer::{Answered, byte, byte_and, not_found, put};
 use crate::lent;
-use crate::lent::{FILL_NUMBER, put_numbers, put_numbers_are};
-use crate::records::{agrees, code_of};
+use crate::lent::{FILL_NUMBER, put_all_are, put_numbers};
+use crate::records::agrees;
 use cases_file::input::{byte_at, u16_at, u32_at};
 use resolve_field_types::FieldsAnswer;
 use resolve_missing_types::Missing;
 use resolve_read_modify_write::Rmw;
 
+// The case says how much of scratch and list it lends.
 pub(crate) fn run(
     operation: u8,
     input: &[u8],
@@ -18,39 +19,12 @@ pub(crate) fn run(
 ) -> usize {
     let mut scratch = lent::scratch();
     let mut list = lent::list();
-    run_lent(operation, input, book, len, &mut scratch, &mut list, answer)
-}
-
-// The same with as much of scratch and list as the case lends.
-fn run_lent(
-    operation: u8,
-    input: &[u8],
-    book: &[u8],
-    len: usize,
-    scratch: &mut [u32],
-    list: &mut [u32],
-    answer: &mut [u8],
-) -> usize {
-    let n = u16_at(input, 5);
-    let m = u16_at(input, 7);
-    if n <= scratch.len() {
-        if m <= list.len() {
-            let lent = &mut scratch[0..n];
-            return run_with(operation, input, book, len, lent, &mut list[0..m], answer);
-        }
-    }
-    0
-}
-
-fn run_with(
-    operation: u8,
-    input: &[u8],
-    book: &[u8],
-    len: usize,
-    scratch: &mut [u32],
-    list: &mut [u32],
-    answer: &mut [u8],
-) -> usize {
+    let Some(scratch) = scratch.get_mut(..u16_at(input, 5)) else {
+        return 0;
+    };
+    let Some(list) = list.get_mut(..u16_at(input, 7)) else {
+        return 0;
+    };
     match operation {
         70 => rmw(input, book, len, scratch, answer),
         71 => missing(input, book, len, scratch, list, answer),
@@ -61,19 +35,16 @@ fn run_with(
 
 // What the scratch holds after a walk: refusals 1 to 6 leave it as before, all else leaves zeros.
 fn scratch_after(refusal: u8) -> u32 {
-    if refusal == 0 {
-        return 0;
+    match refusal {
+        1..=6 => FILL_NUMBER,
+        _ => 0,
     }
-    if refusal < 7 {
-        return FILL_NUMBER;
-    }
-    0
 }
 
 // 1 if the scratch is what the walk with this answer leaves, else 0.
 fn put_scratch(answer: &mut [u8], at: usize, scratch: &[u32]) -> usize {
     let left = scratch_after(byte_at(answer, 0));
-    put_numbers_are(answer, at, scratch, left)
+    put_all_are(answer, at, scratch, left)
 }
 
 fn rmw_reply(rmw: Rmw) -> Answered {
@@ -103,18 +74,11 @@ fn rmw(input: &[u8], book: &[u8], len: usize, scratch: &mut [u32], answer: &mut 
     put_scratch(answer, at, scratch)
 }
 
-// Zero, and 1 after it if there was room for the whole list, else 0.
-fn whole_head(whole: bool) -> u64 {
-    if whole {
-        return 256;
-    }
-    0
-}
-
+// Zero, and 1 after it if there was room for the whole list, else 0; then how many names were met.
 fn missing_reply(missing: Missing) -> Answered {
     match missing {
         Missing::Listed(_, whole, count) => Answered {
-            head: whole_head(whole),
+            head: 256 * whole as u64,
             head_len: 2,
             value: count as u64,
             value_len: 4,
@@ -159,10 +123,7 @@ fn missing(
 
 // The numbers of n records, of which there are at most 4,096.
 fn numbers_of(n: usize) -> usize {
-    if n <= 4096 {
-        return 4 * n;
-    }
-    0
+    4 * n.min(4096)
 }
 
 fn fields_reply(fields: FieldsAnswer) -> Answered {
@@ -177,8 +138,7 @@ fn fields_reply(fields: FieldsAnswer) -> Answered {
 fn recorded(fields: FieldsAnswer) -> usize {
     match fields {
         FieldsAnswer::Done(n) => numbers_of(n),
-        FieldsAnswer::NotFound(_) => 0,
-        FieldsAnswer::Refused(_) => 0,
+        _ => 0,
     }
 }
 
@@ -192,10 +152,8 @@ fn fields(input: &[u8], book: &[u8], len: usize, records: &mut [u32], answer: &m
     let fields = resolve_field_types::resolve_fields(book, len, width, root, records);
     let at = put(answer, fields_reply(fields));
     let end = put_numbers(answer, at, records, recorded(fields));
-    if records.len() == ALL {
-        if !agrees(book, len, width, root, code_of(fields), records) {
-            return 0;
-        }
+    if records.len() == ALL && !agrees(book, len, width, root, fields, records) {
+        return 0;
     }
     end
 }

@@ -1,9 +1,0 @@
--- `vectors::answer::put_zeros` is safe and ends. The measure is the number of zeros that are left; the buffer keeps its length.
-use Rattle.std.proofs.Common.{◌≡◌, ◌-◌, ◌≤◌, length}
-use Rattle.vectors.proofs.answer.put_zeros.Given as goal
-
-abbrev pub invariant-loop-i : goal.invariant-loop-i
-invariant-loop-i l = (l.i ≤ l.n) × (length l.answer ≡ length l.initial.answer)
-
-abbrev pub decreases-loop-i : goal.decreases-loop-i
-decreases-loop-i l = l.n - l.i
