@@ -1,3 +1,2 @@
 -- Laws that the functions' proofs cite.
 mod Parts
-mod Answers

@@ -15,11 +15,7 @@ fn place_of(book: &[u8], n: u32, k: u64) -> u64
     requires { k ≤ 254 }
     ensures { result ≡ start_of book.now (n * 512 + k) }
 {
-    let start = n as u64 * 512 + k;
-    if start <= book.len() as u64 {
-        return start;
-    }
-    book.len() as u64
+    (n as u64 * 512 + k).min(book.len() as u64)
 }
 
 // The name's offset in the book and its length.
@@ -39,6 +35,7 @@ pub fn give_type_name(book: &[u8], block: u32, values: &mut [u64]) -> u8
 }
 
 // The new length, or the refusal.
+#[tactic(auto, unfolding(type_cache::specs::Append::appended_numbers, gateway_lent_values::specs::Values::laid))]
 pub fn give_appended(answer: Appended, values: &mut [u64]) -> u8
     ensures { Gives (appended_numbers answer) values.old result values.new }
 {

@@ -1,4 +1,3 @@
--- Laws that the functions' proofs cite, and the numbers that a write answers with.
-mod Answers
+-- The numbers that a write answers with.
 pub mod Told
 pub mod Given

@@ -8,6 +8,7 @@ use gateway_lent_values::lacks;
 use ser::WriteAnswer;
 
 // 0 with nothing, 7 with its block, or another refusal.
+#[tactic(auto, unfolding(ser::specs::Call::write_numbers, gateway_lent_values::specs::Values::laid))]
 pub fn give_write(answer: WriteAnswer, values: &mut [u64]) -> u8
     ensures { Gives (write_numbers answer) values.old result values.new }
 {
