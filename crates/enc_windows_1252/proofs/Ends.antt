@@ -4,7 +4,9 @@ use mathlib.Core.Bool.{Bool, true, false, cond}
 use mathlib.Core.List.{List, [], ◌∷◌}
 use Prim.Native.Nat.{ℕ, zero, suc, ◌+◌, ◌≤◌, ◌<◌}
 use native.Mathlib.Omega.{arith}
-use lib.ListN.{length, get_or}
+use native.Mathlib.Numerals.{add-one}
+use lib.ListN.{length, get_or, drop, drop_of_length-le}
+use lib.Seq.{drop-cons}
 use lib.Dec.{eqb}
 use borrow.Author.Tests.{eq-eqb, ne_eqb}
 use Rattle.enc_utf_8.specs.declared.TextEnd.{TextEnd}
@@ -31,6 +33,23 @@ first_zero bytes i l z m = sym (zero_from bytes 0 i l z m ∙ ap Terminated (ome
 
 pub no_zero : (bytes : List ℕ) → ((k : ℕ) → k < length bytes → get_or bytes k 0 ≡ 0 → ⊥) → Unterminated (length bytes) ≡ string_end bytes
 no_zero bytes m = sym (no_zero-from bytes 0 m ∙ ap Unterminated (omega arith))
+
+-- ---- the end of a text: what is left of the search gives the whole
+
+module _ (bytes : List ℕ) (i : ℕ) (inv : string_end bytes ≡ end_from i (drop i bytes)) where
+  turn : i < length bytes → string_end bytes ≡ cond (eqb (get_or bytes i 0) 0) (Terminated i) (end_from (i + 1) (drop (i + 1) bytes))
+  unfolding end_from
+  turn h = inv ∙ rw (drop-cons bytes i 0 h, add-one)
+
+  pub end-here : i < length bytes → get_or bytes i 0 ≡ 0 → Terminated i ≡ string_end bytes
+  end-here h e = sym (turn h ∙ rw (eq-eqb (get_or bytes i 0) 0 e))
+
+  pub end-again : i < length bytes → (get_or bytes i 0 ≡ 0 → ⊥) → string_end bytes ≡ end_from (i + 1) (drop (i + 1) bytes)
+  end-again h n = turn h ∙ rw (ne_eqb (get_or bytes i 0) 0 n)
+
+  pub end_none : length bytes ≤ i → Unterminated i ≡ string_end bytes
+  unfolding end_from
+  end_none h = sym (inv ∙ rw (drop_of_length-le bytes h))
 
 -- ---- where a text ends
 

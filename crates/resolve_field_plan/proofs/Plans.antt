@@ -4,7 +4,7 @@ use mathlib.Core.Bool.{Bool, true, false}
 use mathlib.Core.List.{List, []}
 use Prim.Native.Nat.{ℕ, suc, ◌+◌, ◌*◌, ◌-◌, ◌/◌, ◌%◌, ◌≤◌, ◌<◌}
 use native.Mathlib.Omega.{arith}
-use lib.ListN.{length, get_or, set}
+use lib.ListN.{length, get_or, set, get_or-eq_default}
 use lib.Seq.{set_out, get_or-set_same, get_or-set_other}
 use lib.Dec.{eqb, leb}
 use borrow.Author.Tests.{eqb-true, eqb-false, leb-true, leb-false}
@@ -316,7 +316,7 @@ module _ (book : List ℕ) (width t i : ℕ) (plan : List ℕ) (h : (j : ℕ) �
       by true e true s =
           let z : j ≡ i = eqb-true j i s in
           let b : length plan ≤ j = rw z (leb-true (length plan) i e) in
-          rw (set_out plan i (plan_entry_of x) (leb-true (length plan) i e) plan 0 b) (entry-none book width (t + 1 + j))
+          rw (set_out plan i (plan_entry_of x) (leb-true (length plan) i e), get_or-eq_default plan 0 b) (entry-none book width (t + 1 + j))
       by false e true s =
           let z : j ≡ i = eqb-true j i s in
           rw (z, get_or-set_same plan i (plan_entry_of x) 0 (leb-false (length plan) i e)) (record { known = λ n. record { entry = x; is = q; packed = refl } })
