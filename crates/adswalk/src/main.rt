@@ -5,7 +5,6 @@
 
 mod files;
 
-use enc_utf_8::Put;
 use std::io;
 use std::io::Write;
 
@@ -16,7 +15,7 @@ fn main(rt: HostRuntime) -> io::Result<()> {
     let n = files::read(&rt, "book.bin", &mut book);
     let m = files::read(&rt, "mem.bin", &mut memory);
     let put = printout::print(&book[0..n], &memory[0..m], &mut out);
-    let Put::Next(k) = put else {
+    let Some(k) = put else {
         return Ok(());
     };
     io::writer(&rt).write_all(&out[0..k])

@@ -1,4 +1,5 @@
 -- What an add leaves of our book, whatever the root is and whether our book has it. Assumes nothing.
+use Rattle.std.specs.Prelude.{Option, Some, None}
 use mathlib.Core.Path.{◌≡◌, refl, sym, ◌∙◌, subst}
 use mathlib.Core.Bool.{true}
 use mathlib.Core.List.{List, [], ◌++◌}
@@ -6,8 +7,6 @@ use Prim.Native.Nat.{ℕ, ◌+◌, ◌≤◌}
 use native.Mathlib.Omega.{arith}
 use lib.ListN.{length, length-append, length-take, length-drop}
 use Rattle.type_book.specs.Book.{blocks, is_type, name_of}
-use Rattle.type_provider.specs.declared.Found.{Found}
-use Rattle.type_provider.specs.declared.Found.TheVariants.{At, Nothing}
 use Rattle.type_provider.specs.Find.{find}
 use Rattle.type_book_check.specs.declared.BookCheck.TheVariants.{Valid}
 use Rattle.type_book_check.specs.Check.{check_book, ValidBook}
@@ -55,10 +54,10 @@ module _ (c : List ℕ) (w : ValidBook c) (s : Ours) (o : Base c s) where
 
   module _ (n : ℕ) (t : is_type c n ≡ true) where
     -- a name that our book has: refused, and nothing changes
-    pub add_same : (k : ℕ) → find (book_of s) (name_of c n) ≡ At k → next c (add n) s ≡ s
+    pub add_same : (k : ℕ) → find (book_of s) (name_of c n) ≡ Some k → next c (add n) s ≡ s
     add_same k e = unchanged s (definition_of c n) c (λ h. let q : append_refusal s.buffer s.len (definition_of c n) ≡ 4 = add-known c w n t s.buffer s.len o.valid k e in omega arith)
 
-    module _ (e : find (book_of s) (name_of c n) ≡ Nothing) where
+    module _ (e : find (book_of s) (name_of c n) ≡ None) where
       -- our book with one more definition of the controller's is no longer than the controller's
       pub more-blocks : blocks (book_of s) + blocks_of c n ≤ blocks c
       more-blocks = room-blocks (book_of s) c ours w o.covers n (blocks_of c n) (λ l. record { type = t; size = omega arith; new = e })
@@ -102,33 +101,33 @@ module _ (c : List ℕ) (w : ValidBook c) (s : Ours) (o : Base c s) where
     pub base-add : Base c (next c (add n) s)
     base-add = by (find (book_of s) (name_of c n)) refl
       where
-        by : (f : Found) → find (book_of s) (name_of c n) ≡ f → Base c (next c (add n) s)
-        by (At k) e = rw (add_same k e) o
-        by Nothing e = longer e
+        by : (f : Option ℕ) → find (book_of s) (name_of c n) ≡ f → Base c (next c (add n) s)
+        by (Some k) e = rw (add_same k e) o
+        by None e = longer e
 
     -- a name that was not found is not found after it, unless it is the one that was added
-    pub add-other : (x : List ℕ) → find (book_of s) x ≡ Nothing → (x ≡ name_of c n → ⊥) → find (book_of (next c (add n) s)) x ≡ Nothing
+    pub add-other : (x : List ℕ) → find (book_of s) x ≡ None → (x ≡ name_of c n → ⊥) → find (book_of (next c (add n) s)) x ≡ None
     add-other x h d = by (find (book_of s) (name_of c n)) refl
       where
-        by : (f : Found) → find (book_of s) (name_of c n) ≡ f → find (book_of (next c (add n) s)) x ≡ Nothing
-        by (At j) e = subst (λ (z : Ours). find (book_of z) x ≡ Nothing) (sym (add_same j e)) h
-        by Nothing e = rw (add-longer e) ((add-added e).other x h d)
+        by : (f : Option ℕ) → find (book_of s) (name_of c n) ≡ f → find (book_of (next c (add n) s)) x ≡ None
+        by (Some j) e = subst (λ (z : Ours). find (book_of z) x ≡ None) (sym (add_same j e)) h
+        by None e = rw (add-longer e) ((add-added e).other x h d)
 
     -- what was found is found after it; so what lacks then lacked before
-    pub add-keeps : (x : List ℕ) (k : ℕ) → find (book_of s) x ≡ At k → find (book_of (next c (add n) s)) x ≡ At k
+    pub add-keeps : (x : List ℕ) (k : ℕ) → find (book_of s) x ≡ Some k → find (book_of (next c (add n) s)) x ≡ Some k
     add-keeps x k h = by (find (book_of s) (name_of c n)) refl
       where
-        by : (f : Found) → find (book_of s) (name_of c n) ≡ f → find (book_of (next c (add n) s)) x ≡ At k
-        by (At j) e = subst (λ (z : Ours). find (book_of z) x ≡ At k) (sym (add_same j e)) h
-        by Nothing e = rw (add-longer e) ((add-added e).old x k h)
+        by : (f : Option ℕ) → find (book_of s) (name_of c n) ≡ f → find (book_of (next c (add n) s)) x ≡ Some k
+        by (Some j) e = subst (λ (z : Ours). find (book_of z) x ≡ Some k) (sym (add_same j e)) h
+        by None e = rw (add-longer e) ((add-added e).old x k h)
 
     -- and the name that was added is found then
-    pub add-finds : (k : ℕ) × (find (book_of (next c (add n) s)) (name_of c n) ≡ At k)
+    pub add-finds : (k : ℕ) × (find (book_of (next c (add n) s)) (name_of c n) ≡ Some k)
     add-finds = by (find (book_of s) (name_of c n)) refl
       where
-        by : (f : Found) → find (book_of s) (name_of c n) ≡ f → (k : ℕ) × (find (book_of (next c (add n) s)) (name_of c n) ≡ At k)
-        by (At j) e = (j, add-keeps (name_of c n) j e)
-        by Nothing e = (blocks (book_of s), rw (add-longer e) (add-added e).found)
+        by : (f : Option ℕ) → find (book_of s) (name_of c n) ≡ f → (k : ℕ) × (find (book_of (next c (add n) s)) (name_of c n) ≡ Some k)
+        by (Some j) e = (j, add-keeps (name_of c n) j e)
+        by None e = (blocks (book_of s), rw (add-longer e) (add-added e).found)
 
   -- ---- by the contract of appending
 
@@ -136,12 +135,12 @@ module _ (c : List ℕ) (w : ValidBook c) (s : Ours) (o : Base c s) where
     add_left : next c (add n) s ≡ record { buffer = buffer; len = length_after s.len r }
     add_left = rw (appended-is r _ m.answer, m.bytes)
 
-    known_of : (Lacking (book_of s) (name_of c n) → ⊥) → (k : ℕ) × (find (book_of s) (name_of c n) ≡ At k)
+    known_of : (Lacking (book_of s) (name_of c n) → ⊥) → (k : ℕ) × (find (book_of s) (name_of c n) ≡ Some k)
     known_of h = by (find (book_of s) (name_of c n)) refl
       where
-        by : (f : Found) → find (book_of s) (name_of c n) ≡ f → (k : ℕ) × (find (book_of s) (name_of c n) ≡ At k)
-        by (At k) e = (k, e)
-        by Nothing e = absurd (h e)
+        by : (f : Option ℕ) → find (book_of s) (name_of c n) ≡ f → (k : ℕ) × (find (book_of s) (name_of c n) ≡ Some k)
+        by (Some k) e = (k, e)
+        by None e = absurd (h e)
 
     refused-then : (refusal_of (appended_numbers r) ≡ 0 → ⊥) → Lacking (book_of s) (name_of c n) → ⊥
     refused-then h l = h (rw m.answer (none-refused s (definition_of c n) (add_none n t l)))

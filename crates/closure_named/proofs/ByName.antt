@@ -1,9 +1,9 @@
 -- Demand 3 from nothing, of the calls by the root's name. Assumes nothing.
+use Rattle.std.specs.Prelude.{Some}
 use mathlib.Core.Path.{◌≡◌, refl}
 use mathlib.Core.Bool.{true}
 use mathlib.Core.List.{List, [], ◌∷◌}
 use Prim.Native.Nat.{ℕ}
-use Rattle.type_provider.specs.declared.Found.TheVariants.{At}
 use Rattle.type_provider.specs.Find.{find}
 use Rattle.type_book_check.specs.declared.GivenRoot.TheVariants.{Block}
 use Rattle.type_book_check.specs.Given.{is_root_name, check_given}
@@ -27,7 +27,7 @@ use Rattle.closure_named.proofs.Nothing.{name-formed}
 
 module _ (c : List ℕ) (width : ℕ) (name : List ℕ) (w : Theirs c width name) (formed : is_root_name name ≡ true) where
   -- a book that has the root's name and lacks nothing needed
-  closed_here : (s : Ours) → Base c s → (t : ℕ) → find (book_of s) name ≡ At t → ((x : List ℕ) → Needed c width name x → Defined (book_of s) x) → ClosedByName c width name s
+  closed_here : (s : Ours) → Base c s → (t : ℕ) → find (book_of s) name ≡ Some t → ((x : List ℕ) → Needed c width name x → Defined (book_of s) x) → ClosedByName c width name s
   closed_here s o t e all =
       let h : Sound c t name s = sound-at c name s o t e in
       let g : check_given s.buffer s.len (given.name name) ≡ Block t = given-found c name formed s o t e in
@@ -39,7 +39,7 @@ module _ (c : List ℕ) (width : ℕ) (name : List ℕ) (w : Theirs c width name
       }
 
   -- once an ask has listed none, our book lacks nothing needed at any later time
-  closed_from : (is : List Call) (s : Ours) → Each c (Lent c) s is → Base c s → (t : ℕ) → find (book_of s) name ≡ At t → listed (walk_at width t s) ≡ []
+  closed_from : (is : List Call) (s : Ours) → Each c (Lent c) s is → Base c s → (t : ℕ) → find (book_of s) name ≡ Some t → listed (walk_at width t s) ≡ []
       → ClosedByName c width name (after_calls c is s)
   closed_from is s g o t e l =
       let h : Sound c t name s = sound-at c name s o t e in

@@ -1,10 +1,10 @@
 -- Demand 3 follows from demand 3 with the root by its name: a root block that our book has is the block of its name at every call of a list, so what
 -- is claimed by the name is what is claimed by the block. `demand3` is not used. Assumes nothing.
+use Rattle.std.specs.Prelude.{Some}
 use mathlib.Core.Path.{◌≡◌, refl, sym, ◌∙◌, subst}
 use mathlib.Core.Bool.{true}
 use mathlib.Core.List.{List, [], ◌∷◌}
 use Prim.Native.Nat.{ℕ}
-use Rattle.type_provider.specs.declared.Found.TheVariants.{At}
 use Rattle.type_provider.specs.Find.{find}
 use Rattle.type_book_check.specs.declared.RootCheck.TheVariants.{Root}
 use Rattle.type_book_check.specs.declared.GivenRoot.TheVariants.{Block}
@@ -44,7 +44,7 @@ missing_back buffer len ix width root sc ls r sc' ls' t g e q =
 module _ (c : List ℕ) (width root : ℕ) (name : List ℕ) (w : Theirs c width name) (formed : is_root_name name ≡ true) where
   -- ---- each call
 
-  call_back : (i : Call) (is : List Call) (s : Ours) → Sound c root name s → find (book_of s) name ≡ At root
+  call_back : (i : Call) (is : List Call) (s : Ours) → Sound c root name s → find (book_of s) name ≡ Some root
       → NamedCallIs c width name s i is → CallIs c width root name s i is
   call_back (ask ix sc ls) is s o e h = λ r sc' ls' m.
       let g : check_given s.buffer s.len (given.name name) ≡ Block root = given-found c name formed s (base c w.valid root name s o) root e in
@@ -53,7 +53,7 @@ module _ (c : List ℕ) (width root : ℕ) (name : List ℕ) (w : Theirs c width
   call_back (add n) is s o e h = h
   call_back (bytes b) is s o e h = h
 
-  calls_back : (is : List Call) (s : Ours) → Each c (Lent c) s is → Sound c root name s → find (book_of s) name ≡ At root
+  calls_back : (is : List Call) (s : Ours) → Each c (Lent c) s is → Sound c root name s → find (book_of s) name ≡ Some root
       → Each c (NamedCallIs c width name) s is → Each c (CallIs c width root name) s is
   calls_back [] s g o e h = none
   calls_back (i ∷ is) s g o e h =
@@ -63,12 +63,12 @@ module _ (c : List ℕ) (width root : ℕ) (name : List ℕ) (w : Theirs c width
 
   -- ---- the bound
 
-  fetch_back : (i : Call) (is : List Call) (s : Ours) → find (book_of s) name ≡ At root → Fetched c width root s i is → NamedFetched c width name s i is
+  fetch_back : (i : Call) (is : List Call) (s : Ours) → find (book_of s) name ≡ Some root → Fetched c width root s i is → NamedFetched c width name s i is
   fetch_back (ask ix sc ls) is s e f = rw e f
   fetch_back (add n) is s e f = tt
   fetch_back (bytes b) is s e f = tt
 
-  fetched-back : (is : List Call) (s : Ours) → Each c (Lent c) s is → Sound c root name s → find (book_of s) name ≡ At root
+  fetched-back : (is : List Call) (s : Ours) → Each c (Lent c) s is → Sound c root name s → find (book_of s) name ≡ Some root
       → Each c (Fetched c width root) s is → Each c (NamedFetched c width name) s is
   fetched-back [] s g o e f = none
   fetched-back (i ∷ is) s g o e f =
@@ -78,16 +78,16 @@ module _ (c : List ℕ) (width root : ℕ) (name : List ℕ) (w : Theirs c width
 
   -- ---- after an ask that lists none
 
-  none-back : {s : Ours} {is : List Call} → ListedNone c width root s is → Each c (Lent c) s is → Sound c root name s → find (book_of s) name ≡ At root
+  none-back : {s : Ours} {is : List Call} → ListedNone c width root s is → Each c (Lent c) s is → Sound c root name s → find (book_of s) name ≡ Some root
       → NamedNone c width name s is
   none-back (demand.here {s} {ix} {sc} {ls} {is} h) g o e = here e h
   none-back (demand.later {s} {i} {is} r) g o e =
       later (none-back r (each-rest g) (sound-next c width root name w i is s (each_first g) o)
       (found-next c width root name w i is s (each_first g) o name root e))
 
-  closed-back : (s : Ours) → find (book_of s) name ≡ At root → NamedClosed c width name s → Closed c width root name s
+  closed-back : (s : Ours) → find (book_of s) name ≡ Some root → NamedClosed c width name s → Closed c width root name s
   closed-back s e q =
-      let z : At q.at ≡ At root = sym q.found ∙ e in
+      let z : Some q.at ≡ Some root = sym q.found ∙ e in
       let y : q.at ≡ root = cc in
       subst (λ (t : ℕ). Closed c width t name s) y q.closed
 
@@ -116,7 +116,7 @@ module _ (c : List ℕ) (width root : ℕ) (s : Ours) (is : List Call) (p : Prem
       record { valid = p.ours-valid; room = p.room; holds = p.holds; covers = p.covers; named = refl } in
       let formed : is_root_name (root_name root s) ≡ true =
       name-formed c p.theirs-valid (root_name root s) (p.defines (root_name root s) (reached (start refl))) in
-      let e : find (book_of s) (root_name root s) ≡ At root = valid-own (book_of s) (ours c w.valid root (root_name root s) s o) root p.holds in
+      let e : find (book_of s) (root_name root s) ≡ Some root = valid-own (book_of s) (ours c w.valid root (root_name root s) s o) root p.holds in
       record {
         calls = calls_back c width root (root_name root s) w formed is s p.calls o e q.calls;
         bound = λ f.

@@ -1,11 +1,10 @@
 -- Our book while it may lack the root's name: each call of a list, by its contract. Assumes nothing.
+use Rattle.std.specs.Prelude.{Option, Some, None}
 use mathlib.Core.Path.{◌≡◌, refl, sym, ◌∙◌, subst}
 use mathlib.Core.Bool.{true}
 use mathlib.Core.List.{List, [], ◌∷◌}
 use Prim.Native.Nat.{ℕ}
 use lib.ListN.{drop}
-use Rattle.type_provider.specs.declared.Found.{Found}
-use Rattle.type_provider.specs.declared.Found.TheVariants.{At, Nothing}
 use Rattle.type_provider.specs.Find.{find}
 use Rattle.type_provider.proofs.Finds.{find-named, named-name}
 use Rattle.type_book_check.specs.declared.RootCheck.TheVariants.{Root}
@@ -36,18 +35,18 @@ use Rattle.closure_named.specs.Named.{LackingAskIs, NamedAskIs, NamedCallIs}
 -- ---- what the root's name stands for in our book
 
 module _ (c : List ℕ) (name : List ℕ) (formed : is_root_name name ≡ true) (s : Ours) (o : Base c s) where
-  pub given-found : (t : ℕ) → find (book_of s) name ≡ At t → check_given s.buffer s.len (given.name name) ≡ Block t
+  pub given-found : (t : ℕ) → find (book_of s) name ≡ Some t → check_given s.buffer s.len (given.name name) ≡ Block t
   given-found t e =
       sym (given-answer s.buffer s.len (check_book s.buffer s.len) refl 0 (valid-number _ o.valid) refl (given.name name) (Block t)
       (named-found (book_of s) name true (sym formed) refl (find (book_of s) name) refl t e))
 
-  pub given-lacks : find (book_of s) name ≡ Nothing → check_given s.buffer s.len (given.name name) ≡ NotThere
+  pub given-lacks : find (book_of s) name ≡ None → check_given s.buffer s.len (given.name name) ≡ NotThere
   given-lacks e =
       sym (given-answer s.buffer s.len (check_book s.buffer s.len) refl 0 (valid-number _ o.valid) refl (given.name name) NotThere
       (named-lacks (book_of s) name true (sym formed) refl (find (book_of s) name) refl e))
 
 -- a book that has the root's name is one of demand 3
-pub sound-at : (c : List ℕ) (name : List ℕ) (s : Ours) → Base c s → (t : ℕ) → find (book_of s) name ≡ At t → Sound c t name s
+pub sound-at : (c : List ℕ) (name : List ℕ) (s : Ours) → Base c s → (t : ℕ) → find (book_of s) name ≡ Some t → Sound c t name s
 sound-at c name s o t e =
     record {
       valid = o.valid;
@@ -71,7 +70,7 @@ missing_at buffer len ix width root sc ls r sc' ls' t g e q =
 
 -- ---- an ask while our book lacks the root's name
 
-module _ (c : List ℕ) (width : ℕ) (name : List ℕ) (s : Ours) (e : find (book_of s) name ≡ Nothing) (g : check_given s.buffer s.len (given.name name) ≡ NotThere)
+module _ (c : List ℕ) (width : ℕ) (name : List ℕ) (s : Ours) (e : find (book_of s) name ≡ None) (g : check_given s.buffer s.len (given.name name) ≡ NotThere)
     (ix sc ls : List ℕ) (i : index_fits ix ≡ true) (p : scratch_fits sc ≡ true) (q : list_fits ls ≡ true) (r : Missing) (sc' ls' : List ℕ)
     (m : GivenMissingIs s.buffer s.len ix width (given.name name) sc ls r sc' ls') where
   lent : missing_fits ix sc ls ≡ true
@@ -112,13 +111,13 @@ module _ (c : List ℕ) (width : ℕ) (name : List ℕ) (w : Theirs c width name
   call_is (ask ix sc ls) is s g o = λ r sc' ls' m. by r sc' ls' m (find (book_of s) name) refl
     where
       by : (r : Missing) (sc' ls' : List ℕ) → GivenMissingIs s.buffer s.len ix width (given.name name) sc ls r sc' ls'
-          → (f : Found) → find (book_of s) name ≡ f → NamedAskIs c width name s ls r ls' (find (book_of s) name)
-      by r sc' ls' m (At t) e =
+          → (f : Option ℕ) → find (book_of s) name ≡ f → NamedAskIs c width name s ls r ls' (find (book_of s) name)
+      by r sc' ls' m (Some t) e =
           let h : Sound c t name s = sound-at c name s o t e in
           let k : check_root s.buffer s.len t ≡ Root t = root-check c width t name w s h in
           rw e (ask-is c width t name w s h ix sc ls g.0 g.1 g.2 r sc' ls'
           (missing_at s.buffer s.len ix width (given.name name) sc ls r sc' ls' t (given-found c name formed s o t e) k m))
-      by r sc' ls' m Nothing e =
+      by r sc' ls' m None e =
           rw e (lacking-ask c width name s e (given-lacks c name formed s o e) ix sc ls g.0 g.1 g.2 r sc' ls' m)
   call_is (add n) is s g o = λ r buffer m. add_is c w.valid s o n g r buffer m
   call_is (bytes b) is s g o = λ r buffer m. bytes-is c w.valid s o b g r buffer m

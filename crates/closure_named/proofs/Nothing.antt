@@ -1,4 +1,5 @@
 -- Demand 3 from nothing: the bound on the asks, what holds after one that lists none, and the theorem. Assumes nothing.
+use Rattle.std.specs.Prelude.{Option, Some, None}
 use mathlib.Core.Path.{◌≡◌, refl, sym, ◌∙◌, subst}
 use mathlib.Core.Bool.{true}
 use mathlib.Core.Logic.{⊎_elim}
@@ -10,8 +11,6 @@ use borrow.Author.Tests.{eqb-true, le-leb}
 use lib.ListN.{length, drop, length-take}
 use Rattle.type_book.specs.Book.{byte_at, kind_of, name_of}
 use Rattle.type_block_form.specs.Form.{every, is_printable}
-use Rattle.type_provider.specs.declared.Found.{Found}
-use Rattle.type_provider.specs.declared.Found.TheVariants.{At, Nothing}
 use Rattle.type_provider.specs.Find.{find}
 use Rattle.type_provider.proofs.Finds.{find-named, named-name}
 use Rattle.type_book_check.specs.Check.{ValidBook}
@@ -36,11 +35,11 @@ module _ (c : List ℕ) (width : ℕ) (name : List ℕ) (w : Theirs c width name
   -- ---- a book that has the root's name: the asks are those of demand 3 for its block
 
   module _ (t : ℕ) where
-    fetched-at : (is : List Call) (s : Ours) → Each c (Lent c) s is → Sound c t name s → find (book_of s) name ≡ At t
+    fetched-at : (is : List Call) (s : Ours) → Each c (Lent c) s is → Sound c t name s → find (book_of s) name ≡ Some t
         → Each c (NamedFetched c width name) s is → Each c (Fetched c width t) s is
     fetched-at [] s g o e f = none
     fetched-at (ask ix sc ls ∷ is) s g o e f =
-        let h : FetchedBy c width name s is (At t) = rw e at (each_first f) in
+        let h : FetchedBy c width name s is (Some t) = rw e at (each_first f) in
         more h (fetched-at is s (each-rest g) o e (each-rest f))
     fetched-at (add n ∷ is) s g o e f =
         more tt (fetched-at is (next c (add n) s) (each-rest g) (sound-next c width t name w (add n) is s (each_first g) o)
@@ -49,7 +48,7 @@ module _ (c : List ℕ) (width : ℕ) (name : List ℕ) (w : Theirs c width name
         more tt (fetched-at is (next c (bytes m) s) (each-rest g) (sound-next c width t name w (bytes m) is s (each_first g) o)
         (found-next c width t name w (bytes m) is s (each_first g) o name t e) (each-rest f))
 
-    pub listing-at : (is : List Call) (s : Ours) → Each c (Lent c) s is → Sound c t name s → find (book_of s) name ≡ At t
+    pub listing-at : (is : List Call) (s : Ours) → Each c (Lent c) s is → Sound c t name s → find (book_of s) name ≡ Some t
         → asks_listing c width t is s ≡ named_listing c width name is s
     unfolding asks_listing named_listing
     listing-at [] s g o e = refl
@@ -77,12 +76,12 @@ module _ (c : List ℕ) (width : ℕ) (name : List ℕ) (w : Theirs c width name
   lacked (ask ix sc ls) is s g o x h = h
   lacked (add n) is s g o x h = by (find (book_of s) x) refl
     where
-      by : (f : Found) → find (book_of s) x ≡ f → Lacking (book_of s) x
-      by (At k) e = let z = add-keeps c w.valid s o n g x k e in different cc
-      by Nothing e = e
+      by : (f : Option ℕ) → find (book_of s) x ≡ f → Lacking (book_of s) x
+      by (Some k) e = let z = add-keeps c w.valid s o n g x k e in different cc
+      by None e = e
   lacked (bytes m) is s g o x h = subst (λ (z : Ours). Lacking (book_of z) x) (unchanged s m c (λ e. g (none-refused s m e))) h
 
-  found-bound : (is : List Call) (s : Ours) → Each c (Lent c) s is → Each c (NamedFetched c width name) s is → Base c s → (t : ℕ) → find (book_of s) name ≡ At t → Others s is s
+  found-bound : (is : List Call) (s : Ours) → Each c (Lent c) s is → Each c (NamedFetched c width name) s is → Base c s → (t : ℕ) → find (book_of s) name ≡ Some t → Others s is s
   found-bound is s g f o t e =
       let h : Sound c t name s = sound-at c name s o t e in
       let q = bounded c width t name w is s g (fetched-at t is s g h e f) h in
@@ -122,7 +121,7 @@ module _ (c : List ℕ) (width : ℕ) (name : List ℕ) (w : Theirs c width name
       }
   added-bound (add n ∷ is) (this e) s g f o =
       let q = add-finds c w.valid s o n (each_first g) in
-      let h : find (book_of (next c (add n) s)) name ≡ At q.0 = rw (← e) q.1 in
+      let h : find (book_of (next c (add n) s)) name ≡ Some q.0 = rw (← e) q.1 in
       earlier (add n) is s (each_first g) o refl
       (found-bound is (next c (add n) s) (each-rest g) (each-rest f) (base-next c width name w formed (add n) is s (each_first g) o) q.0 h)
   added-bound (add n ∷ is) (other a) s g f o =
@@ -145,11 +144,11 @@ module _ (c : List ℕ) (width : ℕ) (name : List ℕ) (w : Theirs c width name
       }
   bound-is (ask ix sc ls ∷ is) s g f o = by (find (book_of s) name) refl
     where
-      by : (h : Found) → find (book_of s) name ≡ h → NamedBound c width name s (ask ix sc ls ∷ is)
-      by (At t) e =
+      by : (h : Option ℕ) → find (book_of s) name ≡ h → NamedBound c width name s (ask ix sc ls ∷ is)
+      by (Some t) e =
           let q = found-bound (ask ix sc ls ∷ is) s g f o t e in
           record { names = q.names; distinct = q.distinct; needed = q.needed; lacking = q.lacking; many = q.many }
-      by Nothing e =
+      by None e =
           let a : AddedNext c name is = rw e at (each_first f) in
           let q : Others s is s = added-bound is a s (each-rest g) (each-rest f) o in
           record {
@@ -185,13 +184,13 @@ module _ (c : List ℕ) (width : ℕ) (name : List ℕ) (w : Theirs c width name
           short = rw n w.short;
         }
 
-    closed-from : (is : List Call) (s : Ours) → Each c (Lent c) s is → Base c s → (t : ℕ) → find (book_of s) name ≡ At t
+    closed-from : (is : List Call) (s : Ours) → Each c (Lent c) s is → Base c s → (t : ℕ) → find (book_of s) name ≡ Some t
         → demand.ListedNone c width t s is → NamedClosed c width name (after_calls c is s)
     unfolding demand.Demand3
     closed-from is s g o t e l =
         let h : Sound c t name s = sound-at c name s o t e in
         let last : Sound c t name (after_calls c is s) = sound-after c width t name w is s g h in
-        let f : find (book_of (after_calls c is s)) name ≡ At t = found_after c width t name w is s g h name t e in
+        let f : find (book_of (after_calls c is s)) name ≡ Some t = found_after c width t name w is s g h name t e in
         record {
           at = t;
           found = f;

@@ -1,12 +1,10 @@
 -- Demand 3 with the root by its name (change request 5: "The asks and adds of demand 3 may now begin from nothing, and their bound counts the root's
 -- name too"): one claim about every list of asks and adds, begun on our book, which may lack the root, as the book of no bytes does. While it lacks
 -- the name, the claim is said here; once it has it, it is that of demand 3 for the block. Assumes nothing.
-use Rattle.std.specs.Prelude.{◌≡◌, true, false, ℕ, ◌+◌, ◌≤◌, length, drop}
+use Rattle.std.specs.Prelude.{◌≡◌, true, false, ℕ, ◌+◌, ◌≤◌, length, drop, Option, Some, None}
 use mathlib.Core.List.{List, [], ◌∷◌, Memᴰ}
 use Rattle.enc_number.specs.Answer.{refusal_of}
 use Rattle.type_book.specs.Book.{type_name_of}
-use Rattle.type_provider.specs.declared.Found.{Found}
-use Rattle.type_provider.specs.declared.Found.TheVariants.{At, Nothing}
 use Rattle.type_provider.specs.Find.{find}
 use Rattle.type_book_check.specs.declared.BookCheck.TheVariants.{Valid}
 use Rattle.type_book_check.specs.Check.{check_book, ValidBook}
@@ -41,7 +39,7 @@ pub record NamedPremises (c : List ℕ) (width : ℕ) (name : List ℕ) (s : Our
   pub defines : (x : List ℕ) → Needed c width name x → Defined c x
   pub covers : Covers (book_of s) c
   pub few : (xs : List (List ℕ)) → Distinct xs → ((x : List ℕ) → Memᴰ x xs → Reached c width name x) → length xs ≤ 4096
-  pub short : (x : List ℕ) (t u : ℕ) → Reached c width name x → find c x ≡ At t → Hops (is_followed false c width) c 32 t u → ⊥
+  pub short : (x : List ℕ) (t u : ℕ) → Reached c width name x → find c x ≡ Some t → Hops (is_followed false c width) c 32 t u → ⊥
 
 -- ---- the claim, call by call
 
@@ -56,9 +54,9 @@ pub record LackingAskIs (c : List ℕ) (width : ℕ) (name : List ℕ) (s : Ours
   pub lacking : Lacking (book_of s) name
 
 -- an ask: by whether our book has the root's name, and at which block
-abbrev pub NamedAskIs : List ℕ → ℕ → List ℕ → Ours → List ℕ → Missing → List ℕ → Found → Type 0
-NamedAskIs c width name s ls r ls' (At t) = AskIs c width t name s ls r ls'
-NamedAskIs c width name s ls r ls' Nothing = LackingAskIs c width name s ls r ls'
+abbrev pub NamedAskIs : List ℕ → ℕ → List ℕ → Ours → List ℕ → Missing → List ℕ → Option ℕ → Type 0
+NamedAskIs c width name s ls r ls' (Some t) = AskIs c width t name s ls r ls'
+NamedAskIs c width name s ls r ls' None = LackingAskIs c width name s ls r ls'
 
 -- one call of the list, by the contract of what it calls
 abbrev pub NamedCallIs : List ℕ → ℕ → List ℕ → Ours → Call → List Call → Type 0
@@ -73,9 +71,9 @@ NamedCallIs c width name s (bytes more) is =
 -- ---- the bound on the asks
 
 -- "If each listed name is added before the next ask": by whether our book has the root's name
-abbrev pub FetchedBy : List ℕ → ℕ → List ℕ → Ours → List Call → Found → Type 0
-FetchedBy c width name s is (At t) = (b : ℕ) → Memᴰ b (listed (walk_at width t s)) → AddedNext c (type_name_of (book_of s) b) is
-FetchedBy c width name s is Nothing = AddedNext c name is
+abbrev pub FetchedBy : List ℕ → ℕ → List ℕ → Ours → List Call → Option ℕ → Type 0
+FetchedBy c width name s is (Some t) = (b : ℕ) → Memᴰ b (listed (walk_at width t s)) → AddedNext c (type_name_of (book_of s) b) is
+FetchedBy c width name s is None = AddedNext c name is
 
 -- what this asks of each call: of an ask that each name which it lists is added before the next one; of an add nothing
 abbrev pub NamedFetched : List ℕ → ℕ → List ℕ → Ours → Call → List Call → Type 0
@@ -84,9 +82,9 @@ NamedFetched c width name s (add n) is = Unit {0}
 NamedFetched c width name s (bytes more) is = Unit {0}
 
 -- 1 for an ask that lists any
-abbrev pub any_by : ℕ → Ours → Found → ℕ
-any_by width s (At t) = any (listed (walk_at width t s))
-any_by width s Nothing = 1
+abbrev pub any_by : ℕ → Ours → Option ℕ → ℕ
+any_by width s (Some t) = any (listed (walk_at width t s))
+any_by width s None = 1
 
 -- how many "asks list any"
 unfoldable pub named_listing : List ℕ → ℕ → List ℕ → List Call → Ours → ℕ
@@ -107,14 +105,14 @@ pub record NamedBound (c : List ℕ) (width : ℕ) (name : List ℕ) (s : Ours) 
 
 -- an ask of the list lists none: our book has the root's name there
 pub data NamedNone (c : List ℕ) (width : ℕ) (name : List ℕ) : Ours → List Call → Type 0 where
-  here : {s : Ours} {ix sc ls : List ℕ} {is : List Call} {t : ℕ} → find (book_of s) name ≡ At t → listed (walk_at width t s) ≡ []
+  here : {s : Ours} {ix sc ls : List ℕ} {is : List Call} {t : ℕ} → find (book_of s) name ≡ Some t → listed (walk_at width t s) ≡ []
       → NamedNone c width name s (ask ix sc ls ∷ is)
   later : {s : Ours} {i : Call} {is : List Call} → NamedNone c width name (next c i s) is → NamedNone c width name s (i ∷ is)
 
 -- our book has the root's name: every call by the name is the call by that block, of which what demand 3 claims holds
 pub record NamedClosed (c : List ℕ) (width : ℕ) (name : List ℕ) (s : Ours) : Type 0 where
   pub at : ℕ
-  pub found : find (book_of s) name ≡ At at
+  pub found : find (book_of s) name ≡ Some at
   pub given : check_given s.buffer s.len (given.name name) ≡ Block at
   pub closed : Closed c width at name s
 

@@ -1,4 +1,5 @@
 -- What each function of the reader owes at each exit and each turn, from what the calls ensure and the tests show there, so that `search` finds each premise. Assumes nothing.
+use Rattle.std.specs.Prelude.{Option, Some, None}
 use mathlib.Core.Path.{◌≡◌, sym, ap, ◌∙◌}
 use mathlib.Core.Bool.{Bool, true, false}
 use mathlib.Core.List.{List}
@@ -10,8 +11,6 @@ use borrow.Author.Tests.{le-leb, lt-leb}
 use Rattle.resolve_field_types.specs.Fields.{resolve_field}
 use Rattle.type_book.specs.Book.{is_type, size_of, fields_of, entries_of, count_of, type_name_of}
 use Rattle.type_provider.specs.Find.{found_numbers, find}
-use Rattle.type_provider.specs.declared.Found.{Found}
-use Rattle.type_provider.specs.declared.Found.TheVariants.{At, Nothing}
 use Rattle.type_book_check.specs.Check.{ValidBook}
 use Rattle.type_book_check.proofs.Valid.{valid-size, valid-type}
 use mir.Syntax.{w32}
@@ -202,11 +201,11 @@ module _ (child : Child) (c : Ctx) (x : Typed) (size : ℕ) (sz : size ≡ size_
   pub array_odd : (length mem ≡ size → ⊥) → Halts s 10 0 r → From (array_of child c x mem) tape txt s r tape txt
   array_odd o h = from_as (walks.array_odd child c mem x size sz o) (halted h)
 
-  module _ (ev : length mem ≡ size) (f : Found) (ef : found_numbers f ≡ found_numbers (find c.book (type_name_of c.book x.resolved))) where
-    pub array-nothing : f ≡ Nothing → Halts s 7 x.resolved r → From (array_of child c x mem) tape txt s r tape txt
+  module _ (ev : length mem ≡ size) (f : Option ℕ) (ef : found_numbers f ≡ found_numbers (find c.book (type_name_of c.book x.resolved))) where
+    pub array-nothing : f ≡ None → Halts s 7 x.resolved r → From (array_of child c x mem) tape txt s r tape txt
     array-nothing e h = from_as (walks.array-nothing child c mem x size sz ev f (found-is _ _ ef) e) (halted h)
 
-    module _ (n : ℕ) (en : f ≡ At n) (k : Resolved) (q : ResolvedIs c.book (resolve_alias c.book c.width n) k) where
+    module _ (n : ℕ) (en : f ≡ Some n) (k : Resolved) (q : ResolvedIs c.book (resolve_alias c.book c.width n) k) where
       pub array-lacks : (b : ℕ) → k ≡ resolved.NotFound b → Halts s 7 b r → From (array_of child c x mem) tape txt s r tape txt
       unfolding element_by
       array-lacks b e h = from_as (walks.array_at child c mem x size sz ev f (found-is _ _ ef) n en k (resolved-is _ _ q.is) ∙ rw (e, lacks-numbers b)) (halted h)
@@ -292,7 +291,7 @@ pub field-first : (book : List ℕ) (t n i : ℕ) → ValidBook book → is_type
 field-first book t n i v y e l = record { fits = omega (arith, leaf-inside book t v y) }
 
 -- a type that was found is a type block, and so is what it resolves to
-pub typed-found : (book : List ℕ) (b : ℕ) (f : Found) (n : ℕ) → found_numbers f ≡ found_numbers (find book (type_name_of book b)) → f ≡ At n → is_type book n ≡ true
+pub typed-found : (book : List ℕ) (b : ℕ) (f : Option ℕ) (n : ℕ) → found_numbers f ≡ found_numbers (find book (type_name_of book b)) → f ≡ Some n → is_type book n ≡ true
 typed-found book b f n e h = found_type book (type_name_of book b) n (sym (found-is _ _ e) ∙ h)
 
 pub typed-base : {book : List ℕ} {a r : Resolved} {e : ℕ} → ResolvedIs book a r → r ≡ resolved.Base e → is_type book e ≡ true

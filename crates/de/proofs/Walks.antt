@@ -1,4 +1,5 @@
 -- The equations of the walk: what it is where the code's tests have led. They are the only place that opens its definitions. Assumes nothing.
+use Rattle.std.specs.Prelude.{Option, Some, None}
 use mathlib.Core.Path.{◌≡◌, refl, sym, ap, ◌∙◌}
 use mathlib.Core.Bool.{Bool, true, false, cond}
 use mathlib.Core.List.{List}
@@ -9,8 +10,6 @@ use lib.Dec.{leb}
 use borrow.Author.Tests.{eq-eqb, ne_eqb}
 use Rattle.type_book.specs.Book.{size_of, fields_of, count_of, type_name_of}
 use Rattle.type_provider.specs.Find.{find}
-use Rattle.type_provider.specs.declared.Found.{Found}
-use Rattle.type_provider.specs.declared.Found.TheVariants.{At, Nothing}
 use Rattle.resolvers.specs.Resolve.{resolve_alias}
 use Rattle.resolvers.proofs.Numbers.{lacks-numbers}
 use Rattle.resolve_field_types.specs.Fields.{resolve_field, fields_check}
@@ -121,16 +120,16 @@ module _ (child : Child) (c : Ctx) (mem : List ℕ) where
     unfolding array_of
     array_odd h = rw (← s, ne_eqb (length mem) size h)
 
-    module _ (h : length mem ≡ size) (f : Found) (ef : f ≡ find c.book (type_name_of c.book x.resolved)) where
+    module _ (h : length mem ≡ size) (f : Option ℕ) (ef : f ≡ find c.book (type_name_of c.book x.resolved)) where
       array_even : array_of child c x mem ≡ array_by child c x mem f
       unfolding array_of
       array_even = rw (← s, eq-eqb (length mem) size h, ef)
 
-      pub array-nothing : f ≡ Nothing → array_of child c x mem ≡ refuse 7 x.resolved
+      pub array-nothing : f ≡ None → array_of child c x mem ≡ refuse 7 x.resolved
       unfolding array_by
       array-nothing e = array_even ∙ rw (e, lacks-numbers x.resolved)
 
-      pub array_at : (n : ℕ) → f ≡ At n → (r : Resolved) → r ≡ resolve_alias c.book c.width n → array_of child c x mem ≡ element_by child c x n mem r
+      pub array_at : (n : ℕ) → f ≡ Some n → (r : Resolved) → r ≡ resolve_alias c.book c.width n → array_of child c x mem ≡ element_by child c x n mem r
       unfolding array_by
       array_at n e r q = array_even ∙ rw (e, q)
 

@@ -1,12 +1,10 @@
 -- What a read emits, type by type (document 01: "The tape", the access files, deserializer.rs; document 02, change request 8).
 -- Assumes nothing.
-use Rattle.std.specs.Prelude.{cond, List, ℕ, zero, suc, ◌+◌, length, get_or, leb, eqb}
+use Rattle.std.specs.Prelude.{cond, List, ℕ, zero, suc, ◌+◌, length, get_or, leb, eqb, Option, Some, None}
 use Rattle.enc_number.specs.Answer.{refusal_of, values_of}
 use Rattle.enc_number.specs.Refusals as refusal
 use Rattle.type_book.specs.Book.{size_of, fields_of, count_of, type_name_of}
 use Rattle.type_provider.specs.Find.{find}
-use Rattle.type_provider.specs.declared.Found.{Found}
-use Rattle.type_provider.specs.declared.Found.TheVariants.{At, Nothing}
 use Rattle.type_category.specs.Category.{category_of}
 use Rattle.resolvers.specs.Resolve.{resolve_alias, resolved_numbers}
 use Rattle.resolve_field_types.specs.Fields.{resolve_field, fields_check, check_numbers, field_numbers}
@@ -112,9 +110,9 @@ element_by child c x n mem (resolved.NotFound b) = refuse_by (resolved_numbers (
 element_by child c x n mem resolved.TooLong = refuse_by (resolved_numbers resolved.TooLong)
 
 -- by what the look-up of the element's name found: nothing is 7 with the resolved array's block
-unfoldable pub array_by : Child → Ctx → Typed → List ℕ → Found → Trace
-array_by child c x mem (At n) = element_by child c x n mem (resolve_alias c.book c.width n)
-array_by child c x mem Nothing = refuse_by (resolved_numbers (resolved.NotFound x.resolved))
+unfoldable pub array_by : Child → Ctx → Typed → List ℕ → Option ℕ → Trace
+array_by child c x mem (Some n) = element_by child c x n mem (resolve_alias c.book c.width n)
+array_by child c x mem None = refuse_by (resolved_numbers (resolved.NotFound x.resolved))
 
 -- 10 unless the bytes are as many as the type says; then the element's type is looked up
 unfoldable pub array_of : Child → Ctx → Typed → List ℕ → Trace

@@ -18,7 +18,6 @@ use resolvers::Resolved;
 use tape::record::{ARRAY, ARRAY_END};
 use tape_shape::array::{is_last, product_is, stride_of};
 use type_category::type_category::AdsTypeCategory;
-use type_provider::Found;
 use validators::{Validity, validate_exact_size};
 
 // An array (`deserialize_seq`): its size is held against the bytes, then its element's name is looked up. A name that is not in the book
@@ -42,7 +41,7 @@ pub(crate) fn array(
         return stop(s, 10, 0);
     };
     let found = resolvers::named_in(book, index, t);
-    let Found::At(named) = found else {
+    let Some(named) = found else {
         return stop(s, 7, t);
     };
     let resolved = resolvers::resolve_alias_in(book, index, v.width, named);

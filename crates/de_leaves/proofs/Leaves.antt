@@ -1,4 +1,5 @@
 -- What a leaf is at each exit of each function. Assumes nothing.
+use Rattle.std.specs.Prelude.{Option, Some, None}
 use mathlib.Core.Path.{◌≡◌, sym, ap, ◌∙◌}
 use mathlib.Core.Bool.{Bool, true, false, cond, not}
 use mathlib.Core.List.{List}
@@ -29,8 +30,6 @@ use Rattle.enc_text_decoder.specs.Text.{end_by}
 use Rattle.enc_text_decoder.specs.declared.Decoder.{Decoder}
 use Rattle.enc_text_decoder.specs.declared.Decoder.TheVariants as decoder
 use Rattle.type_book.specs.Book.{flag_of, size_of, type_id_of, fields_of, entries_of, value_of, same_name}
-use Rattle.type_provider.specs.declared.Found.{Found}
-use Rattle.type_provider.specs.declared.Found.TheVariants.{At, Nothing}
 use Rattle.type_category.specs.Category.{category_of}
 use Rattle.time_types.specs.Counts.{count_width}
 use Rattle.type_category.specs.declared.type_category.AdsTypeCategory.{AdsTypeCategory}
@@ -178,17 +177,17 @@ module _ (book mem : List ℕ) (n k : ℕ) where
 
   module _ (i : ℕ) (inv : entry_from book mem n k ≡ entry_from book mem i (n + k - i)) where
     module _ (l : i < n + k) (v : List ℕ) (ev : v ≡ value_of book i) (b : Bool) (eb : b ≡ same_name v mem) where
-      entry-turn : entry_from book mem n k ≡ cond b (At i) (entry_from book mem (i + 1) (n + k - (i + 1)))
+      entry-turn : entry_from book mem n k ≡ cond b (Some i) (entry_from book mem (i + 1) (n + k - (i + 1)))
       unfolding entry_from
       entry-turn = let z : n + k - i ≡ suc (n + k - (i + 1)) = omega arith in inv ∙ rw (z, eb, ev)
 
-      pub entry_here : b ≡ true → At i ≡ entry_from book mem n k
+      pub entry_here : b ≡ true → Some i ≡ entry_from book mem n k
       entry_here h = sym (entry-turn ∙ rw h)
 
       pub entry-again : b ≡ false → entry_from book mem n k ≡ entry_from book mem (i + 1) (n + k - (i + 1))
       entry-again h = entry-turn ∙ rw h
 
-    pub entry-none : n + k ≤ i → Nothing ≡ entry_from book mem n k
+    pub entry-none : n + k ≤ i → None ≡ entry_from book mem n k
     unfolding entry_from
     entry-none h = let z : n + k - i ≡ 0 = omega arith in sym (inv ∙ rw z)
 
@@ -197,15 +196,15 @@ module _ (book : List ℕ) (t : ℕ) (mem : List ℕ) (size : ℕ) (es : size �
   unfolding enum_leaf
   enum-size h e = rw (← es, ne_eqb (length mem) size h) e
 
-  module _ (h : length mem ≡ size) (f : ℕ) (ef : f ≡ fields_of book t) (m : ℕ) (em : m ≡ entries_of book t) (x : Found) (ex : x ≡ entry_from book mem (t + 1 + f) m) where
+  module _ (h : length mem ≡ size) (f : ℕ) (ef : f ≡ fields_of book t) (m : ℕ) (em : m ≡ entries_of book t) (x : Option ℕ) (ex : x ≡ entry_from book mem (t + 1 + f) m) where
     enum-by : r ≡ entry_or x (unlisted (read_integer (id_of (type_id_of book t)) mem)) → r ≡ enum_leaf book t mem
     unfolding enum_leaf
     enum-by q = rw (← es, eq-eqb (length mem) size h, ← ef, ← em, ← ex) q
 
-    pub enum-found : (n : ℕ) → x ≡ At n → r ≡ leaf.Entry n → r ≡ enum_leaf book t mem
+    pub enum-found : (n : ℕ) → x ≡ Some n → r ≡ leaf.Entry n → r ≡ enum_leaf book t mem
     enum-found n q e = enum-by (rw q e)
 
-    pub enum-none : x ≡ Nothing → (id : AdsTypeId) → id ≡ id_of (type_id_of book t) → (i : IntegerRead) → i ≡ read_integer id mem → r ≡ unlisted i → r ≡ enum_leaf book t mem
+    pub enum-none : x ≡ None → (id : AdsTypeId) → id ≡ id_of (type_id_of book t) → (i : IntegerRead) → i ≡ read_integer id mem → r ≡ unlisted i → r ≡ enum_leaf book t mem
     enum-none q id eid i ei e = enum-by (rw (q, ← eid, ← ei) e)
 
 -- ---- by the category

@@ -1,5 +1,5 @@
 -- What the bytes of a type stand for that is neither struct nor array (document 01: deserializer.rs, refusals 10 to 13). Assumes nothing.
-use Rattle.std.specs.Prelude.{true, false, cond, not, List, [], ◌∷◌, ℕ, zero, suc, ◌+◌, length, get_or, eqb}
+use Rattle.std.specs.Prelude.{true, false, cond, not, List, [], ◌∷◌, ℕ, zero, suc, ◌+◌, length, get_or, eqb, Option, Some, None}
 use Rattle.enc_number.specs.Answer.{refusal_of, truth_number}
 use Rattle.enc_number.specs.Refusals as refusal
 use Rattle.type_id.specs.TypeId.{id_of}
@@ -20,8 +20,6 @@ use Rattle.enc_text_decoder.specs.Text.{end_by}
 use Rattle.enc_text_decoder.specs.declared.Decoder.{Decoder}
 use Rattle.enc_text_decoder.specs.declared.Decoder.TheVariants as decoder
 use Rattle.type_book.specs.Book.{flag_of, size_of, type_id_of, fields_of, entries_of, value_of, same_name}
-use Rattle.type_provider.specs.declared.Found.{Found}
-use Rattle.type_provider.specs.declared.Found.TheVariants.{At, Nothing}
 use Rattle.type_category.specs.Category.{category_of}
 use Rattle.time_types.specs.Counts.{count_width}
 use Rattle.type_category.specs.declared.type_category.AdsTypeCategory.{AdsTypeCategory}
@@ -126,9 +124,9 @@ unfoldable pub text_leaf : List ℕ → ℕ → List ℕ → LeafValue
 text_leaf book t mem = cond (eqb (length mem) (size_of book t)) (leaf.Text (decoder_of book t) (end_by (decoder_of book t) mem)) (leaf.Refused refusal.wrong_size)
 
 -- the first of the k entries from block n on whose value is these bytes
-unfoldable pub entry_from : List ℕ → List ℕ → ℕ → ℕ → Found
-entry_from book mem n zero = Nothing
-entry_from book mem n (suc k) = cond (same_name (value_of book n) mem) (At n) (entry_from book mem (n + 1) k)
+unfoldable pub entry_from : List ℕ → List ℕ → ℕ → ℕ → Option ℕ
+entry_from book mem n zero = None
+entry_from book mem n (suc k) = cond (same_name (value_of book n) mem) (Some n) (entry_from book mem (n + 1) k)
 
 -- bytes that no entry has: the integer reader's refusal, else 12
 unfoldable pub unlisted : IntegerRead → LeafValue
@@ -137,9 +135,9 @@ unlisted read.Size = leaf.Refused (refusal_of (integer_read_numbers read.Size))
 unlisted read.Unsupported = leaf.Refused (refusal_of (integer_read_numbers read.Unsupported))
 
 -- the entry that was found, else the other answer
-abbrev pub entry_or : Found → LeafValue → LeafValue
-entry_or (At n) other = leaf.Entry n
-entry_or Nothing other = other
+abbrev pub entry_or : Option ℕ → LeafValue → LeafValue
+entry_or (Some n) other = leaf.Entry n
+entry_or None other = other
 
 -- 10 unless the bytes are as many as the type says; then the first equal entry
 unfoldable pub enum_leaf : List ℕ → ℕ → List ℕ → LeafValue

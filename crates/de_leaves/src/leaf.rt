@@ -11,7 +11,6 @@ use enc_utf_8::TextEnd;
 use time_types::count_width;
 use type_category::type_category::AdsTypeCategory;
 use type_id::AdsTypeId;
-use type_provider::Found;
 use validators::{Validity, validate_exact_size};
 
 // A real has cases of its own; a NaN's keeps its bits.
@@ -170,11 +169,8 @@ fn enum_leaf(book: &[u8], t: u32, bytes: &[u8]) -> LeafValue
     let first = t + 1 + type_book::block::fields(book, t);
     let found = find_entry(book, bytes, first, type_book::block::entries(book, t));
     match found {
-        Found::At(n) => LeafValue::Entry(n),
-        Found::Nothing => unlisted_leaf(try_from_le_slice(
-            bytes,
-            type_book::block::type_id(book, t),
-        )),
+        Some(n) => LeafValue::Entry(n),
+        None => unlisted_leaf(try_from_le_slice(bytes, type_book::block::type_id(book, t))),
     }
 }
 

@@ -1,4 +1,5 @@
 -- What a record or a text that is put does, as a trace of one event. Assumes nothing.
+use Rattle.std.specs.Prelude.{Option, Some, None}
 use mathlib.Core.Path.{◌≡◌, refl, sym, ◌∙◌}
 use mathlib.Core.Bool.{Bool, true, false, cond}
 use mathlib.Core.List.{List, [], ◌∷◌, ◌++◌, append-nil}
@@ -7,8 +8,6 @@ use native.Mathlib.Omega.{arith}
 use lib.ListN.{length}
 use Rattle.std.proofs.lemmas.Bool.{and_right}
 use Rattle.enc_utf_8.specs.Buffer.{splice, fits_in, Wrote}
-use Rattle.enc_utf_8.specs.declared.Put.{Put}
-use Rattle.enc_utf_8.specs.declared.Put.TheVariants as put
 use Rattle.enc_utf_8.proofs.Splices.{splice-none, fits-none, fits_not, next-full, Went, went, stayed}
 use Rattle.tape.specs.Record.{record_bytes}
 use Rattle.tape.specs.declared.record.Record.{Record}
@@ -19,11 +18,11 @@ use Rattle.de_output.specs.declared.Step.TheVariants.{Next, Stop}
 use Rattle.de_output.specs.Trace.{TapeEvent, rec, text, text_record, text_bytes, tape_bytes, events_of, end_of, one, fits, step_of, fitting, Ran}
 use Rattle.de_output.proofs.Runs.{fitting-all}
 
-not-fits : (b : Bool) (xs out : List ℕ) (at : ℕ) → fits_in xs at (length out) ≡ b → put.Full ≡ cond b (put.Next (at + length xs)) put.Full → b ≡ false
+not-fits : (b : Bool) (xs out : List ℕ) (at : ℕ) → fits_in xs at (length out) ≡ b → None ≡ cond b (Some (at + length xs)) None → b ≡ false
 not-fits true xs out at e a = next-full (sym a)
 not-fits false xs out at e a = refl
 
-over : {xs out out' : List ℕ} {at : ℕ} {p : Put} → Wrote xs out at p out' → p ≡ put.Full → fits_in xs at (length out) ≡ false
+over : {xs out out' : List ℕ} {at : ℕ} {p : Option ℕ} → Wrote xs out at p out' → p ≡ None → fits_in xs at (length out) ≡ false
 over {xs} {out} {out'} {at} {p} w e = not-fits (fits_in xs at (length out)) xs out at refl (sym e ∙ w.answer)
 
 -- one event that does not fit: nothing is put
@@ -33,15 +32,15 @@ none_put e tape txt at from h = record { answer = rw h; wrote = rw h (sym (splic
 
 -- ---- a record
 
-module _ (r : Record) (tape txt : List ℕ) (at from : ℕ) {p : Put} {tape' : List ℕ} (h : Wrote (record_bytes r) tape at p tape') where
-  record-over : p ≡ put.Full → fits (rec r ∷ []) at from (length tape) (length txt) ≡ false
+module _ (r : Record) (tape txt : List ℕ) (at from : ℕ) {p : Option ℕ} {tape' : List ℕ} (h : Wrote (record_bytes r) tape at p tape') where
+  record-over : p ≡ None → fits (rec r ∷ []) at from (length tape) (length txt) ≡ false
   unfolding fits tape_bytes
   record-over e = rw (append-nil (record_bytes r), over h e)
 
-  pub record-full : p ≡ put.Full → Ran (one (rec r)) tape txt at from (Stop 15 0) tape' txt
+  pub record-full : p ≡ None → Ran (one (rec r)) tape txt at from (Stop 15 0) tape' txt
   record-full e = rw (stayed h e).buffer (none_put (rec r) tape txt at from (record-over e))
 
-  module _ (n : ℕ) (e : p ≡ put.Next n) where
+  module _ (n : ℕ) (e : p ≡ Some n) where
     put_there : Went (record_bytes r) tape at n tape'
     put_there = went h e
 
@@ -81,27 +80,27 @@ text-short w d xs tape txt at from b e h =
         let l : length tape < at + 24 = leb-false (at + 24) (length tape) (sym e ∙ h) in
         fits_not (record_bytes (text_record w d from (length xs))) at (length tape) (omega arith) (omega arith)
 
-module _ (w d : ℕ) (xs tape txt : List ℕ) (at from : ℕ) {p : Put} {txt' : List ℕ} (h : Wrote xs txt from p txt') where
-  text-over : p ≡ put.Full → fits (text w d xs ∷ []) at from (length tape) (length txt) ≡ false
+module _ (w d : ℕ) (xs tape txt : List ℕ) (at from : ℕ) {p : Option ℕ} {txt' : List ℕ} (h : Wrote xs txt from p txt') where
+  text-over : p ≡ None → fits (text w d xs ∷ []) at from (length tape) (length txt) ≡ false
   unfolding fits tape_bytes text_bytes
   text-over e = rw (append-nil xs, over h e, and_right (fits_in (record_bytes (text_record w d from (length xs)) ++ []) at (length tape)) false refl)
 
-  pub text-full : p ≡ put.Full → Ran (one (text w d xs)) tape txt at from (Stop 15 0) tape txt'
+  pub text-full : p ≡ None → Ran (one (text w d xs)) tape txt at from (Stop 15 0) tape txt'
   text-full e = rw (stayed h e).buffer (none_put (text w d xs) tape txt at from (text-over e))
 
-  module _ (to : ℕ) (e : p ≡ put.Next to) {r : Put} {tape' : List ℕ} (on : Wrote (record_bytes (text_record w d from (to - from))) tape at r tape') where
+  module _ (to : ℕ) (e : p ≡ Some to) {r : Option ℕ} {tape' : List ℕ} (on : Wrote (record_bytes (text_record w d from (to - from))) tape at r tape') where
     long : to - from ≡ length xs
     long = omega (arith, (went h e).place)
 
     -- where the record fits, it is not said to be too long
-    pub text-never : (b : Bool) → b ≡ leb (at + 24) (length tape) → b ≡ true → {tape₁ txt₁ : List ℕ} → r ≡ put.Full → Ran (one (text w d xs)) tape txt at from (Stop 15 0) tape₁ txt₁
+    pub text-never : (b : Bool) → b ≡ leb (at + 24) (length tape) → b ≡ true → {tape₁ txt₁ : List ℕ} → r ≡ None → Ran (one (text w d xs)) tape txt at from (Stop 15 0) tape₁ txt₁
     text-never b eb hb q =
         let n = length-record (text_record w d from (to - from)) in
         let l : at + 24 ≤ length tape = leb-true (at + 24) (length tape) (sym eb ∙ hb) in
         let o = (stayed on q).over in
         absurd (omega arith)
 
-    module _ (n : ℕ) (q : r ≡ put.Next n) where
+    module _ (n : ℕ) (q : r ≡ Some n) where
       in_text : Went xs txt from to txt'
       in_text = went h e
 
@@ -131,5 +130,5 @@ module _ (w d : ℕ) (xs tape txt : List ℕ) (at from : ℕ) {p : Put} {txt' : 
           record { answer = text-answer; wrote = rw z text-wrote; told = rw z text-told }
 
 -- the text of an earlier place comes before a later one
-pub text-order : {xs txt txt' : List ℕ} {from to : ℕ} {p : Put} → Wrote xs txt from p txt' → p ≡ put.Next to → from ≤ to
+pub text-order : {xs txt txt' : List ℕ} {from to : ℕ} {p : Option ℕ} → Wrote xs txt from p txt' → p ≡ Some to → from ≤ to
 text-order h e = omega (arith, (went h e).place)

@@ -9,7 +9,6 @@ ghost use Rattle.de_output.specs.Answer.{read_refusal, Finished};
 ghost use Rattle.de_output.specs.Trace.{From, Halts, one, rec, text as text_event, text_record};
 
 use enc_text_decoder::Decoder;
-use enc_utf_8::Put;
 use enc_zeros::clear_bytes;
 use tape::record::{LENGTH, Record, TEXT};
 
@@ -47,8 +46,8 @@ pub fn put(s: Step, tape: &mut [u8], text: &mut [u8], r: Record) -> Step
         return s;
     };
     match tape::record::put(tape, at, r) {
-        Put::Next(n) => Step::Next(n, from),
-        Put::Full => Step::Stop(15, 0),
+        Some(n) => Step::Next(n, from),
+        None => Step::Stop(15, 0),
     }
 }
 
@@ -91,17 +90,24 @@ pub fn put_text(
     if !has_room(tape, at) {
         return Step::Stop(15, 0);
     }
-    let Put::Next(to) = enc_text_decoder::decode(decoder, bytes, text, from) else {
+    let Some(to) = enc_text_decoder::decode(decoder, bytes, text, from) else {
         return Step::Stop(15, 0);
     };
     match text_record(tape, at, width, declared, from, to) {
-        Put::Next(n) => Step::Next(n, to),
-        Put::Full => Step::Stop(15, 0),
+        Some(n) => Step::Next(n, to),
+        None => Step::Stop(15, 0),
     }
 }
 
 // The record of a text that stands from `from` up to `to`.
-fn text_record(tape: &mut [u8], at: usize, width: u8, declared: u32, from: usize, to: usize) -> Put
+fn text_record(
+    tape: &mut [u8],
+    at: usize,
+    width: u8,
+    declared: u32,
+    from: usize,
+    to: usize,
+) -> Option<usize>
     requires { from ≤ to }
     ensures { Wrote (record_bytes (text_record width declared from (to - from))) tape.old at result tape.new }
 {

@@ -6,8 +6,6 @@ ghost use Rattle.std.specs.Prelude.{◌≡◌, cond, ◌+◌, ◌<◌, ◌≤◌
 ghost use Rattle.enc_utf_8.specs.Buffer.{Wrote};
 ghost use Rattle.enc_ascii.specs.Ascii.{is_ascii, block_end};
 
-use enc_utf_8::Put;
-
 // The end of the block that starts at a place, in `len` bytes.
 pub fn block_end(at: usize, len: usize) -> usize
     requires { at < len }
@@ -35,16 +33,16 @@ pub fn is_ascii(bytes: &[u8]) -> bool
 }
 
 // Copies bytes from `at` on, all of them or none, which is all that ASCII needs. No bytes fit anywhere.
-pub fn copy(bytes: &[u8], out: &mut [u8], at: usize) -> Put
+pub fn copy(bytes: &[u8], out: &mut [u8], at: usize) -> Option<usize>
     ensures { Wrote bytes.now out.old at result out.new }
 {
     if bytes.is_empty() {
-        return Put::Next(at);
+        return Some(at);
     }
     if out.len() < at || out.len() - at < bytes.len() {
-        return Put::Full;
+        return None;
     }
     let end = at + bytes.len();
     out[at..end].copy_from_slice(bytes);
-    Put::Next(end)
+    Some(end)
 }

@@ -5,7 +5,7 @@ ghost use Rattle.std.specs.Prelude.{◌≡◌};
 ghost use Rattle.enc_utf_8.specs.Buffer.{Wrote};
 ghost use Rattle.enc_text_decoder.specs.Text.{end_by, decoded_by};
 
-use enc_utf_8::{Put, TextEnd};
+use enc_utf_8::TextEnd;
 
 #[derive(Clone, Copy)]
 pub enum Decoder {
@@ -27,7 +27,7 @@ pub fn text_end(decoder: Decoder, bytes: &[u8]) -> TextEnd
 }
 
 // A text's bytes in UTF-8, at a place of the text buffer.
-pub fn decode(decoder: Decoder, bytes: &[u8], text: &mut [u8], at: usize) -> Put
+pub fn decode(decoder: Decoder, bytes: &[u8], text: &mut [u8], at: usize) -> Option<usize>
     ensures { Wrote (decoded_by decoder bytes.now) text.old at result text.new }
 {
     match decoder {

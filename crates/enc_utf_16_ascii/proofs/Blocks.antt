@@ -1,4 +1,5 @@
 -- Blocks of ASCII in UTF-16LE: their code units told, their low bytes copied. Assumes nothing.
+use Rattle.std.specs.Prelude.{Some}
 use mathlib.Core.Path.{◌≡◌, refl, ap}
 use mathlib.Core.Bool.{Bool, true, false}
 use mathlib.Core.List.{List, [], ◌∷◌, ◌++◌}
@@ -8,7 +9,6 @@ use lib.ListN.{length, get_or, set}
 use lib.Dec.{eqb}
 use borrow.Author.Tests.{eqb-true, eqb-false, eq-eqb}
 use Rattle.enc_number.proofs.ByteOrder.{le_value-two}
-use Rattle.enc_utf_8.specs.declared.Put.TheVariants.{Next}
 use Rattle.enc_utf_8.specs.Buffer.{Wrote}
 use Rattle.enc_utf_8.proofs.Splices.{stored_1}
 use Rattle.enc_utf_16.specs.Unit16.{unit_of}
@@ -69,7 +69,7 @@ module _ (bytes out out₁ : List ℕ) (at to i : ℕ) (q : LeftToWrite (lows by
   pub copy_room : i < 32 → to + i < length out₁
   copy_room h = omega (arith, q.fits, lows-length bytes (32 - i) (at + 2 * i))
 
-  pub copy_end : 32 ≤ i → i ≤ 32 → Wrote (lows bytes at 32) out to (Next (to + 32)) out₁
+  pub copy_end : 32 ≤ i → i ≤ 32 → Wrote (lows bytes at 32) out to (Some (to + 32)) out₁
   unfolding lows
   copy_end l h =
       let n : 32 - i ≡ 0 = omega arith in

@@ -2,11 +2,9 @@
 // These functions are for the decoder alone, which knows that their `requires` hold.
 #![tactic(auto)]
 
-ghost use Rattle.std.specs.Prelude.{◌≡◌, true, ◌+◌, ◌<◌, ◌≤◌, length};
+ghost use Rattle.std.specs.Prelude.{◌≡◌, true, ◌+◌, ◌<◌, ◌≤◌, length, Some};
 ghost use Rattle.enc_utf_8.specs.Buffer.{Wrote};
 ghost use Rattle.enc_utf_16_ascii.specs.Ascii16.{AsciiUnits, lows};
-
-use enc_utf_8::Put;
 
 // Whether 32 code units are ASCII: it adds up what is above 7Fh in them, which needs no branch.
 fn ascii_units(bytes: &[u8], at: usize) -> bool
@@ -32,7 +30,7 @@ pub fn ascii_block(bytes: &[u8], at: usize) -> bool
 pub fn copy_units(bytes: &[u8], at: usize, out: &mut [u8], to: usize) -> usize
     requires at_in_bounds { at + 64 ≤ length bytes.now }
     requires to_in_bounds { to + 32 ≤ length out.old }
-    ensures { Wrote (lows bytes.now at 32) out.old to (Put.Next result) out.new }
+    ensures { Wrote (lows bytes.now at 32) out.old to (Some result) out.new }
 {
     for i in 0..32 {
         out[to + i] = bytes[at + 2 * i];

@@ -1,13 +1,11 @@
 -- A text by its blocks: what a block of ASCII is of it, and its scalar values one by one, measured and written. Assumes nothing.
+use Rattle.std.specs.Prelude.{Option, Some, None}
 use mathlib.Core.Path.{◌≡◌, refl, ap, ◌∙◌}
 use mathlib.Core.Bool.{Bool, true}
 use mathlib.Core.List.{List, ◌∷◌, ◌++◌}
 use Prim.Native.Nat.{ℕ, zero, suc, ◌+◌, ◌*◌, ◌-◌, ◌/◌, ◌%◌, ◌≤◌, ◌<◌}
 use native.Mathlib.Omega.{arith}
 use lib.ListN.{length, get_or, drop, set, length-append}
-use Rattle.enc_utf_8.specs.declared.Put.{Put}
-use Rattle.enc_utf_8.specs.declared.Put.TheVariants.{Next, Full}
-use Rattle.enc_utf_8.specs.declared.Room.TheVariants.{Over}
 use Rattle.enc_utf_8.specs.Buffer.{Wrote, room_for}
 use Rattle.enc_utf_8.specs.Utf8.{utf8_of}
 use Rattle.enc_utf_8.proofs.Encodes.{utf8_one, utf8_two, utf8_short, len-two}
@@ -63,7 +61,7 @@ module _ (bytes : List ℕ) (at : ℕ) (t : Bool) (a : t ≡ true → AsciiUnits
   pub block_measured : TextAt16 bytes at 32 (at + 64)
   block_measured = record { is = block-length bytes at (a q); later = omega arith; within = block-whole }
 
-  block-left : (whole out₀ out out' : List ℕ) (start to r : ℕ) → LeftToWrite whole out₀ start (decode16_text (drop at bytes)) out to → Wrote (lows bytes at 32) out to (Next r) out'
+  block-left : (whole out₀ out out' : List ℕ) (start to r : ℕ) → LeftToWrite whole out₀ start (decode16_text (drop at bytes)) out to → Wrote (lows bytes at 32) out to (Some r) out'
       → LeftToWrite whole out₀ start (decode16_text (drop (at + 64) bytes)) out' r
   block-left whole out₀ out out' start to r inv w = left-part (lows bytes at 32) _ (rw (block-text bytes at (a q)) at inv) w r refl
 
@@ -71,7 +69,7 @@ module _ (bytes : List ℕ) (at : ℕ) (t : Bool) (a : t ≡ true → AsciiUnits
     pub block_room : to + 32 ≤ length out
     block_room = omega (arith, block-length bytes at (a q))
 
-    pub block_written : (r : ℕ) (out' : List ℕ) → Wrote (lows bytes at 32) out to (Next r) out' → PartWrote bytes at out to (at + 64) out' r
+    pub block_written : (r : ℕ) (out' : List ℕ) → Wrote (lows bytes at 32) out to (Some r) out' → PartWrote bytes at out to (at + 64) out' r
     block_written r out' w = record {
       left = block-left (decode16_text (drop at bytes)) out out out' to to r (left-all (decode16_text (drop at bytes)) out to f) w;
       later = omega arith;
@@ -85,7 +83,7 @@ module _ (bytes out out₁ : List ℕ) (from to at next : ℕ) (q : LeftToWrite 
   units_written end h l k = record { left = q; later = omega arith; within = k }
 
   -- what fits is never refused
-  pub units_never : (code after : ℕ) (r : Put) (out₂ : List ℕ) → ScalarAtIn decode_scalars bytes at code after → Wrote (utf8_of code) out₁ next r out₂ → r ≡ Full → PartWrote bytes from out to at out₂ next
+  pub units_never : (code after : ℕ) (r : Option ℕ) (out₂ : List ℕ) → ScalarAtIn decode_scalars bytes at code after → Wrote (utf8_of code) out₁ next r out₂ → r ≡ None → PartWrote bytes from out to at out₂ next
   units_never code after r out₂ s w e = left-never (utf8_of code) _ (rw (text-here decode_scalars utf8_of nothing_left bytes at code after s) at q) w e
 
 -- ---- what was written
@@ -118,22 +116,22 @@ module _ (bytes : List ℕ) (at size next used : ℕ) (here : TextAt16 bytes at 
   pub part-again : used + size + length (decode16_text (drop next bytes)) ≡ length (decode16_text bytes)
   part-again = omega (arith, here.is)
 
-  pub part-over : (room : ℕ) → used ≤ room → room - used < size → Over ≡ room_for (length (decode16_text bytes)) room
+  pub part-over : (room : ℕ) → used ≤ room → room - used < size → None ≡ room_for (length (decode16_text bytes)) room
   part-over room a h = room-over _ room (omega (arith, here.is))
 
 -- ---- put_8
 
 module _ (out : List ℕ) (at code : ℕ) where
   module _ (l : code < 0x80) where
-    pub short_put : at < length out → Wrote (utf8_of code) out at (Next (at + 1)) (set out at code)
+    pub short_put : at < length out → Wrote (utf8_of code) out at (Some (at + 1)) (set out at code)
     short_put h = wrote_as (utf8_one code l) (stored_1 out at code (omega arith))
 
-  pub none-full : code < 0x800 → length out ≤ at → Wrote (utf8_of code) out at Full out
+  pub none-full : code < 0x800 → length out ≤ at → Wrote (utf8_of code) out at None out
   none-full l h = wrote-full (utf8_of code) out at (utf8_short code).some (omega (arith, (utf8_short code).some))
 
   module _ (l : 0x80 ≤ code) (u : code < 0x800) where
-    pub two_put : at < length out → 2 ≤ length out - at → Wrote (utf8_of code) out at (Next (at + 2)) (set (set out at (0xc0 + code / 64)) (at + 1) (0x80 + code % 64))
+    pub two_put : at < length out → 2 ≤ length out - at → Wrote (utf8_of code) out at (Some (at + 2)) (set (set out at (0xc0 + code / 64)) (at + 1) (0x80 + code % 64))
     two_put h k = wrote_as (utf8_two code l u) (stored_2 out at (0xc0 + code / 64) (0x80 + code % 64) (omega arith))
 
-    pub two-full : at < length out → length out - at < 2 → Wrote (utf8_of code) out at Full out
+    pub two-full : at < length out → length out - at < 2 → Wrote (utf8_of code) out at None out
     two-full h k = wrote-full (utf8_of code) out at (utf8_short code).some (omega (arith, len-two code l u))

@@ -1,14 +1,13 @@
 // The UTF-16LE decoder: the text of a WSTRING to UTF-8.
 #![tactic(auto)]
 
-ghost use Rattle.std.specs.Prelude.{◌≡◌, ◌+◌, ◌≤◌, ◌<◌, length, drop, leb};
+ghost use Rattle.std.specs.Prelude.{◌≡◌, ◌+◌, ◌≤◌, ◌<◌, length, drop, leb, Some};
 ghost use Rattle.enc_utf_8.specs.Utf8.{utf8_of};
 ghost use Rattle.enc_utf_8.specs.Buffer.{Wrote, room_for};
 ghost use Rattle.enc_utf_16.specs.Decode.{decode16_text};
 ghost use Rattle.enc_utf_16_decoder.specs.Step.{TextAt16, PartWrote};
 
 use enc_ascii::block_end;
-use enc_utf_8::{Put, Room};
 use enc_utf_8_encoder::{put, utf8_len};
 use enc_utf_16_ascii::{ascii_block, copy_units};
 use enc_utf_16_scalar::scalar_16;
@@ -57,7 +56,7 @@ fn measure(bytes: &[u8], at: usize) -> Measured
 }
 
 // How many bytes the text takes in UTF-8, where that is at most `room`.
-pub fn decoded_len(bytes: &[u8], room: usize) -> Room
+pub fn decoded_len(bytes: &[u8], room: usize) -> Option<usize>
     ensures { result ≡ room_for (length (decode16_text bytes.now)) room }
 {
     let mut at = 0;
@@ -65,41 +64,41 @@ pub fn decoded_len(bytes: &[u8], room: usize) -> Room
     while at < bytes.len() {
         let here = measure(bytes, at);
         if room - used < here.size {
-            return Room::Over;
+            return None;
         }
         used += here.size;
         at = here.next;
     }
-    Room::Fits(used)
+    Some(used)
 }
 
 // Whether the text takes at most `room` bytes in UTF-8. No byte gives more than three, so a short text is not measured.
 fn fits_in(bytes: &[u8], room: usize) -> bool
     ensures { result ≡ leb (length (decode16_text bytes.now)) room }
 {
-    bytes.len() <= room / 3 || matches!(decoded_len(bytes, room), Room::Fits(_))
+    bytes.len() <= room / 3 || matches!(decoded_len(bytes, room), Some(_))
 }
 
 // Writes a scalar value in UTF-8 from `at` on, where it fits. What takes one byte or two is told first.
-fn put_8(out: &mut [u8], at: usize, code: u32) -> Put
+fn put_8(out: &mut [u8], at: usize, code: u32) -> Option<usize>
     ensures { Wrote (utf8_of code) out.old at result out.new }
 {
     if code >= 0x800 {
         return put(out, at, code);
     }
     if out.len() <= at {
-        return Put::Full;
+        return None;
     }
     if code < 0x80 {
         out[at] = code as u8;
-        return Put::Next(at + 1);
+        return Some(at + 1);
     }
     if out.len() - at < 2 {
-        return Put::Full;
+        return None;
     }
     out[at] = (0xc0 + code / 64) as u8;
     out[at + 1] = (0x80 + code % 64) as u8;
-    Put::Next(at + 2)
+    Some(at + 2)
 }
 
 // Writes in UTF-8, from `to` on, the scalar values that begin from `from` on, before `end`.
@@ -112,7 +111,7 @@ fn write_units(bytes: &[u8], from: usize, end: usize, out: &mut [u8], to: usize)
     let mut place = to;
     while at < end {
         let here = scalar_16(bytes, at);
-        let Put::Next(after) = put_8(out, place, here.code) else {
+        let Some(after) = put_8(out, place, here.code) else {
             // never: the text fits
             return Places {
                 from: at,
@@ -147,7 +146,7 @@ fn write_block(bytes: &[u8], from: usize, out: &mut [u8], to: usize) -> Places
 // Writes the text in UTF-8 from `at` on, where it fits, and gives the place after it.
 fn write_8(bytes: &[u8], out: &mut [u8], at: usize) -> usize
     requires { at + length (decode16_text bytes.now) ≤ length out.old }
-    ensures { Wrote (decode16_text bytes.now) out.old at (Put.Next result) out.new }
+    ensures { Wrote (decode16_text bytes.now) out.old at (Some result) out.new }
 {
     let mut from = 0;
     let mut to = at;
@@ -160,17 +159,17 @@ fn write_8(bytes: &[u8], out: &mut [u8], at: usize) -> usize
 }
 
 // Decodes UTF-16LE to UTF-8 from `at` on; the buffer is not touched where the text does not fit. An empty text fits anywhere.
-pub fn decode(bytes: &[u8], out: &mut [u8], at: usize) -> Put
+pub fn decode(bytes: &[u8], out: &mut [u8], at: usize) -> Option<usize>
     ensures { Wrote (decode16_text bytes.now) out.old at result out.new }
 {
     if bytes.is_empty() {
-        return Put::Next(at);
+        return Some(at);
     }
     if out.len() < at {
-        return Put::Full;
+        return None;
     }
     if fits_in(bytes, out.len() - at) {
-        return Put::Next(write_8(bytes, out, at));
+        return Some(write_8(bytes, out, at));
     }
-    Put::Full
+    None
 }

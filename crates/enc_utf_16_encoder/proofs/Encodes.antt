@@ -1,4 +1,5 @@
 -- The encoder, scalar value by scalar value. This module alone opens `utf16_of`. Assumes nothing.
+use Rattle.std.specs.Prelude.{Option, Some}
 use mathlib.Core.Path.{◌≡◌, refl, ◌∙◌}
 use mathlib.Core.List.{List, [], ◌∷◌, ◌++◌}
 use Prim.Native.Nat.{ℕ, ◌+◌, ◌-◌, ◌/◌, ◌%◌, ◌≤◌, ◌<◌}
@@ -7,15 +8,13 @@ use borrow.Rule.Slice.PartMut.{put_mid}
 use lib.ListN.{length, length-append}
 use borrow.Author.Tests.{lt-ltb, le-ltb}
 use Rattle.enc_number.proofs.ByteOrder.{length-le_bytes, le_bytes-two}
-use Rattle.enc_utf_8.specs.declared.Put.{Put}
-use Rattle.enc_utf_8.specs.declared.Put.TheVariants.{Next}
 use Rattle.enc_utf_8.specs.Buffer.{splice, Wrote}
 use Rattle.enc_utf_8.proofs.Splices.{splice-paste, wrote-splice, wrote_as}
 use Rattle.std.proofs.lemmas.Slice.{put_mid-paste}
 use Rattle.enc_utf_16.specs.Encode.{unit_bytes, leading_of, trailing_of, utf16_of}
 
 -- a part of a buffer that was replaced by bytes of its length
-pub wrote-part : (xs out ys : List ℕ) (at n : ℕ) → length xs ≡ n → at + n ≤ length out → ys ≡ xs → Wrote xs out at (Next (at + n)) (put_mid at (at + n - at) out ys)
+pub wrote-part : (xs out ys : List ℕ) (at n : ℕ) → length xs ≡ n → at + n ≤ length out → ys ≡ xs → Wrote xs out at (Some (at + n)) (put_mid at (at + n - at) out ys)
 wrote-part xs out ys at n e h q =
     let p : at + n ≡ at + length xs = omega arith in
     let s : put_mid at (at + n - at) out ys ≡ splice out at xs = put_mid-paste at (at + n - at) out ys xs (length xs) q (omega arith) refl ∙ splice-paste out at xs in
@@ -40,7 +39,7 @@ module _ (c : ℕ) where
   pub two-length : 0x10000 ≤ c → 4 ≡ length (utf16_of c)
   two-length h = rw (two_units h, length-append, length-le_bytes 2 (leading_of c), length-le_bytes 2 (trailing_of c))
 
-  module _ {out out' : List ℕ} {at : ℕ} {r : Put} where
+  module _ {out out' : List ℕ} {at : ℕ} {r : Option ℕ} where
     pub put_one : c < 0x10000 → Wrote (unit_bytes c) out at r out' → Wrote (utf16_of c) out at r out'
     put_one h w = wrote_as (one_unit h) w
 

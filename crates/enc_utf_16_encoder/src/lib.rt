@@ -1,13 +1,13 @@
 // The UTF-16LE encoder: UTF-8 to the text of a WSTRING.
 #![tactic(auto)]
 
-ghost use Rattle.std.specs.Prelude.{◌≡◌, ◌++◌, ◌≤◌, ◌<◌, length, leb};
+ghost use Rattle.std.specs.Prelude.{◌≡◌, ◌++◌, ◌≤◌, ◌<◌, length, leb, Some};
 ghost use Rattle.enc_utf_8.specs.Utf8.{scalars};
 ghost use Rattle.enc_utf_8.specs.Buffer.{Wrote, room_for};
 ghost use Rattle.enc_utf_16.specs.Encode.{unit_bytes, utf16_of, encode16_text};
 ghost use Rattle.enc_utf_16.specs.Step.{ScalarAtIn};
 
-use enc_utf_8::{Char, Put, Room};
+use enc_utf_8::Char;
 use enc_utf_8_decoder::next;
 
 // What an error is replaced by.
@@ -64,19 +64,19 @@ fn utf16_len(code: u32) -> usize
 }
 
 // Writes some bytes from `at` on, all of them or none.
-fn put_bytes<const N: usize>(out: &mut [u8], at: usize, bytes: [u8; N]) -> Put
+fn put_bytes<const N: usize>(out: &mut [u8], at: usize, bytes: [u8; N]) -> Option<usize>
     requires { 0 < N }
     ensures { Wrote bytes.entry out.old at result out.new }
 {
     if out.len() < at || out.len() - at < N {
-        return Put::Full;
+        return None;
     }
     out[at..at + N].copy_from_slice(&bytes);
-    Put::Next(at + N)
+    Some(at + N)
 }
 
 // Writes a code unit from `at` on, its low byte first, where it fits.
-fn put_unit(out: &mut [u8], at: usize, unit: u32) -> Put
+fn put_unit(out: &mut [u8], at: usize, unit: u32) -> Option<usize>
     ensures { Wrote (unit_bytes unit) out.old at result out.new }
 {
     let [low, high, _, _] = unit.to_le_bytes();
@@ -84,7 +84,7 @@ fn put_unit(out: &mut [u8], at: usize, unit: u32) -> Put
 }
 
 // Writes a surrogate pair from `at` on, all of it or nothing.
-fn put_pair(out: &mut [u8], at: usize, lead: u32, trail: u32) -> Put
+fn put_pair(out: &mut [u8], at: usize, lead: u32, trail: u32) -> Option<usize>
     ensures { Wrote (unit_bytes lead ++ unit_bytes trail) out.old at result out.new }
 {
     let [low, high, _, _] = lead.to_le_bytes();
@@ -93,7 +93,7 @@ fn put_pair(out: &mut [u8], at: usize, lead: u32, trail: u32) -> Put
 }
 
 // Writes a scalar value from `at` on, where it fits.
-fn put_16(out: &mut [u8], at: usize, code: u32) -> Put
+fn put_16(out: &mut [u8], at: usize, code: u32) -> Option<usize>
     ensures { Wrote (utf16_of code) out.old at result out.new }
 {
     if code < 0x10000 {
@@ -104,7 +104,7 @@ fn put_16(out: &mut [u8], at: usize, code: u32) -> Put
 }
 
 // How many bytes the text takes in UTF-16, where that is at most `room`.
-pub fn encoded_len(text: &[u8], room: usize) -> Room
+pub fn encoded_len(text: &[u8], room: usize) -> Option<usize>
     ensures { result ≡ room_for (length (encode16_text text.now)) room }
 {
     let mut at = 0;
@@ -113,24 +113,24 @@ pub fn encoded_len(text: &[u8], room: usize) -> Room
         let here = scalar_8(text, at);
         let size = utf16_len(here.code);
         if room - used < size {
-            return Room::Over;
+            return None;
         }
         used += size;
         at = here.next;
     }
-    Room::Fits(used)
+    Some(used)
 }
 
 // Writes the text in UTF-16LE, where it fits, and gives the place after it.
 fn write_16(text: &[u8], out: &mut [u8]) -> usize
     requires { length (encode16_text text.now) ≤ length out.old }
-    ensures { Wrote (encode16_text text.now) out.old 0 (Put.Next result) out.new }
+    ensures { Wrote (encode16_text text.now) out.old 0 (Some result) out.new }
 {
     let mut from = 0;
     let mut to = 0;
     while from < text.len() {
         let here = scalar_8(text, from);
-        let Put::Next(end) = put_16(out, to, here.code) else {
+        let Some(end) = put_16(out, to, here.code) else {
             return to;
         };
         to = end;
@@ -143,15 +143,15 @@ fn write_16(text: &[u8], out: &mut [u8]) -> usize
 fn encoded_fits_in(text: &[u8], room: usize) -> bool
     ensures { result ≡ leb (length (encode16_text text.now)) room }
 {
-    text.len() <= room / 2 || matches!(encoded_len(text, room), Room::Fits(_))
+    text.len() <= room / 2 || matches!(encoded_len(text, room), Some(_))
 }
 
 // Encodes UTF-8 to UTF-16LE; the buffer is not touched where the text does not fit.
-pub fn encode(text: &[u8], out: &mut [u8]) -> Put
+pub fn encode(text: &[u8], out: &mut [u8]) -> Option<usize>
     ensures { Wrote (encode16_text text.now) out.old 0 result out.new }
 {
     if encoded_fits_in(text, out.len()) {
-        return Put::Next(write_16(text, out));
+        return Some(write_16(text, out));
     }
-    Put::Full
+    None
 }

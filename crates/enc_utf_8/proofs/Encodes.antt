@@ -1,4 +1,5 @@
 -- Laws of the encoder: the bytes of a number in each range, and the exits of `put` and `utf8_len`. They alone open `encoded` and `utf8_of`. Assumes nothing.
+use Rattle.std.specs.Prelude.{Option}
 use mathlib.Core.Path.{◌≡◌, refl, sym, ◌∙◌}
 use mathlib.Core.Bool.{Bool, true, false, cond, ◌&&◌, ◌||◌}
 use mathlib.Core.List.{List, [], ◌∷◌}
@@ -7,7 +8,6 @@ use native.Mathlib.Omega.{arith}
 use lib.ListN.{length, get_or}
 use lib.Dec.{leb, ltb}
 use borrow.Author.Tests.{lt-ltb, le-ltb, le-leb, lt-leb, ltb-true, ltb-false, leb-true}
-use Rattle.enc_utf_8.specs.declared.Put.{Put}
 use Rattle.enc_utf_8.specs.Buffer.{Wrote}
 use Rattle.enc_utf_8.specs.Utf8.{is_scalar, two, three, four, encoded, utf8_of}
 use Rattle.enc_utf_8.proofs.Splices.{wrote_as}
@@ -95,7 +95,7 @@ encoded_for c = by (is_scalar c) refl
 
 -- ---- the exits of `put`
 
-module _ (out out' : List ℕ) (at : ℕ) (r : Put) (c : ℕ) where
+module _ (out out' : List ℕ) (at : ℕ) (r : Option ℕ) (c : ℕ) where
   pub put_one : c < 0x80 → Wrote (c ∷ []) out at r out' → Wrote (utf8_of c) out at r out'
   put_one h w = wrote_as (utf8_one c h) w
 

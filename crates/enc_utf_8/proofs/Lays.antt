@@ -1,4 +1,5 @@
 -- Laws of `Laid`: how bytes that fit are laid in several parts, and what that says of a call that writes all of them or none. Assumes nothing.
+use Rattle.std.specs.Prelude.{Option, Some, None}
 use mathlib.Core.Path.{◌≡◌, refl, sym, ap, ◌∙◌}
 use mathlib.Core.Bool.{Bool, true, false, cond}
 use mathlib.Core.List.{List, [], ◌∷◌, ◌++◌}
@@ -7,10 +8,6 @@ use native.Mathlib.Omega.{arith}
 use lib.ListN.{length, set, length-append}
 use lib.Dec.{leb}
 use borrow.Author.Tests.{leb-true, leb-false, le-leb, lt-leb}
-use Rattle.enc_utf_8.specs.declared.Put.{Put}
-use Rattle.enc_utf_8.specs.declared.Put.TheVariants.{Next, Full}
-use Rattle.enc_utf_8.specs.declared.Room.{Room}
-use Rattle.enc_utf_8.specs.declared.Room.TheVariants.{Fits, Over}
 use Rattle.enc_utf_8.specs.Buffer.{Wrote, Laid, room_for}
 use Rattle.enc_utf_8.proofs.Splices.{splice-none, splice-long, splice-splice, wrote-splice, wrote-full, went, stayed, stored_1, stored_2}
 
@@ -81,10 +78,10 @@ rest_end {xs} {ys} {out} {out₁} {at} {at₁} q e = q.finish at₁ out₁ (laid
 
 -- ---- what a call that writes all or nothing tells where it is known to fit
 
-pub put_went : {xs out out₁ : List ℕ} {at : ℕ} {r : Put} (n : ℕ) → Wrote xs out at r out₁ → r ≡ Next n → Laid xs out at n out₁
+pub put_went : {xs out out₁ : List ℕ} {at : ℕ} {r : Option ℕ} (n : ℕ) → Wrote xs out at r out₁ → r ≡ Some n → Laid xs out at n out₁
 put_went n w e = let g = went w e in record { next = g.place; buffer = g.buffer }
 
-pub put_never : {X : Type 0} {xs out out₁ : List ℕ} {at : ℕ} {r : Put} → at + length xs ≤ length out → Wrote xs out at r out₁ → r ≡ Full → X
+pub put_never : {X : Type 0} {xs out out₁ : List ℕ} {at : ℕ} {r : Option ℕ} → at + length xs ≤ length out → Wrote xs out at r out₁ → r ≡ None → X
 put_never h w e = absurd (let s = stayed w e in omega (arith, s.over))
 
 -- ---- a length that was asked for beforehand
@@ -93,20 +90,20 @@ pub record Fitting (n len room : ℕ) : Type 0 where
   pub is : n ≡ len
   pub fits : len ≤ room
 
-fits-over : {X : Type 0} {n : ℕ} → Fits n ≡ Over → X
+fits-over : {X : Type 0} {n : ℕ} → Some n ≡ None → X
 fits-over e = absurd (let z : ◌≡◌ {A = ℕ} 0 1 = cc in omega arith)
 
-pub room_fits : {r : Room} (n len room : ℕ) → r ≡ room_for len room → r ≡ Fits n → Fitting n len room
+pub room_fits : {r : Option ℕ} (n len room : ℕ) → r ≡ room_for len room → r ≡ Some n → Fitting n len room
 room_fits {r} n len room e q = by (leb len room) refl (sym q ∙ e)
   where
-    by : (b : Bool) → leb len room ≡ b → Fits n ≡ cond b (Fits len) Over → Fitting n len room
+    by : (b : Bool) → leb len room ≡ b → Some n ≡ cond b (Some len) None → Fitting n len room
     by true h z = record { is = cc; fits = leb-true len room h }
     by false h z = fits-over z
 
-pub room-over : {r : Room} (len room : ℕ) → r ≡ room_for len room → r ≡ Over → room < len
+pub room-over : {r : Option ℕ} (len room : ℕ) → r ≡ room_for len room → r ≡ None → room < len
 room-over {r} len room e q = by (leb len room) refl (sym q ∙ e)
   where
-    by : (b : Bool) → leb len room ≡ b → Over ≡ cond b (Fits len) Over → room < len
+    by : (b : Bool) → leb len room ≡ b → None ≡ cond b (Some len) None → room < len
     by true h z = fits-over (sym z)
     by false h z = leb-false len room h
 
@@ -117,20 +114,20 @@ module _ (n all : ℕ) (ys : List ℕ) (inv : n + length ys ≡ all) where
     pub count-part : n + k + length vs ≡ all
     count-part = omega (arith, ap length e ∙ length-append us vs)
 
-    pub count-over : (room : ℕ) → n ≤ room → room - n < k → Over ≡ room_for all room
+    pub count-over : (room : ℕ) → n ≤ room → room - n < k → None ≡ room_for all room
     count-over room l s = sym (rw (lt-leb all room (omega (arith, count-part))))
 
   pub count-all : ys ≡ [] → n ≡ all
   count-all e = omega (arith, ap length e)
 
-  pub count_fits : ys ≡ [] → (room : ℕ) → n ≤ room → Fits n ≡ room_for all room
+  pub count_fits : ys ≡ [] → (room : ℕ) → n ≤ room → Some n ≡ room_for all room
   count_fits e room l = let z = count-all e in sym (rw (← z, le-leb n room l))
 
 -- ---- a call that asks for the length, and then writes all or nothing
 
 module _ (xs out : List ℕ) (at : ℕ) where
-  pub wrote-laid : {n : ℕ} {out₁ : List ℕ} → at + length xs ≤ length out → Laid xs out at n out₁ → Wrote xs out at (Next n) out₁
+  pub wrote-laid : {n : ℕ} {out₁ : List ℕ} → at + length xs ≤ length out → Laid xs out at n out₁ → Wrote xs out at (Some n) out₁
   wrote-laid h l = rw (l.next, l.buffer) (wrote-splice xs out at h)
 
-  pub wrote-over : length out < at + length xs → 0 < length xs → Wrote xs out at Full out
+  pub wrote-over : length out < at + length xs → 0 < length xs → Wrote xs out at None out
   wrote-over h p = wrote-full xs out at p h

@@ -1,4 +1,5 @@
 -- Laws of `splice`, `fits_in` and `Wrote`: the only place that opens them. Assumes nothing.
+use Rattle.std.specs.Prelude.{Option, Some, None}
 use mathlib.Core.Path.{◌≡◌, refl, sym, ap, ◌∙◌}
 use mathlib.Core.Bool.{Bool, true, false, cond}
 use mathlib.Core.List.{List, [], ◌∷◌, ◌++◌, append_assoc, append-nil}
@@ -7,8 +8,6 @@ use native.Mathlib.Omega.{arith}
 use lib.ListN.{length, take, drop, set, length-append, length-drop, take-append-drop}
 use lib.Seq.{take_at, take_all, drop-append-add, drop-drop, length-take-le, sets, sets-eq, paste}
 use borrow.Author.Tests.{leb-true, leb-false, le-leb, lt-leb}
-use Rattle.enc_utf_8.specs.declared.Put.{Put}
-use Rattle.enc_utf_8.specs.declared.Put.TheVariants.{Next, Full}
 use Rattle.enc_utf_8.specs.Buffer.{splice, fits_in, Wrote}
 
 -- ---- splice
@@ -100,19 +99,19 @@ unfits_in_then (x ∷ xs) ys room at h = lt-leb (at + suc (length (xs ++ ys))) r
 
 -- ---- Wrote
 
-pub next-full : {X : Type 0} {n : ℕ} → Next n ≡ Full → X
+pub next-full : {X : Type 0} {n : ℕ} → Some n ≡ None → X
 next-full e = absurd (let z : ◌≡◌ {A = ℕ} 0 1 = cc in omega arith)
 
 -- bytes that fit are written
-pub wrote-splice : (xs out : List ℕ) (at : ℕ) → at + length xs ≤ length out → Wrote xs out at (Next (at + length xs)) (splice out at xs)
+pub wrote-splice : (xs out : List ℕ) (at : ℕ) → at + length xs ≤ length out → Wrote xs out at (Some (at + length xs)) (splice out at xs)
 wrote-splice xs out at h = record { answer = rw (fits_le xs at (length out) h); buffer = rw (fits_le xs at (length out) h) }
 
 -- bytes that do not fit leave the buffer
-pub wrote-full : (xs out : List ℕ) (at : ℕ) → 0 < length xs → length out < at + length xs → Wrote xs out at Full out
+pub wrote-full : (xs out : List ℕ) (at : ℕ) → 0 < length xs → length out < at + length xs → Wrote xs out at None out
 wrote-full xs out at p h = record { answer = rw (fits_not xs at (length out) p h); buffer = rw (fits_not xs at (length out) p h) }
 
 -- no bytes are written anywhere
-pub wrote_none : (out : List ℕ) (at : ℕ) → Wrote [] out at (Next at) out
+pub wrote_none : (out : List ℕ) (at : ℕ) → Wrote [] out at (Some at) out
 unfolding fits_in
 wrote_none out at = let e : at + 0 ≡ at = omega arith in record { answer = rw e; buffer = sym (splice-none out at) }
 
@@ -122,12 +121,12 @@ pub record Went (xs out : List ℕ) (at n : ℕ) (out' : List ℕ) : Type 0 wher
   pub place : n ≡ at + length xs
   pub buffer : out' ≡ splice out at xs
 
-went-by : (b : Bool) {xs out out' : List ℕ} {at n : ℕ} → fits_in xs at (length out) ≡ b → Next n ≡ cond b (Next (at + length xs)) Full
+went-by : (b : Bool) {xs out out' : List ℕ} {at n : ℕ} → fits_in xs at (length out) ≡ b → Some n ≡ cond b (Some (at + length xs)) None
     → out' ≡ cond b (splice out at xs) out → Went xs out at n out'
 went-by true e a w = record { fits = e; place = cc; buffer = w }
 went-by false e a w = next-full a
 
-pub went : {xs out out' : List ℕ} {at n : ℕ} {r : Put} → Wrote xs out at r out' → r ≡ Next n → Went xs out at n out'
+pub went : {xs out out' : List ℕ} {at n : ℕ} {r : Option ℕ} → Wrote xs out at r out' → r ≡ Some n → Went xs out at n out'
 went {xs} {out} {out'} {at} {n} {r} w e = went-by (fits_in xs at (length out)) refl (sym e ∙ w.answer) w.buffer
 
 -- what the answer `Full` tells
@@ -135,42 +134,42 @@ pub record Stayed (xs out : List ℕ) (at : ℕ) (out' : List ℕ) : Type 0 wher
   pub over : length out < at + length xs
   pub buffer : out' ≡ out
 
-stayed-by : (b : Bool) (xs : List ℕ) {out out' : List ℕ} {at : ℕ} → fits_in xs at (length out) ≡ b → Full ≡ cond b (Next (at + length xs)) Full
+stayed-by : (b : Bool) (xs : List ℕ) {out out' : List ℕ} {at : ℕ} → fits_in xs at (length out) ≡ b → None ≡ cond b (Some (at + length xs)) None
     → out' ≡ cond b (splice out at xs) out → Stayed xs out at out'
 unfolding fits_in
 stayed-by true xs e a w = next-full (sym a)
 stayed-by false [] e a w = absurd (let z : ◌≡◌ {A = ℕ} 0 1 = cc in omega arith)
 stayed-by false (x ∷ xs) e a w = record { over = leb-false _ _ e; buffer = w }
 
-pub stayed : {xs out out' : List ℕ} {at : ℕ} {r : Put} → Wrote xs out at r out' → r ≡ Full → Stayed xs out at out'
+pub stayed : {xs out out' : List ℕ} {at : ℕ} {r : Option ℕ} → Wrote xs out at r out' → r ≡ None → Stayed xs out at out'
 stayed {xs} {out} {out'} {at} {r} w e = stayed-by (fits_in xs at (length out)) xs refl (sym e ∙ w.answer) w.buffer
 
 -- the same bytes under another name
-pub wrote_as : {xs ys out out' : List ℕ} {at : ℕ} {r : Put} → xs ≡ ys → Wrote ys out at r out' → Wrote xs out at r out'
+pub wrote_as : {xs ys out out' : List ℕ} {at : ℕ} {r : Option ℕ} → xs ≡ ys → Wrote ys out at r out' → Wrote xs out at r out'
 wrote_as e h = rw e h
 
 -- ---- stores one after the other
 
-wrote-sets : (xs out : List ℕ) (at : ℕ) → at + length xs ≤ length out → Wrote xs out at (Next (at + length xs)) (sets out at xs)
+wrote-sets : (xs out : List ℕ) (at : ℕ) → at + length xs ≤ length out → Wrote xs out at (Some (at + length xs)) (sets out at xs)
 unfolding splice
 wrote-sets xs out at h = rw (sets-eq xs out at h) (wrote-splice xs out at h)
 
 module _ (out : List ℕ) (at a : ℕ) where
-  pub stored_1 : at + 1 ≤ length out → Wrote (a ∷ []) out at (Next (at + 1)) (set out at a)
+  pub stored_1 : at + 1 ≤ length out → Wrote (a ∷ []) out at (Some (at + 1)) (set out at a)
   stored_1 h = wrote-sets (a ∷ []) out at h
 
   module _ (b : ℕ) where
-    pub stored_2 : at + 2 ≤ length out → Wrote (a ∷ b ∷ []) out at (Next (at + 2)) (set (set out at a) (at + 1) b)
+    pub stored_2 : at + 2 ≤ length out → Wrote (a ∷ b ∷ []) out at (Some (at + 2)) (set (set out at a) (at + 1) b)
     stored_2 h = let e1 : at + 1 ≡ suc at = omega arith in rw e1 (wrote-sets (a ∷ b ∷ []) out at h)
 
     module _ (c : ℕ) where
-      pub stored_3 : at + 3 ≤ length out → Wrote (a ∷ b ∷ c ∷ []) out at (Next (at + 3)) (set (set (set out at a) (at + 1) b) (at + 2) c)
+      pub stored_3 : at + 3 ≤ length out → Wrote (a ∷ b ∷ c ∷ []) out at (Some (at + 3)) (set (set (set out at a) (at + 1) b) (at + 2) c)
       stored_3 h =
           let e1 : at + 1 ≡ suc at = omega arith in
           let e2 : at + 2 ≡ suc (suc at) = omega arith in
           rw (e1, e2) (wrote-sets (a ∷ b ∷ c ∷ []) out at h)
 
-      pub stored_4 : (d : ℕ) → at + 4 ≤ length out → Wrote (a ∷ b ∷ c ∷ d ∷ []) out at (Next (at + 4)) (set (set (set (set out at a) (at + 1) b) (at + 2) c) (at + 3) d)
+      pub stored_4 : (d : ℕ) → at + 4 ≤ length out → Wrote (a ∷ b ∷ c ∷ d ∷ []) out at (Some (at + 4)) (set (set (set (set out at a) (at + 1) b) (at + 2) c) (at + 3) d)
       stored_4 d h =
           let e1 : at + 1 ≡ suc at = omega arith in
           let e2 : at + 2 ≡ suc (suc at) = omega arith in

@@ -1,9 +1,5 @@
 -- What a function does to a buffer that it writes into from some place on, and a length that is asked for beforehand. Assumes nothing.
-use Rattle.std.specs.Prelude.{◌≡◌, Bool, true, cond, List, [], ◌∷◌, ◌++◌, ℕ, ◌+◌, length, take, drop, leb}
-use Rattle.enc_utf_8.specs.declared.Put.{Put}
-use Rattle.enc_utf_8.specs.declared.Put.TheVariants.{Next, Full}
-use Rattle.enc_utf_8.specs.declared.Room.{Room}
-use Rattle.enc_utf_8.specs.declared.Room.TheVariants.{Fits, Over}
+use Rattle.std.specs.Prelude.{◌≡◌, Bool, true, cond, List, [], ◌∷◌, ◌++◌, ℕ, ◌+◌, length, take, drop, leb, Option, Some, None}
 
 -- `xs` laid over `out` from `at` on
 unfoldable pub splice : List ℕ → ℕ → List ℕ → List ℕ
@@ -15,8 +11,8 @@ fits_in [] at room = true
 fits_in (x ∷ xs) at room = leb (at + length (x ∷ xs)) room
 
 -- what writing `xs` into `out` from `at` on answers, and the buffer after it: where `xs` fits, the place after it and `xs` laid over the buffer; else `Full` and the buffer as it was
-pub record Wrote (xs out : List ℕ) (at : ℕ) (r : Put) (out' : List ℕ) : Type 0 where
-  pub answer : r ≡ cond (fits_in xs at (length out)) (Next (at + length xs)) Full
+pub record Wrote (xs out : List ℕ) (at : ℕ) (r : Option ℕ) (out' : List ℕ) : Type 0 where
+  pub answer : r ≡ cond (fits_in xs at (length out)) (Some (at + length xs)) None
   pub buffer : out' ≡ cond (fits_in xs at (length out)) (splice out at xs) out
 
 -- `xs` laid over `out` from `at` on, where it is known to fit, and the place after it
@@ -25,5 +21,5 @@ pub record Laid (xs out : List ℕ) (at r : ℕ) (out' : List ℕ) : Type 0 wher
   pub buffer : out' ≡ splice out at xs
 
 -- a length `n` that is asked for with some room: itself where it is at most the room
-abbrev pub room_for : ℕ → ℕ → Room
-room_for n room = cond (leb n room) (Fits n) Over
+abbrev pub room_for : ℕ → ℕ → Option ℕ
+room_for n room = cond (leb n room) (Some n) None

@@ -2,20 +2,6 @@
 // and the encoder stand in crates of their own.
 #![tactic(auto)]
 
-// Where the byte after the written ones goes, or that they do not fit.
-#[derive(Clone, Copy)]
-pub enum Put {
-    Next(usize),
-    Full,
-}
-
-// A length that was asked for beforehand, where it is at most the room.
-#[derive(Clone, Copy)]
-pub enum Room {
-    Fits(usize),
-    Over,
-}
-
 // Where a text in memory ends: before its zero, or with the memory.
 #[derive(Clone, Copy)]
 pub enum TextEnd {

@@ -5,76 +5,74 @@ ghost use Rattle.std.specs.Prelude.{◌≡◌, [], ◌∷◌, ◌<◌, length};
 ghost use Rattle.enc_utf_8.specs.Buffer.{Wrote};
 ghost use Rattle.enc_utf_8.specs.Utf8.{utf8_of, three, four};
 
-use enc_utf_8::Put;
-
 // One byte. (This function and the three that follow were tried as one over `[u8; N]`, by `copy_from_slice`: that took up to half as long again.)
-fn put_1(out: &mut [u8], at: usize, a: u8) -> Put
+fn put_1(out: &mut [u8], at: usize, a: u8) -> Option<usize>
     ensures { Wrote (a ∷ []) out.old at result out.new }
 {
     if out.len() <= at {
-        return Put::Full;
+        return None;
     }
     out[at] = a;
-    Put::Next(at + 1)
+    Some(at + 1)
 }
 
 // Two bytes, or none of them.
-fn put_2(out: &mut [u8], at: usize, a: u8, b: u8) -> Put
+fn put_2(out: &mut [u8], at: usize, a: u8, b: u8) -> Option<usize>
     ensures { Wrote (a ∷ b ∷ []) out.old at result out.new }
 {
     if out.len() <= at {
-        return Put::Full;
+        return None;
     }
     if out.len() - at < 2 {
-        return Put::Full;
+        return None;
     }
     out[at] = a;
     out[at + 1] = b;
-    Put::Next(at + 2)
+    Some(at + 2)
 }
 
 // Three bytes, or none of them.
-fn put_3(out: &mut [u8], at: usize, a: u8, b: u8, c: u8) -> Put
+fn put_3(out: &mut [u8], at: usize, a: u8, b: u8, c: u8) -> Option<usize>
     ensures { Wrote (a ∷ b ∷ c ∷ []) out.old at result out.new }
 {
     if out.len() <= at {
-        return Put::Full;
+        return None;
     }
     if out.len() - at < 3 {
-        return Put::Full;
+        return None;
     }
     out[at] = a;
     out[at + 1] = b;
     out[at + 2] = c;
-    Put::Next(at + 3)
+    Some(at + 3)
 }
 
 // Four bytes, or none of them.
-fn put_4(out: &mut [u8], at: usize, a: u8, b: u8, c: u8, d: u8) -> Put
+fn put_4(out: &mut [u8], at: usize, a: u8, b: u8, c: u8, d: u8) -> Option<usize>
     ensures { Wrote (a ∷ b ∷ c ∷ d ∷ []) out.old at result out.new }
 {
     if out.len() <= at {
-        return Put::Full;
+        return None;
     }
     if out.len() - at < 4 {
-        return Put::Full;
+        return None;
     }
     out[at] = a;
     out[at + 1] = b;
     out[at + 2] = c;
     out[at + 3] = d;
-    Put::Next(at + 4)
+    Some(at + 4)
 }
 
 // U+FFFD, in place of a number that is no scalar value.
-fn put_replacement(out: &mut [u8], at: usize) -> Put
+fn put_replacement(out: &mut [u8], at: usize) -> Option<usize>
     ensures { Wrote (0xef ∷ 0xbf ∷ 0xbd ∷ []) out.old at result out.new }
 {
     put_3(out, at, 0xef, 0xbf, 0xbd)
 }
 
 // A code point of three bytes, of the Basic Multilingual Plane.
-fn put_basic(out: &mut [u8], at: usize, code: u32) -> Put
+fn put_basic(out: &mut [u8], at: usize, code: u32) -> Option<usize>
     requires { code < 0x10000 }
     ensures { Wrote (three code) out.old at result out.new }
 {
@@ -85,7 +83,7 @@ fn put_basic(out: &mut [u8], at: usize, code: u32) -> Put
 }
 
 // A code point of four bytes, of a supplementary plane.
-fn put_supplementary(out: &mut [u8], at: usize, code: u32) -> Put
+fn put_supplementary(out: &mut [u8], at: usize, code: u32) -> Option<usize>
     requires { code < 0x110000 }
     ensures { Wrote (four code) out.old at result out.new }
 {
@@ -97,7 +95,7 @@ fn put_supplementary(out: &mut [u8], at: usize, code: u32) -> Put
 }
 
 // The bytes of one code point from `at` on, all of them or none. A number that is no scalar value counts as U+FFFD.
-pub fn put(out: &mut [u8], at: usize, code: u32) -> Put
+pub fn put(out: &mut [u8], at: usize, code: u32) -> Option<usize>
     ensures { Wrote (utf8_of code) out.old at result out.new }
 {
     if code < 0x80 {

@@ -1,4 +1,5 @@
 -- The exits and the loops of the decoder's functions. Assumes nothing.
+use Rattle.std.specs.Prelude.{Option, Some, None}
 use mathlib.Core.Path.{◌≡◌, refl, sym, ap, ◌∙◌}
 use mathlib.Core.Bool.{Bool, true, false}
 use mathlib.Core.List.{List, [], ◌∷◌, ◌++◌}
@@ -8,10 +9,6 @@ use lib.ListN.{length, take, drop, length-append, length-drop}
 use lib.Seq.{length-take-le, take_all}
 use lib.Dec.{leb, eqb}
 use borrow.Author.Tests.{le-leb, lt-leb, leb-true, leb-false, eq-eqb}
-use Rattle.enc_utf_8.specs.declared.Put.{Put}
-use Rattle.enc_utf_8.specs.declared.Put.TheVariants.{Next, Full}
-use Rattle.enc_utf_8.specs.declared.Room.{Room}
-use Rattle.enc_utf_8.specs.declared.Room.TheVariants.{Fits, Over}
 use Rattle.enc_utf_8.specs.Buffer.{Wrote, Laid, room_for}
 use Rattle.enc_utf_8.specs.Utf8.{utf8_of, well_formed, ValidTo, Stretch}
 use Rattle.enc_utf_8.proofs.Splices.{wrote_as}
@@ -61,30 +58,30 @@ module _ (bytes : List ℕ) (at used all : ℕ) (inv : used + length (decode8_te
   pub length-again : (size next : ℕ) → TextAt bytes at size next → used + size + length (decode8_text (drop next bytes)) ≡ all
   length-again size next h = omega (arith, h.is)
 
-  pub length_over : (size next room : ℕ) → TextAt bytes at size next → used ≤ room → room - used < size → Over ≡ room_for all room
+  pub length_over : (size next room : ℕ) → TextAt bytes at size next → used ≤ room → room - used < size → None ≡ room_for all room
   length_over size next room h l s = sym (rw (lt-leb all room (omega (arith, h.is))))
 
-  pub length-fits : (room : ℕ) → used ≤ room → length bytes ≤ at → Fits used ≡ room_for all room
+  pub length-fits : (room : ℕ) → used ≤ room → length bytes ≤ at → Some used ≡ room_for all room
   length-fits room l h =
       let z : used ≡ all = omega (arith, ap length (text-end bytes at h)) in
       sym (rw (← z, le-leb used room l))
 
 -- ---- fits_in
 
-module _ (len room : ℕ) (r : Room) (e : r ≡ room_for len room) where
-  pub measured_fits : (n : ℕ) → r ≡ Fits n → true ≡ leb len room
+module _ (len room : ℕ) (r : Option ℕ) (e : r ≡ room_for len room) where
+  pub measured_fits : (n : ℕ) → r ≡ Some n → true ≡ leb len room
   measured_fits n q = sym (le-leb len room (room_fits n len room e q).fits)
 
-  pub measured_over : r ≡ Over → false ≡ leb len room
+  pub measured_over : r ≡ None → false ≡ leb len room
   measured_over q = sym (lt-leb len room (room-over len room e q))
 
 -- ---- put_part, put_scalar
 
-module _ (xs out out₁ : List ℕ) (at : ℕ) (h : at + length xs ≤ length out) (r : Put) (w : Wrote xs out at r out₁) where
-  pub part-went : (n : ℕ) → r ≡ Next n → Laid xs out at n out₁
+module _ (xs out out₁ : List ℕ) (at : ℕ) (h : at + length xs ≤ length out) (r : Option ℕ) (w : Wrote xs out at r out₁) where
+  pub part-went : (n : ℕ) → r ≡ Some n → Laid xs out at n out₁
   part-went n q = put_went n w q
 
-  pub part-never : r ≡ Full → Laid xs out at at out₁
+  pub part-never : r ≡ None → Laid xs out at at out₁
   part-never q = put_never h w q
 
 -- ---- put_text
@@ -120,7 +117,7 @@ text-less bytes end code next end' s f h = omega (arith, s.later, s.within, f.or
 -- ---- decode
 
 module _ (bytes out : List ℕ) (at v : ℕ) (e : well_formed bytes ≡ eqb v (length bytes)) where
-  pub decode-copied : (r : Put) (out₁ : List ℕ) → v ≡ length bytes → Wrote bytes out at r out₁ → Wrote (decode8_text bytes) out at r out₁
+  pub decode-copied : (r : Option ℕ) (out₁ : List ℕ) → v ≡ length bytes → Wrote bytes out at r out₁ → Wrote (decode8_text bytes) out at r out₁
   decode-copied r out₁ h w = wrote_as (text-formed bytes (e ∙ eq-eqb v (length bytes) h)) w
 
 pub decode-room : (len room at : ℕ) (t : Bool) → at ≤ room → t ≡ leb len (room - at) → t ≡ true → at + len ≤ room
@@ -130,14 +127,14 @@ module _ (bytes out : List ℕ) (at v : ℕ) (k : ValidTo bytes v) (n : v ≡ le
   some : 0 < length (decode8_text bytes)
   some = decode-some bytes (omega (arith, k.within, n))
 
-  pub decode-past : length out < at → Wrote (decode8_text bytes) out at Full out
+  pub decode-past : length out < at → Wrote (decode8_text bytes) out at None out
   decode-past h = wrote-over (decode8_text bytes) out at (omega arith) some
 
   module _ (t : Bool) (h : at ≤ length out) (e : t ≡ leb (length (decode8_text bytes)) (length out - at)) where
-    pub decode-over : t ≡ false → Wrote (decode8_text bytes) out at Full out
+    pub decode-over : t ≡ false → Wrote (decode8_text bytes) out at None out
     decode-over q =
         let o = leb-false (length (decode8_text bytes)) (length out - at) (sym e ∙ q) in
         wrote-over (decode8_text bytes) out at (omega arith) some
 
-    pub decode-done : t ≡ true → (j : ℕ) (out₁ : List ℕ) → Laid (decode8_text bytes) out at j out₁ → Wrote (decode8_text bytes) out at (Next j) out₁
+    pub decode-done : t ≡ true → (j : ℕ) (out₁ : List ℕ) → Laid (decode8_text bytes) out at j out₁ → Wrote (decode8_text bytes) out at (Some j) out₁
     decode-done q j out₁ l = wrote-laid (decode8_text bytes) out at (decode-room (length (decode8_text bytes)) (length out) at t h e q) l

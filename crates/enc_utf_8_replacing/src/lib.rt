@@ -8,7 +8,7 @@ ghost use Rattle.enc_utf_8_replacing.specs.Text.{decode8_text};
 ghost use Rattle.enc_utf_8_replacing.specs.Step.{ScalarAt, TextAt};
 
 use enc_ascii::copy;
-use enc_utf_8::{Char, Put, Room};
+use enc_utf_8::Char;
 use enc_utf_8_decoder::{next, valid_carefully, valid_up_to};
 use enc_utf_8_encoder::{put, utf8_len};
 
@@ -70,7 +70,7 @@ fn measure(bytes: &[u8], at: usize) -> Measured
 }
 
 // The length of the text of some bytes, where it is at most the room.
-pub fn decoded_len(bytes: &[u8], room: usize) -> Room
+pub fn decoded_len(bytes: &[u8], room: usize) -> Option<usize>
     ensures { result ≡ room_for (length (decode8_text bytes.now)) room }
 {
     let mut used = 0;
@@ -78,12 +78,12 @@ pub fn decoded_len(bytes: &[u8], room: usize) -> Room
     while at < bytes.len() {
         let here = measure(bytes, at);
         if room - used < here.size {
-            return Room::Over;
+            return None;
         }
         used += here.size;
         at = here.next;
     }
-    Room::Fits(used)
+    Some(used)
 }
 
 // Whether the text of some bytes takes at most `room` bytes. No byte gives more than three, so a short text is not measured.
@@ -94,8 +94,8 @@ fn fits_in(bytes: &[u8], room: usize) -> bool
         return true;
     }
     match decoded_len(bytes, room) {
-        Room::Fits(_) => true,
-        Room::Over => false,
+        Some(_) => true,
+        None => false,
     }
 }
 
@@ -105,9 +105,9 @@ fn put_part(part: &[u8], out: &mut [u8], at: usize) -> usize
     ensures { Laid part.now out.old at result out.new }
 {
     match copy(part, out, at) {
-        Put::Next(after) => after,
+        Some(after) => after,
         // never: it fits
-        Put::Full => at,
+        None => at,
     }
 }
 
@@ -117,9 +117,9 @@ fn put_scalar(code: u32, out: &mut [u8], at: usize) -> usize
     ensures { Laid (utf8_of code) out.old at result out.new }
 {
     match put(out, at, code) {
-        Put::Next(after) => after,
+        Some(after) => after,
         // never: it fits
-        Put::Full => at,
+        None => at,
     }
 }
 
@@ -143,7 +143,7 @@ fn put_text(bytes: &[u8], formed: usize, out: &mut [u8], at: usize) -> usize
 }
 
 // Writes the text of some bytes from `at` on, all of it or nothing. An empty text fits anywhere; what is well-formed is its own text.
-pub fn decode(bytes: &[u8], out: &mut [u8], at: usize) -> Put
+pub fn decode(bytes: &[u8], out: &mut [u8], at: usize) -> Option<usize>
     ensures { Wrote (decode8_text bytes.now) out.old at result out.new }
 {
     let formed = valid_up_to(bytes);
@@ -151,10 +151,10 @@ pub fn decode(bytes: &[u8], out: &mut [u8], at: usize) -> Put
         return copy(bytes, out, at);
     }
     if out.len() < at {
-        return Put::Full;
+        return None;
     }
     if fits_in(bytes, out.len() - at) {
-        return Put::Next(put_text(bytes, formed, out, at));
+        return Some(put_text(bytes, formed, out, at));
     }
-    Put::Full
+    None
 }

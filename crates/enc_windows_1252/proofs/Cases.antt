@@ -1,9 +1,9 @@
 -- Worked cases, by computation. Assumes nothing.
+use Rattle.std.specs.Prelude.{Some, None}
 use mathlib.Core.Path.{◌≡◌, refl}
 use mathlib.Core.List.{[], ◌∷◌, flat_map}
 use Rattle.enc_utf_8.specs.declared.TextEnd.TheVariants.{Terminated, Unterminated}
 use Rattle.enc_utf_8.specs.Utf8.{leading, following, after_reply, decode_from, encoded, utf8_of}
-use Rattle.enc_windows_1252.specs.declared.Byte.TheVariants.{Is, None}
 use Rattle.enc_windows_1252.specs.Index.{listed_points, code_point, first_from, byte_of}
 use Rattle.enc_windows_1252.specs.Text.{end_from, string_end, decode_text, digits, bytes_by, encode_text}
 
@@ -16,7 +16,7 @@ own : code_point 0x81 ≡ 0x81
 unfolding listed_points code_point
 own = refl
 
-own-byte : byte_of 0x81 ≡ Is 0x81
+own-byte : byte_of 0x81 ≡ Some 0x81
 unfolding listed_points code_point first_from byte_of
 own-byte = refl
 

@@ -1,7 +1,5 @@
 -- The index of Windows-1252: the code point of a byte, and the byte of a code point (WHATWG Encoding Standard, "index pointer"). Assumes nothing.
-use Rattle.std.specs.Prelude.{cond, ◌&&◌, List, [], ◌∷◌, ℕ, zero, suc, ◌+◌, ◌-◌, get_or, leb, ltb, eqb}
-use Rattle.enc_windows_1252.specs.declared.Byte.{Byte}
-use Rattle.enc_windows_1252.specs.declared.Byte.TheVariants.{Is, None}
+use Rattle.std.specs.Prelude.{cond, ◌&&◌, List, [], ◌∷◌, ℕ, zero, suc, ◌+◌, ◌-◌, get_or, leb, ltb, eqb, Option, Some, None}
 
 -- the code points of the bytes 80h to 9Fh, as document 01 lists them
 unfoldable pub listed_points : List ℕ
@@ -21,10 +19,10 @@ unfoldable pub code_points : List ℕ
 code_points = table code_point 0 256
 
 -- the first of the k bytes from b on whose code point is c
-unfoldable pub first_from : ℕ → ℕ → ℕ → Byte
+unfoldable pub first_from : ℕ → ℕ → ℕ → Option ℕ
 first_from c b zero = None
-first_from c b (suc k) = cond (eqb (code_point b) c) (Is b) (first_from c (b + 1) k)
+first_from c b (suc k) = cond (eqb (code_point b) c) (Some b) (first_from c (b + 1) k)
 
 -- the byte of a code point: an ASCII code point's own, else the first of 80h to FFh whose code point it is, or none
-unfoldable pub byte_of : ℕ → Byte
-byte_of c = cond (ltb c 0x80) (Is c) (first_from c 0x80 0x80)
+unfoldable pub byte_of : ℕ → Option ℕ
+byte_of c = cond (ltb c 0x80) (Some c) (first_from c 0x80 0x80)

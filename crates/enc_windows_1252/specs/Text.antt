@@ -1,12 +1,10 @@
 -- A text in memory, its decoding to UTF-8 and the encoding of a UTF-8 text: the WHATWG Encoding Standard's single-byte decoder and encoder.
 -- No byte order mark is looked for. Assumes nothing.
-use Rattle.std.specs.Prelude.{cond, ℕ, zero, suc, ◌+◌, ◌/◌, ◌%◌, eqb, ltb}
+use Rattle.std.specs.Prelude.{cond, ℕ, zero, suc, ◌+◌, ◌/◌, ◌%◌, eqb, ltb, Option, Some, None}
 use mathlib.Core.List.{List, [], ◌∷◌, ◌++◌, flat_map}
 use Rattle.enc_utf_8.specs.declared.TextEnd.{TextEnd}
 use Rattle.enc_utf_8.specs.declared.TextEnd.TheVariants.{Terminated, Unterminated}
 use Rattle.enc_utf_8.specs.Utf8.{utf8_of, scalars}
-use Rattle.enc_windows_1252.specs.declared.Byte.{Byte}
-use Rattle.enc_windows_1252.specs.declared.Byte.TheVariants.{Is, None}
 use Rattle.enc_windows_1252.specs.Index.{code_point, byte_of}
 
 -- ---- the end of a text in memory
@@ -46,8 +44,8 @@ abbrev pub reference : ℕ → List ℕ
 reference c = 0x26 ∷ 0x23 ∷ decimal c ++ (0x3b ∷ [])
 
 -- the bytes of a code point, by its byte
-unfoldable pub bytes_by : Byte → ℕ → List ℕ
-bytes_by (Is b) c = b ∷ []
+unfoldable pub bytes_by : Option ℕ → ℕ → List ℕ
+bytes_by (Some b) c = b ∷ []
 bytes_by None c = reference c
 
 -- the bytes of a code point: its byte, or a reference where it has none

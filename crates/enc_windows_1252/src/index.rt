@@ -2,7 +2,7 @@
 ghost use Rattle.std.specs.Prelude.{◌≡◌, ◌%◌, get_or};
 ghost use Rattle.enc_windows_1252.specs.Index.{listed_points, code_point, code_points, first_from, byte_of};
 
-use crate::{Byte, data};
+use crate::data;
 
 // The table of code points. Whoever reads more than one of them takes it once.
 #[tactic(auto, unfolding(crate::specs::Index::listed_points, crate::specs::Index::code_point, crate::specs::Index::code_points))]
@@ -73,31 +73,31 @@ pub fn code_point(byte: u8) -> u32
 }
 
 // The first of the bytes 80h to 9Fh that has this code point.
-fn listed_byte(code: u32) -> Byte
+fn listed_byte(code: u32) -> Option<u8>
     ensures { result ≡ first_from code 0x80 0x20 }
 {
     let points = code_points();
     for byte in 0x80..0xa0 {
         if entry(&points, byte) == code {
-            return Byte::Is(byte);
+            return Some(byte);
         }
     }
-    Byte::None
+    None
 }
 
 // The byte of a code point. Below 80h and from A0h to FFh they are the same number. (As a `match` with one call of the search the encoder was
 // slower, up to 1.4 times: the search then stands within this function, which is called for each code point in place of being built in.)
-pub fn byte_of(code: u32) -> Byte
+pub fn byte_of(code: u32) -> Option<u8>
     ensures { result ≡ byte_of code }
 {
     if code < 0x80 {
-        return Byte::Is(code as u8);
+        return Some(code as u8);
     }
     if code < 0xa0 {
         return listed_byte(code);
     }
     if code < 0x100 {
-        return Byte::Is(code as u8);
+        return Some(code as u8);
     }
     listed_byte(code)
 }

@@ -8,10 +8,3 @@ mod index;
 
 pub use end::string_end;
 pub use index::{byte_of, code_point, code_points};
-
-// The byte of a code point, where it has one.
-#[derive(Clone, Copy)]
-pub enum Byte {
-    Is(u8),
-    None,
-}

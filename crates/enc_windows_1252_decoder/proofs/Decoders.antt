@@ -1,4 +1,5 @@
 -- The exits and the loops of the decoder's functions, a law for each. Assumes nothing.
+use Rattle.std.specs.Prelude.{Option, Some, None}
 use mathlib.Core.Path.{◌≡◌, refl, sym, ap, ◌∙◌}
 use mathlib.Core.Bool.{Bool, true, false, cond, ◌&&◌}
 use mathlib.Core.List.{List, [], ◌∷◌, ◌++◌}
@@ -11,9 +12,6 @@ use lib.Dec.{leb, ltb}
 use borrow.Author.Tests.{leb-true, leb-false, le-leb, ltb-true, ltb-false}
 use mir.Syntax.{w8}
 use mir.Val.{Fits as Holds}
-use Rattle.enc_utf_8.specs.declared.Put.{Put}
-use Rattle.enc_utf_8.specs.declared.Put.TheVariants.{Next, Full}
-use Rattle.enc_utf_8.specs.declared.Room.TheVariants.{Fits, Over}
 use Rattle.enc_utf_8.specs.Buffer.{Wrote, Laid, room_for}
 use Rattle.enc_utf_8.specs.Utf8.{utf8_of}
 use Rattle.enc_utf_8.proofs.Splices.{wrote_as, wrote_none, went, stored_3}
@@ -31,10 +29,10 @@ module _ (rest : List ℕ) (n all : ℕ) (inv : n + length (decode_text rest) �
     pub length_part : n + k + length (decode_text rest₁) ≡ all
     length_part = count-part n all _ inv (decode_text block) (decode_text rest₁) (decode-part block rest₁ e) k q
 
-    pub length_over : (room : ℕ) → n ≤ room → room - n < k → Over ≡ room_for all room
+    pub length_over : (room : ℕ) → n ≤ room → room - n < k → None ≡ room_for all room
     length_over room l s = count-over n all _ inv (decode_text block) (decode_text rest₁) (decode-part block rest₁ e) k q room l s
 
-  pub length-fits : (room : ℕ) → n ≤ room → length rest ≡ 0 → Fits n ≡ room_for all room
+  pub length-fits : (room : ℕ) → n ≤ room → length rest ≡ 0 → Some n ≡ room_for all room
   length-fits room l h = count_fits n all _ inv (decode-rest rest h) room l
 
 -- ---- put_wide: m is 0 for two bytes, 1 for three
@@ -143,8 +141,8 @@ module _ (block : List ℕ) (t : Bool) (e : t ≡ is_ascii block) (y : t ≡ tru
   block_room : (out : List ℕ) (at : ℕ) → at + length (decode_text block) ≤ length out → at + length block ≤ length out
   block_room out at h = omega (arith, ascii-length block t e y)
 
-  module _ (out out₁ : List ℕ) (at : ℕ) (h : at + length (decode_text block) ≤ length out) (r : Put) (w : Wrote block out at r out₁) where
-    pub block-copied : (n : ℕ) → r ≡ Next n → Laid (decode_text block) out at n out₁
+  module _ (out out₁ : List ℕ) (at : ℕ) (h : at + length (decode_text block) ≤ length out) (r : Option ℕ) (w : Wrote block out at r out₁) where
+    pub block-copied : (n : ℕ) → r ≡ Some n → Laid (decode_text block) out at n out₁
     block-copied n q = laid_as (ascii-text block (sym e ∙ y)) (put_went n w q)
 
 -- ---- surely_fits
@@ -194,21 +192,21 @@ module _ (bytes out : List ℕ) (at : ℕ) (f : (i : ℕ) → Holds w8 (get_or b
       let s : leb (length (decode_text bytes)) (length out - at) ≡ true = sym (fits-short bytes (length out - at) f (thrice (length bytes) at (length out) z)) in
       omega (arith, begins (length bytes) at (length out) z, leb-true (length (decode_text bytes)) (length out - at) s)
 
-  pub long-done : (k : ℕ) (out₁ : List ℕ) → Laid (decode_text bytes) out at k out₁ → Wrote (decode_text bytes) out at (Next k) out₁
+  pub long-done : (k : ℕ) (out₁ : List ℕ) → Laid (decode_text bytes) out at k out₁ → Wrote (decode_text bytes) out at (Some k) out₁
   long-done k out₁ l = wrote-laid (decode_text bytes) out at long-room l
 
 module _ (bytes out : List ℕ) (at : ℕ) where
-  pub decode-none : length bytes ≡ 0 → Wrote (decode_text bytes) out at (Next at) out
+  pub decode-none : length bytes ≡ 0 → Wrote (decode_text bytes) out at (Some at) out
   decode-none h = wrote_as (decode-end bytes 0 (omega arith)) (wrote_none out at)
 
-  pub decode-ascii : (t : Bool) (r : Put) (out₁ : List ℕ) → t ≡ is_ascii bytes → t ≡ true → Wrote bytes out at r out₁ → Wrote (decode_text bytes) out at r out₁
+  pub decode-ascii : (t : Bool) (r : Option ℕ) (out₁ : List ℕ) → t ≡ is_ascii bytes → t ≡ true → Wrote bytes out at r out₁ → Wrote (decode_text bytes) out at r out₁
   decode-ascii t r out₁ e q w = wrote_as (ascii-text bytes (sym e ∙ q)) w
 
-  pub decode-past : (length bytes ≡ 0 → ⊥) → length out < at → Wrote (decode_text bytes) out at Full out
+  pub decode-past : (length bytes ≡ 0 → ⊥) → length out < at → Wrote (decode_text bytes) out at None out
   decode-past n h = wrote-over (decode_text bytes) out at (omega arith) (decode-some bytes n)
 
   module _ (t : Bool) (h : at ≤ length out) (e : t ≡ leb (length (decode_text bytes)) (length out - at)) where
-    pub decode-over : t ≡ false → Wrote (decode_text bytes) out at Full out
+    pub decode-over : t ≡ false → Wrote (decode_text bytes) out at None out
     decode-over q =
         let o = leb-false (length (decode_text bytes)) (length out - at) (sym e ∙ q) in
         wrote-over (decode_text bytes) out at (omega arith) (omega arith)
@@ -217,5 +215,5 @@ module _ (bytes out : List ℕ) (at : ℕ) where
       pub decode-room : at + length (decode_text bytes) ≤ length out
       decode-room = omega (arith, leb-true (length (decode_text bytes)) (length out - at) (sym e ∙ q))
 
-      pub decode-done : (k : ℕ) (out₁ : List ℕ) → Laid (decode_text bytes) out at k out₁ → Wrote (decode_text bytes) out at (Next k) out₁
+      pub decode-done : (k : ℕ) (out₁ : List ℕ) → Laid (decode_text bytes) out at k out₁ → Wrote (decode_text bytes) out at (Some k) out₁
       decode-done k out₁ l = wrote-laid (decode_text bytes) out at decode-room l

@@ -8,7 +8,6 @@ ghost use Rattle.enc_windows_1252.specs.Text.{decode_byte, decode_text};
 ghost use Rattle.enc_windows_1252_decoder.specs.Lengths.{most_more};
 
 use enc_ascii::{copy, is_ascii};
-use enc_utf_8::{Put, Room};
 use enc_windows_1252::code_point;
 
 // The bytes of a block.
@@ -46,18 +45,18 @@ fn block_len(block: &[u8]) -> usize
 }
 
 // The length of the text of some bytes, where it is at most the room.
-pub fn decoded_len(bytes: &[u8], room: usize) -> Room
+pub fn decoded_len(bytes: &[u8], room: usize) -> Option<usize>
     ensures { result ≡ room_for (length (decode_text bytes.now)) room }
 {
     let mut n: usize = 0;
     for block in bytes.chunks(BLOCK) {
         let len = block_len(block);
         if room - n < len {
-            return Room::Over;
+            return None;
         }
         n += len;
     }
-    Room::Fits(n)
+    Some(n)
 }
 
 // Writes a code point of two or three bytes, without a branch. From 800h on it is 2000h to 3FFFh, so that a division tells which. The first byte
@@ -113,9 +112,9 @@ fn put_ascii(part: &[u8], out: &mut [u8], at: usize) -> Option<usize>
         return None;
     }
     match copy(part, out, at) {
-        Put::Next(next) => Some(next),
+        Some(next) => Some(next),
         // never: the text fits
-        Put::Full => None,
+        None => None,
     }
 }
 
@@ -208,7 +207,7 @@ fn fits_in(bytes: &[u8], room: usize) -> bool
 {
     bytes.len() <= room / 3
         || surely_fits(bytes, room)
-        || matches!(decoded_len(bytes, room), Room::Fits(_))
+        || matches!(decoded_len(bytes, room), Some(_))
 }
 
 // Whether `len` bytes are more than a piece, and from `at` to `end` there is room for three bytes for each of them, so for any text.
@@ -219,23 +218,23 @@ fn is_long_with_room(len: usize, at: usize, end: usize) -> bool
 }
 
 // Writes the text of some bytes from `at` on, all of it or nothing. An empty text fits anywhere; ASCII is its own text.
-pub fn decode(bytes: &[u8], out: &mut [u8], at: usize) -> Put
+pub fn decode(bytes: &[u8], out: &mut [u8], at: usize) -> Option<usize>
     ensures { Wrote (decode_text bytes.now) out.old at result out.new }
 {
     if bytes.len() == 0 {
-        return Put::Next(at);
+        return Some(at);
     }
     if is_long_with_room(bytes.len(), at, out.len()) {
-        return Put::Next(put_pieces(bytes, out, at));
+        return Some(put_pieces(bytes, out, at));
     }
     if is_ascii(bytes) {
         return copy(bytes, out, at);
     }
     if out.len() < at {
-        return Put::Full;
+        return None;
     }
     if fits_in(bytes, out.len() - at) {
-        return Put::Next(put_text(bytes, out, at));
+        return Some(put_text(bytes, out, at));
     }
-    Put::Full
+    None
 }

@@ -1,4 +1,5 @@
 -- Laws of the encoding of a text, and the exits and the loops of the encoder's functions. They alone open `bytes_by` and `encode_text`. Assumes nothing.
+use Rattle.std.specs.Prelude.{Option, Some, None}
 use mathlib.Core.Path.{◌≡◌, refl, sym, ap, ◌∙◌}
 use mathlib.Core.Bool.{true}
 use mathlib.Core.List.{List, [], ◌∷◌, ◌++◌, flat_map}
@@ -7,10 +8,6 @@ use native.Mathlib.Omega.{arith}
 use lib.ListN.{length, get_or, take, drop, set, length-set, length-append, take-append-drop}
 use lib.Seq.{length-take-le}
 use borrow.Author.Tests.{lt-leb}
-use Rattle.enc_utf_8.specs.declared.Put.{Put}
-use Rattle.enc_utf_8.specs.declared.Put.TheVariants.{Next, Full}
-use Rattle.enc_utf_8.specs.declared.Room.{Room}
-use Rattle.enc_utf_8.specs.declared.Room.TheVariants.{Fits, Over}
 use Rattle.enc_utf_8.specs.declared.Char.{Char}
 use Rattle.enc_utf_8.specs.declared.Char.TheVariants.{Code, Error, End}
 use Rattle.enc_utf_8.specs.Buffer.{Wrote, Laid, room_for}
@@ -19,8 +16,6 @@ use Rattle.enc_utf_8.proofs.Decodes.{next-end, next_one}
 use Rattle.enc_utf_8.proofs.Items.{Begins, next-code, next-error, next-none}
 use Rattle.enc_ascii.specs.Ascii.{is_ascii}
 use Rattle.enc_ascii.proofs.Ascii.{ascii-first}
-use Rattle.enc_windows_1252.specs.declared.Byte.{Byte}
-use Rattle.enc_windows_1252.specs.declared.Byte.TheVariants.{Is, None}
 use Rattle.enc_windows_1252.specs.Index.{byte_of}
 use Rattle.enc_windows_1252.specs.Text.{decimal, reference, bytes_by, encode_code, encode_text}
 use Rattle.enc_windows_1252_encoder.specs.Step.{TakenFrom, AsciiTo}
@@ -53,8 +48,8 @@ encode_end text at h = rw (next-none text at End (next-end text at h) refl).deco
 
 -- ---- code_len, put_code
 
-module _ (c : ℕ) (r : Byte) (h : r ≡ byte_of c) where
-  pub code-byte : (b : ℕ) → r ≡ Is b → encode_code c ≡ b ∷ []
+module _ (c : ℕ) (r : Option ℕ) (h : r ≡ byte_of c) where
+  pub code-byte : (b : ℕ) → r ≡ Some b → encode_code c ≡ b ∷ []
   unfolding bytes_by
   code-byte b q = rw (← h, q)
 
@@ -62,17 +57,17 @@ module _ (c : ℕ) (r : Byte) (h : r ≡ byte_of c) where
   unfolding bytes_by
   code-none q = rw (← h, q)
 
-  pub code-len-byte : (b : ℕ) → r ≡ Is b → 1 ≡ length (encode_code c)
+  pub code-len-byte : (b : ℕ) → r ≡ Some b → 1 ≡ length (encode_code c)
   code-len-byte b q = sym (ap length (code-byte b q))
 
   pub code-len-none : (n : ℕ) → r ≡ None → n ≡ length (decimal c) → n + 3 ≡ length (encode_code c)
   code-len-none n q e = omega (arith, ap length (code-none q), length-append (decimal c) (0x3b ∷ []))
 
   module _ (out : List ℕ) (at : ℕ) (room : at + length (encode_code c) ≤ length out) where
-    pub code-byte-room : (b : ℕ) → r ≡ Is b → at < length out
+    pub code-byte-room : (b : ℕ) → r ≡ Some b → at < length out
     code-byte-room b q = omega (arith, ap length (code-byte b q))
 
-    pub code-byte-laid : (b : ℕ) → r ≡ Is b → Laid (encode_code c) out at (at + 1) (set out at b)
+    pub code-byte-laid : (b : ℕ) → r ≡ Some b → Laid (encode_code c) out at (at + 1) (set out at b)
     code-byte-laid b q = laid_as (code-byte b q) (laid_one out at b (code-byte-room b q))
 
     pub code-none-room : r ≡ None → at + length (reference c) ≤ length out
@@ -108,7 +103,7 @@ module _ (text : List ℕ) (n : ℕ) (a : AsciiTo text n) where
   length-begins : length (encode_text text) ≡ n + length (encode_text (drop n text))
   length-begins = ap length begins ∙ length-append (take n text) (encode_text (drop n text)) ∙ rw (length-take-le n text a.within)
 
-  pub begins-over : (room : ℕ) → room < n → Over ≡ room_for (length (encode_text text)) room
+  pub begins-over : (room : ℕ) → room < n → None ≡ room_for (length (encode_text text)) room
   begins-over room h = sym (rw (lt-leb (length (encode_text text)) room (omega (arith, length-begins))))
 
   pub begins-count : n + length (encode_text (drop n text)) ≡ length (encode_text text)
@@ -118,12 +113,12 @@ module _ (text : List ℕ) (n : ℕ) (a : AsciiTo text n) where
     begins-room : 0 + length (take n text) ≤ length out
     begins-room = omega (arith, length-begins, length-take-le n text a.within)
 
-    module _ (r : Put) (out₁ : List ℕ) (w : Wrote (take n text) out 0 r out₁) where
+    module _ (r : Option ℕ) (out₁ : List ℕ) (w : Wrote (take n text) out 0 r out₁) where
       -- what fits is never refused
-      pub begins-never : r ≡ Full → Laid (encode_text text) out 0 0 out₁
+      pub begins-never : r ≡ None → Laid (encode_text text) out 0 0 out₁
       begins-never q = put_never begins-room w q
 
-    module _ (r : Put) (out₁ : List ℕ) (w : Wrote (take n text) out 0 r out₁) (at : ℕ) (q : r ≡ Next at) where
+    module _ (r : Option ℕ) (out₁ : List ℕ) (w : Wrote (take n text) out 0 r out₁) (at : ℕ) (q : r ≡ Some at) where
       copied : Laid (take n text) out 0 at out₁
       copied = put_went at w q
 
@@ -140,10 +135,10 @@ module _ (text : List ℕ) (i n all : ℕ) (inv : n + length (encode_text (drop 
     pub encode_part : n + k + length (encode_text (drop e text)) ≡ all
     encode_part = count-part n all _ inv (encode_code c) (encode_text (drop e text)) t.is k q
 
-    pub encode_over : (room : ℕ) → n ≤ room → room - n < k → Over ≡ room_for all room
+    pub encode_over : (room : ℕ) → n ≤ room → room - n < k → None ≡ room_for all room
     encode_over room l s = count-over n all _ inv (encode_code c) (encode_text (drop e text)) t.is k q room l s
 
-  pub encode_fits : (room : ℕ) → n ≤ room → length text ≤ i → Fits n ≡ room_for all room
+  pub encode_fits : (room : ℕ) → n ≤ room → length text ≤ i → Some n ≡ room_for all room
   encode_fits room l h = count_fits n all _ inv (encode_end text i h) room l
 
 -- ---- put_decimal
@@ -206,17 +201,17 @@ module _ (xs out text out₁ : List ℕ) (at i n : ℕ) (q : Rest xs out at (enc
 
 -- ---- encode
 
-module _ (text out : List ℕ) (r : Room) (e : r ≡ room_for (length (encode_text text)) (length out)) where
-  pub encode_full : r ≡ Over → Wrote (encode_text text) out 0 Full out
+module _ (text out : List ℕ) (r : Option ℕ) (e : r ≡ room_for (length (encode_text text)) (length out)) where
+  pub encode_full : r ≡ None → Wrote (encode_text text) out 0 None out
   encode_full q =
       let o : length out < length (encode_text text) = room-over (length (encode_text text)) (length out) e q in
       wrote-over (encode_text text) out 0 (omega arith) (omega arith)
 
-  module _ (n : ℕ) (q : r ≡ Fits n) where
+  module _ (n : ℕ) (q : r ≡ Some n) where
     pub encode_room : length (encode_text text) ≤ length out
     encode_room = (room_fits n (length (encode_text text)) (length out) e q).fits
 
-    pub encode_done : (k : ℕ) (out₁ : List ℕ) → Laid (encode_text text) out 0 k out₁ → Wrote (encode_text text) out 0 (Next n) out₁
+    pub encode_done : (k : ℕ) (out₁ : List ℕ) → Laid (encode_text text) out 0 k out₁ → Wrote (encode_text text) out 0 (Some n) out₁
     encode_done k out₁ l =
         let z : n ≡ k = omega (arith, l.next, room_fits n (length (encode_text text)) (length out) e q) in
         rw z (wrote-laid (encode_text text) out 0 (omega (arith, encode_room)) l)

@@ -7,9 +7,9 @@ ghost use Rattle.enc_windows_1252.specs.Text.{decimal, reference, encode_code, e
 ghost use Rattle.enc_windows_1252_encoder.specs.Step.{AsciiTo, TakenFrom};
 
 use enc_ascii::{copy, is_ascii};
-use enc_utf_8::{Char, Put, Room};
+use enc_utf_8::Char;
 use enc_utf_8_decoder::next;
-use enc_windows_1252::{Byte, byte_of};
+use enc_windows_1252::byte_of;
 
 // How far a text is ASCII from its start on, in blocks of 64 bytes, of which the last may be shorter.
 fn ascii_prefix(text: &[u8]) -> usize
@@ -87,18 +87,18 @@ fn code_len(code: u32) -> usize
         return 1;
     }
     match byte_of(code) {
-        Byte::Is(_) => 1,
-        Byte::None => decimal_len(code) + 3,
+        Some(_) => 1,
+        None => decimal_len(code) + 3,
     }
 }
 
 // The number of bytes of a text, where it is at most the room.
-pub fn encoded_len(text: &[u8], room: usize) -> Room
+pub fn encoded_len(text: &[u8], room: usize) -> Option<usize>
     ensures { result ≡ room_for (length (encode_text text.now)) room }
 {
     let start = ascii_prefix(text);
     if room < start {
-        return Room::Over;
+        return None;
     }
     let mut n = start;
     let mut i = start;
@@ -106,12 +106,12 @@ pub fn encoded_len(text: &[u8], room: usize) -> Room
         let scalar = scalar_at(text, i);
         let len = code_len(scalar.code);
         if room - n < len {
-            return Room::Over;
+            return None;
         }
         n += len;
         i = scalar.next;
     }
-    Room::Fits(n)
+    Some(n)
 }
 
 // Writes a number in decimal, the highest digit first.
@@ -150,11 +150,11 @@ fn put_code(code: u32, out: &mut [u8], at: usize) -> usize
         return at + 1;
     }
     match byte_of(code) {
-        Byte::Is(byte) => {
+        Some(byte) => {
             out[at] = byte;
             at + 1
         }
-        Byte::None => put_reference(code, out, at),
+        None => put_reference(code, out, at),
     }
 }
 
@@ -180,21 +180,21 @@ fn put_codes(text: &[u8], out: &mut [u8]) -> usize
 {
     let start = ascii_prefix(text);
     match copy(&text[..start], out, 0) {
-        Put::Next(at) => put_from(text, start, out, at),
+        Some(at) => put_from(text, start, out, at),
         // never: the bytes fit
-        Put::Full => 0,
+        None => 0,
     }
 }
 
 // Writes the bytes of a text at the start of `out`, all of them or none.
-pub fn encode(text: &[u8], out: &mut [u8]) -> Put
+pub fn encode(text: &[u8], out: &mut [u8]) -> Option<usize>
     ensures { Wrote (encode_text text.now) out.old 0 result out.new }
 {
     match encoded_len(text, out.len()) {
-        Room::Fits(len) => {
+        Some(len) => {
             put_codes(text, out);
-            Put::Next(len)
+            Some(len)
         }
-        Room::Over => Put::Full,
+        None => None,
     }
 }

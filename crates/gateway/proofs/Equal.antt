@@ -1,4 +1,5 @@
 -- Answers of the same numbers. Assumes nothing.
+use Rattle.std.specs.Prelude.{Option}
 use mathlib.Core.Path.{◌≡◌, ◌∙◌}
 use mathlib.Core.List.{List, [], ◌∷◌}
 use Prim.Native.Nat.{ℕ}
@@ -14,8 +15,6 @@ use Rattle.resolvers.proofs.Numbers.{resolved-is}
 use Rattle.enc_number.specs.Answer.{refusal_of}
 use Rattle.gateway_lent_values.specs.Values.{Gives}
 use Rattle.time_parts.specs.declared.Parts.{Parts}
-use Rattle.time_parts.specs.declared.PartsAnswer.{PartsAnswer}
-use Rattle.time_parts.specs.declared.CountAnswer.{CountAnswer}
 use Rattle.time_parts.specs.Parts.{parts_numbers, count_numbers, count_named}
 use Rattle.gateway.specs.Calls.{ChainGiven}
 
@@ -37,9 +36,9 @@ pub resolution-given : (x y : Resolution) {before after : List ℕ} {r : ℕ} �
     → Gives (resolution_numbers x) before r after → Gives (resolution_numbers y) before r after
 resolution-given x y e g = rw (← e) g
 
-pub parts-given : (x y : PartsAnswer) {before after : List ℕ} {r : ℕ} → parts_numbers x ≡ parts_numbers y → Gives (parts_numbers x) before r after → Gives (parts_numbers y) before r after
+pub parts-given : (x y : Option Parts) {before after : List ℕ} {r : ℕ} → parts_numbers x ≡ parts_numbers y → Gives (parts_numbers x) before r after → Gives (parts_numbers y) before r after
 parts-given x y e g = rw (← e) g
 
-pub count-given : (name : List ℕ) (p q : Parts) (x : CountAnswer) {before after : List ℕ} {r : ℕ} → p ≡ q → count_numbers x ≡ count_numbers (count_named name p)
+pub count-given : (name : List ℕ) (p q : Parts) (x : Option ℕ) {before after : List ℕ} {r : ℕ} → p ≡ q → count_numbers x ≡ count_numbers (count_named name p)
     → Gives (count_numbers x) before r after → Gives (count_numbers (count_named name q)) before r after
 count-given name p q x h e g = rw (← h, ← e) g

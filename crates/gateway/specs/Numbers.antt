@@ -1,8 +1,7 @@
 -- The answers of the calls below as numbers. Assumes nothing.
-use Rattle.std.specs.Prelude.{◌≡◌, cond, List, ℕ, ◌+◌, length}
+use Rattle.std.specs.Prelude.{◌≡◌, cond, List, ℕ, ◌+◌, length, Option}
 use Rattle.enc_utf_8.specs.Buffer.{splice, fits_in}
 use Rattle.type_index.specs.Index.{FoundBy}
-use Rattle.type_provider.specs.declared.Found.{Found}
 use Rattle.type_provider.specs.Find.{found_numbers}
 use Rattle.gateway_codes.specs.Numbers.{found_number}
 
@@ -13,6 +12,6 @@ pub record WroteAs (xs out : List ℕ) (at r : ℕ) (out' : List ℕ) : Type 0 w
 
 -- what a look-up by an index answers, by its numbers
 pub record FoundAs (book name : List ℕ) (r : ℕ) : Type 0 where
-  pub found : Found
+  pub found : Option ℕ
   pub by : FoundBy book name found
   pub number : r ≡ found_number (found_numbers found)

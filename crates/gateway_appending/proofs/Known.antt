@@ -1,4 +1,5 @@
 -- A name that is looked up by an index is known, or not, as by a search of the book; and when an index goes on. Assumes nothing.
+use Rattle.std.specs.Prelude.{Option, Some, None}
 use mathlib.Core.Path.{◌≡◌, refl, sym, ap, ◌∙◌}
 use mathlib.Core.Bool.{Bool, true, false, cond}
 use mathlib.Core.List.{List}
@@ -6,8 +7,6 @@ use Prim.Native.Nat.{ℕ}
 use native.Mathlib.Omega.{arith}
 use borrow.Author.Tests.{ne_eqb}
 use Rattle.type_book.specs.Book.{is_named}
-use Rattle.type_provider.specs.declared.Found.{Found}
-use Rattle.type_provider.specs.declared.Found.TheVariants.{At, Nothing}
 use Rattle.type_provider.specs.Find.{find, NamedBlock}
 use Rattle.type_provider.proofs.Finds.{find-nothing}
 use Rattle.type_provider.proofs.Numbers.{found-is, found-says}
@@ -21,22 +20,22 @@ use Rattle.type_cache.proofs.Appends.{known_at, known-not}
 use Rattle.gateway_appending.specs.declared.Growth.{Growth}
 use Rattle.gateway_appending.specs.Growth.{trust_of, stays_trusted, GoesIs, AppendedBy}
 
-module _ (book name : List ℕ) (r : Found) (f : FoundBy book name r) where
-  pub known_by : (n : ℕ) → r ≡ At n → true ≡ is_known book name
+module _ (book name : List ℕ) (r : Option ℕ) (f : FoundBy book name r) where
+  pub known_by : (n : ℕ) → r ≡ Some n → true ≡ is_known book name
   known_by n e = by (find book name) refl
     where
       b : NamedBlock book name n
       b = f.at n (found-says _ _ e)
 
-      by : (g : Found) → find book name ≡ g → true ≡ is_known book name
-      by (At m) q = known_at book name (find book name) refl m q
-      by Nothing q =
+      by : (g : Option ℕ) → find book name ≡ g → true ≡ is_known book name
+      by (Some m) q = known_at book name (find book name) refl m q
+      by None q =
           let y : is_named book name n ≡ false = find-nothing book name q n b.below in
           let x : is_named book name n ≡ true = b.named in
           let z : ◌≡◌ {A = ℕ} 0 1 = cc in
           absurd (omega arith)
 
-  pub new_by : r ≡ Nothing → false ≡ is_known book name
+  pub new_by : r ≡ None → false ≡ is_known book name
   new_by e = known-not book name (find book name) refl (found-is _ _ (f.nothing (found-says _ _ e)))
 
 -- ---- what a caller says of its index

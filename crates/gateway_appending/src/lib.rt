@@ -17,7 +17,6 @@ use type_book::block::BLOCK;
 use type_cache::{addition_refusal, copy, has_room};
 use type_index::{Trust, find_in};
 use type_index_grow::enter_last;
-use type_provider::Found;
 
 // The book's new length, where the index leads to every type of the longer book and where it may not; or document 01's number of the refusal.
 #[derive(Clone, Copy)]
@@ -44,8 +43,8 @@ fn is_known_by(book: &[u8], index: &[u32], trust: Trust, name: &[u8]) -> bool
 {
     let found = find_in(book, index, trust, name);
     match found {
-        Found::At(_) => true,
-        Found::Nothing => false,
+        Some(_) => true,
+        None => false,
     }
 }
 

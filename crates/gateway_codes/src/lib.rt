@@ -6,26 +6,23 @@ ghost use Rattle.enc_number.specs.Answer.{truth_number};
 ghost use Rattle.type_provider.specs.Find.{found_numbers};
 ghost use Rattle.gateway_codes.specs.Numbers.{place_number, found_number};
 
-use enc_utf_8::Put;
-use type_provider::Found;
-
 // The place after the written bytes, or 2^64 - 1 where they do not fit.
-pub fn place(p: Put) -> u64
+pub fn place(p: Option<usize>) -> u64
     ensures { result ≡ place_number p }
 {
     match p {
-        Put::Next(n) => n as u64,
-        Put::Full => 0xffff_ffff_ffff_ffff,
+        Some(n) => n as u64,
+        None => 0xffff_ffff_ffff_ffff,
     }
 }
 
 // The block, or 2^32 - 1 where there is none.
-pub fn found(f: Found) -> u32
+pub fn found(f: Option<u32>) -> u32
     ensures { result ≡ found_number (found_numbers f) }
 {
     match f {
-        Found::At(n) => n,
-        Found::Nothing => 0xffff_ffff,
+        Some(n) => n,
+        None => 0xffff_ffff,
     }
 }
 

@@ -1,13 +1,10 @@
 -- What each answer of the two calls gives: one law for each variant. Assumes nothing.
+use Rattle.std.specs.Prelude.{Option, Some, None}
 use mathlib.Core.Path.{◌≡◌, refl}
 use mathlib.Core.List.{List, [], ◌∷◌}
 use Prim.Native.Nat.{ℕ, ◌≤◌}
 use lib.ListN.{length, get_or, get_or-eq_default}
 use Rattle.time_parts.specs.declared.Parts.{Parts}
-use Rattle.time_parts.specs.declared.PartsAnswer.{PartsAnswer}
-use Rattle.time_parts.specs.declared.PartsAnswer.TheVariants as parts
-use Rattle.time_parts.specs.declared.CountAnswer.{CountAnswer}
-use Rattle.time_parts.specs.declared.CountAnswer.TheVariants as count
 use Rattle.time_parts.specs.Parts.{parts_numbers, count_numbers}
 use Rattle.gateway_lent_values.specs.Values.{Gives}
 use Rattle.gateway_lent_values.proofs.Lays.{none}
@@ -22,19 +19,19 @@ unfolding lent_parts
 lent_is ns a b c d e f g pa pb pc pd pe pf pg = rw (pa, pb, pc, pd, pe, pf, pg)
 
 module _ {before after : List ℕ} {r : ℕ} where
-  pub parts-told : (x : PartsAnswer) (p : Parts) → x ≡ parts.Told p
+  pub parts-told : (x : Option Parts) (p : Parts) → x ≡ Some p
       → Gives (0 ∷ p.year ∷ p.month ∷ p.day ∷ p.hour ∷ p.minute ∷ p.second ∷ p.nanosecond ∷ []) before r after → Gives (parts_numbers x) before r after
   unfolding parts_numbers
   parts-told x p e g = rw e g
 
-  pub count-told : (x : CountAnswer) (n : ℕ) → x ≡ count.Told n → Gives (0 ∷ n ∷ []) before r after → Gives (count_numbers x) before r after
+  pub count-told : (x : Option ℕ) (n : ℕ) → x ≡ Some n → Gives (0 ∷ n ∷ []) before r after → Gives (count_numbers x) before r after
   unfolding count_numbers
   count-told x n e g = rw e g
 
-pub parts-refused : (x : PartsAnswer) (before : List ℕ) → x ≡ parts.Refused → Gives (parts_numbers x) before 24 before
+pub parts-refused : (x : Option Parts) (before : List ℕ) → x ≡ None → Gives (parts_numbers x) before 24 before
 unfolding parts_numbers
 parts-refused x before e = rw e (none 24 before)
 
-pub count-refused : (x : CountAnswer) (before : List ℕ) → x ≡ count.Refused → Gives (count_numbers x) before 24 before
+pub count-refused : (x : Option ℕ) (before : List ℕ) → x ≡ None → Gives (count_numbers x) before 24 before
 unfolding count_numbers
 count-refused x before e = rw e (none 24 before)

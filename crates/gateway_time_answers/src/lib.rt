@@ -7,7 +7,7 @@ ghost use Rattle.gateway_lent_values.specs.Values.{Gives};
 ghost use Rattle.gateway_time_answers.specs.Lent.{lent_parts};
 
 use gateway_lent_values::{done_1, done_7};
-use time_parts::{CountAnswer, Parts, PartsAnswer};
+use time_parts::Parts;
 
 // The number at a place of the array, 0 past its end.
 fn number(numbers: &[u32], i: usize) -> u32
@@ -35,11 +35,11 @@ pub fn lent_parts(numbers: &[u32]) -> Parts
 }
 
 // The seven parts, or 24.
-pub fn give_parts(answer: PartsAnswer, values: &mut [u64]) -> u8
+pub fn give_parts(answer: Option<Parts>, values: &mut [u64]) -> u8
     ensures { Gives (parts_numbers answer) values.old result values.new }
 {
     match answer {
-        PartsAnswer::Told(p) => done_7(
+        Some(p) => done_7(
             values,
             p.year as u64,
             p.month as u64,
@@ -49,16 +49,16 @@ pub fn give_parts(answer: PartsAnswer, values: &mut [u64]) -> u8
             p.second as u64,
             p.nanosecond as u64,
         ),
-        PartsAnswer::Refused => 24,
+        None => 24,
     }
 }
 
 // The count, or 24.
-pub fn give_count(answer: CountAnswer, values: &mut [u64]) -> u8
+pub fn give_count(answer: Option<u64>, values: &mut [u64]) -> u8
     ensures { Gives (count_numbers answer) values.old result values.new }
 {
-    match answer {
-        CountAnswer::Told(n) => done_1(values, n),
-        CountAnswer::Refused => 24,
-    }
+    let Some(n) = answer else {
+        return 24;
+    };
+    done_1(values, n)
 }

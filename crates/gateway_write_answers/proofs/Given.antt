@@ -1,4 +1,5 @@
 -- Every refusal of a write has one of the numbers that the papers have for it, for a root however it is given. Assumes nothing.
+use Rattle.std.specs.Prelude.{Option, Some, None}
 use mathlib.Core.Path.{◌≡◌, refl}
 use mathlib.Core.Bool.{Bool, true, false, cond}
 use mathlib.Core.List.{List, [], ◌∷◌, ◌++◌}
@@ -8,8 +9,6 @@ use lib.ListN.{length, take}
 use lib.Dec.{eqb}
 use Rattle.enc_number.specs.Answer.{refusal_of}
 use Rattle.type_provider.specs.Find.{find}
-use Rattle.type_provider.specs.declared.Found.{Found}
-use Rattle.type_provider.specs.declared.Found.TheVariants.{At, Nothing}
 use Rattle.type_book_check.specs.Check.{check_book, book_numbers}
 use Rattle.type_book_check.specs.declared.BookCheck.{BookCheck}
 use Rattle.type_book_check.specs.declared.BookCheck.TheVariants.{Valid, Size, Sum, Form, Doubled}
@@ -80,12 +79,12 @@ module _ (image : List ℕ) where
   lacking_by false y = refused_10
 
   -- a root by its name: what the check of the book, the name's form and the look-up come to
-  name_by : (book : List ℕ) (width room : ℕ) (tape text : List ℕ) (k : BookCheck) (t : Bool) (f : Found)
+  name_by : (book : List ℕ) (width room : ℕ) (tape text : List ℕ) (k : BookCheck) (t : Bool) (f : Option ℕ)
       → GivenNumbered (at_given (λ n. refused n 0 image) (lacking_write book tape text room image) (λ n. book_write (write_ctx book width tape text) n room image)
       (cond (eqb (refusal_of (book_numbers k)) 0) (cond t (found_root f) (Refused 23)) (Refused (refusal_of (book_numbers k)))))
   unfolding at_given lacking_write book_numbers found_root
-  name_by book width room tape text Valid true (At n) = with_more _ (book-numbered book width tape text n room image)
-  name_by book width room tape text Valid true Nothing = lacking_by (eqb room (length image)) (formed book tape text)
+  name_by book width room tape text Valid true (Some n) = with_more _ (book-numbered book width tape text n room image)
+  name_by book width room tape text Valid true None = lacking_by (eqb room (length image)) (formed book tape text)
   name_by book width room tape text Valid false f = refused_23
   name_by book width room tape text Size t f = refused_1
   name_by book width room tape text Sum t f = refused_2

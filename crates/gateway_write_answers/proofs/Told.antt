@@ -1,5 +1,6 @@
 -- Every refusal of a write has one of the numbers that document 01 has for it; so the number 0 says that something was written, whatever the bytes and
 -- numbers of a call. Assumes nothing.
+use Rattle.std.specs.Prelude.{Option, Some, None}
 use mathlib.Core.Path.{◌≡◌, refl, sym}
 use mathlib.Core.Bool.{Bool, true, false, cond, ◌&&◌}
 use mathlib.Core.List.{List}
@@ -9,8 +10,6 @@ use lib.ListN.{length, take}
 use lib.Dec.{eqb, leb, ltb}
 use Rattle.enc_number.specs.Answer.{refusal_of}
 use Rattle.type_book.specs.Book.{size_of, count_of, is_type, blocks}
-use Rattle.type_provider.specs.declared.Found.{Found}
-use Rattle.type_provider.specs.declared.Found.TheVariants.{At, Nothing}
 use Rattle.type_category.specs.Category.{category_of}
 use Rattle.type_book_check.specs.Check.{book_numbers, check_book, check_root, root_of}
 use Rattle.type_book_check.specs.declared.BookCheck.{BookCheck}
@@ -35,8 +34,6 @@ use Rattle.tape.specs.Record.{step_at}
 use Rattle.tape.specs.Text.{record_text}
 use Rattle.tape.specs.declared.record.Record.{Record}
 use Rattle.tape.specs.declared.cursor.Cursor.{Cursor}
-use Rattle.tape.specs.declared.cursor.NextRecord.{NextRecord}
-use Rattle.tape.specs.declared.cursor.NextRecord.TheVariants as step
 use Rattle.type_category.specs.declared.type_category.AdsTypeCategory.{AdsTypeCategory}
 use Rattle.ser_leaf.specs.Leaf.{Leaf, holds, leaf_for}
 use Rattle.ser_leaf.proofs.Tells.{Tells, leaf_for_tells}
@@ -134,10 +131,10 @@ is_19 = refl
 
 -- ---- records
 
-fine-by : (bytes : List ℕ) (f : Record → Cursor → Outcome) (s : NextRecord) → ((r : Record) (next : Cursor) → Fine (f r next)) → Fine (taken_by bytes f s)
+fine-by : (bytes : List ℕ) (f : Record → Cursor → Outcome) (s : Option (Record × Cursor)) → ((r : Record) (next : Cursor) → Fine (f r next)) → Fine (taken_by bytes f s)
 unfolding taken_by
-fine-by bytes f (step.Record r next) h = h r next
-fine-by bytes f step.End h = fine-refused 16 0 bytes is_16
+fine-by bytes f (Some (r, next)) h = h r next
+fine-by bytes f None h = fine-refused 16 0 bytes is_16
 
 fine-taken : (tape : List ℕ) (at : Cursor) (bytes : List ℕ) (f : Record → Cursor → Outcome) → ((r : Record) (next : Cursor) → Fine (f r next))
     → Fine (taken tape at bytes f)
@@ -185,10 +182,10 @@ module _ (book : List ℕ) (width : ℕ) (tape text : List ℕ) where
     field-fine at bytes (answer.NotFound b) = fine-refused 7 b bytes is_7
     field-fine at bytes answer.TooLong = fine-refused 8 0 bytes is_8
 
-    found-fine : (at : Cursor) (bytes : List ℕ) (f : Found) → Fine (found_value child c at bytes f)
+    found-fine : (at : Cursor) (bytes : List ℕ) (f : Option ℕ) → Fine (found_value child c at bytes f)
     unfolding found_value
-    found-fine at bytes (At f) = field-fine at bytes (resolve_field book width f)
-    found-fine at bytes Nothing = fine-refused 18 0 bytes is_18
+    found-fine at bytes (Some f) = field-fine at bytes (resolve_field book width f)
+    found-fine at bytes None = fine-refused 18 0 bytes is_18
 
     key-fine : (t : ℕ) (at : Cursor) (bytes : List ℕ) → Fine (key_of child c t at bytes)
     unfolding key_of key_by

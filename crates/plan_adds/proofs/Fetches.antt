@@ -8,8 +8,6 @@ use borrow.Author.Tests.{eq-eqb, ne_eqb, eqb-true, eqb-false}
 use lib.ListN.{length, take, length-take}
 use lib.Dec.{eqb}
 use Rattle.type_book.specs.Book.{is_type, type_name_of}
-use Rattle.type_provider.specs.declared.Found.{Found}
-use Rattle.type_provider.specs.declared.Found.TheVariants.{At, Nothing}
 use Rattle.type_provider.specs.Find.{find}
 use Rattle.type_index.specs.Index.{FoundBy}
 use Rattle.type_book_check.specs.Check.{check_book, ValidBook}
@@ -23,7 +21,7 @@ use Rattle.type_cache.proofs.Appends.{refused-cut, done_none, buffer-kept}
 use Rattle.plan_type_adds.specs.Knows.{Knows, AppendedIn}
 use Rattle.resolvers.proofs.Chains.{found-valid, found_type}
 use Rattle.type_provider.proofs.Numbers.{found-is}
-use Rattle.std.specs.Prelude.{Ok, Err}
+use Rattle.std.specs.Prelude.{Ok, Err, Option, Some, None}
 use Rattle.plan_adds.specs.declared.Unfetched.TheVariants as unfetched
 use Rattle.plan_adds.specs.Adds.{ours, append_of, fetch_by, fetch_of, on, room}
 use Rattle.plan_adds.specs.State.{Ready, Kept, fetched_said, FetchedIs}
@@ -43,7 +41,7 @@ pub kept_then : (a : List ℕ) (k : ℕ) (b : List ℕ) (l : ℕ) (c : List ℕ)
 kept_then a k b l c m p q = record { types = λ n h. q.types n (p.types n h) }
 
 -- ---- the look-up in the controller's book
-pub theirs-is : (c : List ℕ) → ValidBook c → (book : List ℕ) (b : ℕ) (name : List ℕ) → name ≡ type_name_of book b → (f : Found) → FoundBy c name f
+pub theirs-is : (c : List ℕ) → ValidBook c → (book : List ℕ) (b : ℕ) (name : List ℕ) → name ≡ type_name_of book b → (f : Option ℕ) → FoundBy c name f
     → f ≡ find c (type_name_of book b)
 theirs-is c v book b name e f h = found-is _ _ (found-valid c v name f h) ∙ ap (find c) e
 
@@ -57,12 +55,12 @@ refused-is buffer len d k h = by (eqb (append_refusal buffer len d) 0) refl h
     by true e g = let z : ◌≡◌ {A = ℕ} 0 1 = cc in absurd (omega arith)
     by false e g = (cc, eqb-false _ _ e)
 
-module _ (c : List ℕ) (b : ℕ) (buffer : List ℕ) (len : ℕ) (f : Found) (ef : f ≡ find c (type_name_of (take len buffer) b)) where
-  pub fetch_lacks : f ≡ Nothing → (known : List ℕ) → Ready c buffer len known → FetchedIs c b buffer len (Err unfetched.NotFound) buffer known
+module _ (c : List ℕ) (b : ℕ) (buffer : List ℕ) (len : ℕ) (f : Option ℕ) (ef : f ≡ find c (type_name_of (take len buffer) b)) where
+  pub fetch_lacks : f ≡ None → (known : List ℕ) → Ready c buffer len known → FetchedIs c b buffer len (Err unfetched.NotFound) buffer known
   unfolding fetched_said fetch_by
   fetch_lacks h known o = record { is = rw (← ef, h); ready = o; kept = kept-all buffer len }
 
-  module _ (n : ℕ) (h : f ≡ At n) where
+  module _ (n : ℕ) (h : f ≡ Some n) where
     pub fetch_type : is_type c n ≡ true
     fetch_type = found_type c (type_name_of (take len buffer) b) n (sym ef ∙ h)
 

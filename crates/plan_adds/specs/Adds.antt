@@ -1,9 +1,7 @@
 -- The adds of a plan: what an ask listed, and what types of our book are made of. c is the controller's book throughout. Assumes nothing.
-use Rattle.std.specs.Prelude.{false, cond, List, [], ◌∷◌, ℕ, zero, suc, ◌+◌, ◌-◌, eqb, ltb}
+use Rattle.std.specs.Prelude.{false, cond, List, [], ◌∷◌, ℕ, zero, suc, ◌+◌, ◌-◌, eqb, ltb, Option, Some, None}
 use Rattle.enc_number.specs.Refusals as refusal
 use Rattle.type_book.specs.Book.{blocks, is_type, fields_of, type_name_of}
-use Rattle.type_provider.specs.declared.Found.{Found}
-use Rattle.type_provider.specs.declared.Found.TheVariants.{At, Nothing}
 use Rattle.type_provider.specs.Find.{find}
 use Rattle.type_category.specs.declared.type_category.AdsTypeCategory.{AdsTypeCategory}
 use Rattle.type_category.specs.Category.{category_of}
@@ -40,9 +38,9 @@ unfoldable pub append_of : List ℕ → ℕ → Ours → Adding
 append_of c n s = cond (eqb (append_refusal s.buffer s.len (definition_of c n)) refusal.no_room) (room s) (on (next c (add n) s))
 
 -- by what the look-up of block b's type name in the controller's book found
-unfoldable pub fetch_by : List ℕ → ℕ → Ours → Found → Adding
-fetch_by c b s (At n) = append_of c n s
-fetch_by c b s Nothing = lacks b s
+unfoldable pub fetch_by : List ℕ → ℕ → Ours → Option ℕ → Adding
+fetch_by c b s (Some n) = append_of c n s
+fetch_by c b s None = lacks b s
 
 -- the type that block b of our book names is added from the controller's book
 abbrev pub fetch_of : List ℕ → ℕ → Ours → Adding

@@ -18,7 +18,6 @@ use type_book::block::BLOCK;
 use type_cache::Appended;
 use type_category::type_category::AdsTypeCategory;
 use type_index::{Trust, find_in};
-use type_provider::Found;
 
 // The blocks of a book at most.
 const MAX_BLOCKS: u32 = 65536;
@@ -63,7 +62,7 @@ pub struct AddBy {
 // ---- adding
 
 // The controller's type that block b of our book names.
-fn find_theirs(book: &[u8], controller: &[u8], index: &[u32], trust: Trust, b: u32) -> Found
+fn find_theirs(book: &[u8], controller: &[u8], index: &[u32], trust: Trust, b: u32) -> Option<u32>
     requires { ValidBook controller.now × Trusted controller.now index.now trust }
     ensures { result ≡ find controller.now (type_name_of book.now b) }
 {
@@ -85,7 +84,7 @@ fn fetch(
     ensures { FetchedIs controller.now b buffer.old len result buffer.new known.new }
 {
     let found = find_theirs(&buffer[..len], controller, index, trust, b);
-    let Found::At(n) = found else {
+    let Some(n) = found else {
         return Err(Unfetched::NotFound);
     };
     let answer = append_in(buffer, len, controller, n, known);

@@ -1,5 +1,6 @@
 -- What holds of each block that names what a type of a book is made of holds of each listed block; so that it is a block of the book.
 -- Assumes nothing.
+use Rattle.std.specs.Prelude.{Option, Some, None}
 use mathlib.Core.Path.{◌≡◌, refl, sym, ap, ◌∙◌, subst}
 use mathlib.Core.Bool.{true, false}
 use mathlib.Core.List.Memᴰ
@@ -9,8 +10,6 @@ use Prim.Native.Nat.{ℕ, zero, suc, ◌+◌, ◌<◌}
 use native.Mathlib.Omega.{arith}
 use borrow.Author.Tests.{eqb-true}
 use Rattle.type_book.specs.Book.{blocks, is_type, fields_of, name_of, type_name_of}
-use Rattle.type_provider.specs.declared.Found.{Found}
-use Rattle.type_provider.specs.declared.Found.TheVariants.{At, Nothing}
 use Rattle.type_provider.specs.Find.{find}
 use Rattle.type_category.specs.Category.{category_of}
 use Rattle.type_book_check.specs.Check.{ValidBook}
@@ -48,7 +47,7 @@ in_after t (suc k) b m = ⊎_elim (λ e. omega arith) (λ n. let r = in_after t 
 lacks-apart : (c u : ℕ) → Base u ≡ NotFound c → ⊥
 lacks-apart c u e = let z : ◌≡◌ {A = ℕ} 0 1 = cc in omega arith
 
-found-apart : (n : ℕ) → At n ≡ Nothing → ⊥
+found-apart : (n : ℕ) → Some n ≡ None → ⊥
 found-apart n e = let z : ◌≡◌ {A = ℕ} 0 1 = cc in omega arith
 
 lacks-same : (b c : ℕ) → NotFound b ≡ NotFound c → b ≡ c
@@ -76,20 +75,20 @@ module _ (book : List ℕ) (width : ℕ) (v : ValidBook book) where
         ⊎_elim (λ e. p b (Memᴰ.head e)) (λ n. either xs ys (λ d k. p d (Memᴰ.tail k)) q b n) (Memᴰ.cases_cons m)
 
     -- what a name comes to is a type block of the book, or breaks off at an alias of it, or at once
-    comes_typed : (b u : ℕ) (f : Found) → find book (type_name_of book b) ≡ f → comes_to book width b f ≡ Base u → is_type book u ≡ true
+    comes_typed : (b u : ℕ) (f : Option ℕ) → find book (type_name_of book b) ≡ f → comes_to book width b f ≡ Base u → is_type book u ≡ true
     unfolding chain_onward
-    comes_typed b u (At t) q e = (follow-ends (is_followed false book width) book 32 t u e).typed (found_type book (type_name_of book b) t q)
-    comes_typed b u Nothing q e = absurd (lacks-apart b u (sym e))
+    comes_typed b u (Some t) q e = (follow-ends (is_followed false book width) book 32 t u e).typed (found_type book (type_name_of book b) t q)
+    comes_typed b u None q e = absurd (lacks-apart b u (sym e))
 
     chain_breaks : (t c : ℕ) → is_type book t ≡ true → resolve_alias book width t ≡ NotFound c → P c
     chain_breaks t c y e =
         let r = follow_breaks (is_followed false book width) book 32 t c e in
         of-alias c (r.typed y) r.goes_on
 
-    comes_to_lem : (b c : ℕ) → P b → (f : Found) → find book (type_name_of book b) ≡ f → comes_to book width b f ≡ NotFound c → P c
+    comes_to_lem : (b c : ℕ) → P b → (f : Option ℕ) → find book (type_name_of book b) ≡ f → comes_to book width b f ≡ NotFound c → P c
     unfolding chain_onward
-    comes_to_lem b c h (At t) q e = chain_breaks t c (found_type book (type_name_of book b) t q) e
-    comes_to_lem b c h Nothing q e = subst (λ (x : ℕ). P x) (lacks-same b c e) h
+    comes_to_lem b c h (Some t) q e = chain_breaks t c (found_type book (type_name_of book b) t q) e
+    comes_to_lem b c h None q e = subst (λ (x : ℕ). P x) (lacks-same b c e) h
 
     push-all : (s : List ℕ) (r : Resolved) → ((u : ℕ) → r ≡ Base u → is_type book u ≡ true) → ((b : ℕ) → Memᴰ b s → P b)
         → (b : ℕ) → Memᴰ b (push book width r s) → P b
@@ -110,15 +109,15 @@ module _ (book : List ℕ) (width : ℕ) (v : ValidBook book) where
     goes-all (Goes.stop {b} e) p c m = absurd (full-none c b (type_name_of book b) m)
 
     module _ (root : ℕ) (y : is_type book root ≡ true) where
-      root-typed : (u : ℕ) (f : Found) → find book (name_of book root) ≡ f → comes_to book width root f ≡ Base u → is_type book u ≡ true
+      root-typed : (u : ℕ) (f : Option ℕ) → find book (name_of book root) ≡ f → comes_to book width root f ≡ Base u → is_type book u ≡ true
       unfolding chain_onward
-      root-typed u (At t) q e = (follow-ends (is_followed false book width) book 32 t u e).typed (found_type book (name_of book root) t q)
-      root-typed u Nothing q e = absurd (lacks-apart root u (sym e))
+      root-typed u (Some t) q e = (follow-ends (is_followed false book width) book 32 t u e).typed (found_type book (name_of book root) t q)
+      root-typed u None q e = absurd (lacks-apart root u (sym e))
 
-      root-to : (c : ℕ) (f : Found) → find book (name_of book root) ≡ f → comes_to book width root f ≡ NotFound c → P c
+      root-to : (c : ℕ) (f : Option ℕ) → find book (name_of book root) ≡ f → comes_to book width root f ≡ NotFound c → P c
       unfolding chain_onward
-      root-to c (At t) q e = chain_breaks t c (found_type book (name_of book root) t q) e
-      root-to c Nothing q e = absurd (found-apart root (sym (valid-own book v root y) ∙ q))
+      root-to c (Some t) q e = chain_breaks t c (found_type book (name_of book root) t q) e
+      root-to c None q e = absurd (found-apart root (sym (valid-own book v root y) ∙ q))
 
       pub listed-all : (c : ℕ) → Memᴰ c (listed (walk_of book width root)) → P c
       unfolding walk_of meet

@@ -1,4 +1,5 @@
 -- On the premises every add goes on: our book stays sound, and what was in it stays in its place. Assumes nothing.
+use Rattle.std.specs.Prelude.{Option, Some, None}
 use mathlib.Core.Path.{◌≡◌, refl, sym, ap, ◌∙◌}
 use mathlib.Core.Bool.{Bool, true, false, cond}
 use mathlib.Core.List.{List, [], ◌∷◌, ◌++◌, Memᴰ, append-nil, append_assoc}
@@ -7,8 +8,6 @@ use native.Mathlib.Omega.{arith}
 use lib.Dec.{ltb}
 use Rattle.type_book.specs.Book.{blocks, is_type, name_of, type_name_of}
 use Rattle.type_book.proofs.Blocks.{block_append}
-use Rattle.type_provider.specs.declared.Found.{Found}
-use Rattle.type_provider.specs.declared.Found.TheVariants.{At, Nothing}
 use Rattle.type_provider.specs.Find.{find}
 use Rattle.type_book_check.specs.Check.{ValidBook}
 use Rattle.type_book_check.proofs.Valid.{valid-size, valid-names}
@@ -57,8 +56,8 @@ module _ (c : List ℕ) (w : ValidBook c) (root : ℕ) (name : List ℕ) where
       unfolding append_of
       append_fine = by (find (book_of s) (name_of c n)) refl
         where
-          by : (f : Found) → find (book_of s) (name_of c n) ≡ f → Fine c root name (book_of s) (append_of c n s)
-          by (At k) e =
+          by : (f : Option ℕ) → find (book_of s) (name_of c n) ≡ f → Fine c root name (book_of s) (append_of c n s)
+          by (Some k) e =
               let q : append_refusal s.buffer s.len (definition_of c n) ≡ 4 = add-known c w n t s.buffer s.len o.valid k e in
               record {
                 final = next c (add n) s;
@@ -67,7 +66,7 @@ module _ (c : List ℕ) (w : ValidBook c) (root : ℕ) (name : List ℕ) where
                 more = [];
                 grows = ap book_of (add_same c w root name s o n t k e) ∙ sym (append-nil (book_of s));
               }
-          by Nothing e =
+          by None e =
               record {
                 final = next c (add n) s;
                 is = rw (add_none c w root name s o n t e);
@@ -80,11 +79,11 @@ module _ (c : List ℕ) (w : ValidBook c) (root : ℕ) (name : List ℕ) where
     unfolding fetch_by passing
     pass_fine i = by (find c (type_name_of (book_of s) i)) refl
       where
-        by : (f : Found) → find c (type_name_of (book_of s) i) ≡ f → Fine c root name (book_of s) (on (passing (fetch_by c i s f)))
-        by (At n) e =
+        by : (f : Option ℕ) → find c (type_name_of (book_of s) i) ≡ f → Fine c root name (book_of s) (on (passing (fetch_by c i s f)))
+        by (Some n) e =
             let g : Fine c root name (book_of s) (append_of c n s) = append_fine n (found_type c (type_name_of (book_of s) i) n e) in
             record { final = g.final; is = rw g.is; sound = g.sound; more = g.more; grows = g.grows }
-        by Nothing e = stay s o
+        by None e = stay s o
 
   sweep-fine : (width k i due : ℕ) (s : Ours) → Sound c root name s → Fine c root name (book_of s) (on (sweep_from c width k i due s))
   unfolding sweep_from sweep_by then_on
@@ -114,7 +113,7 @@ module _ (c : List ℕ) (w : ValidBook c) (root : ℕ) (name : List ℕ) where
     unfolding add_listed fetch_by
     listed-step b bs h g s o more e ih =
         let q : type_name_of (book_of s) b ≡ type_name_of book b = ap (λ (x : List ℕ). type_name_of x b) e ∙ name-stays book more v b h in
-        let z : find c (type_name_of (book_of s) b) ≡ At g.at = ap (find c) q ∙ g.found in
+        let z : find c (type_name_of (book_of s) b) ≡ Some g.at = ap (find c) q ∙ g.found in
         let f : Fine c root name (book_of s) (append_of c g.at s) = append_fine s o g.at (found_type c (type_name_of book b) g.at g.found) in
         rw z
         (then-fine (book_of s) (append_of c g.at s) (add_listed c bs) f

@@ -1,4 +1,5 @@
 -- The rounds of a plan are a list of asks and adds. Assumes nothing.
+use Rattle.std.specs.Prelude.{Option, Some, None}
 use mathlib.Core.Path.{◌≡◌, refl, sym, ap, ◌∙◌, subst}
 use mathlib.Core.Bool.{Bool, true, false, cond}
 use mathlib.Core.List.{List, [], ◌∷◌, ◌++◌, append-nil, append_assoc}
@@ -12,8 +13,6 @@ use Rattle.type_cache.proofs.Appends.{call_done, call_refused, buffer-kept}
 use Rattle.type_cache.proofs.Adds.{Grown, grown}
 use lib.Dec.{eqb, ltb}
 use Rattle.type_book.specs.Book.{blocks, is_type, type_name_of}
-use Rattle.type_provider.specs.declared.Found.{Found}
-use Rattle.type_provider.specs.declared.Found.TheVariants.{At, Nothing}
 use Rattle.type_provider.specs.Find.{find}
 use Rattle.type_cache.specs.Append.{append_refusal}
 use Rattle.type_cache.specs.Same.{definition_of}
@@ -90,9 +89,9 @@ module _ (c : List ℕ) where
   unfolding fetch_by
   fetch_adds s b = by (find c (type_name_of (book_of s) b)) refl
     where
-      by : (f : Found) → find c (type_name_of (book_of s) b) ≡ f → Adds c s (end_of (fetch_by c b s f))
-      by (At n) e = append_adds s n (found_type c (type_name_of (book_of s) b) n e)
-      by Nothing e = no-adds c s
+      by : (f : Option ℕ) → find c (type_name_of (book_of s) b) ≡ f → Adds c s (end_of (fetch_by c b s f))
+      by (Some n) e = append_adds s n (found_type c (type_name_of (book_of s) b) n e)
+      by None e = no-adds c s
 
   pass_end : (a : Adding) → passing a ≡ end_of a
   unfolding passing

@@ -1,5 +1,6 @@
 -- After a sweep from block 0 nothing is left to add: what a type of our book is made of is in our book, or not in the controller's, or has no
 -- room. Assumes nothing.
+use Rattle.std.specs.Prelude.{Option, Some, None}
 use mathlib.Core.Path.{◌≡◌, refl, sym, ap, ◌∙◌, subst}
 use mathlib.Core.Bool.{Bool, true, false, cond}
 use mathlib.Core.List.{List, [], ◌++◌, append-nil, append_assoc}
@@ -10,8 +11,6 @@ use borrow.Author.Tests.{eqb-true, eqb-false, ltb-true, ltb-false}
 use lib.ListN.{length, length-append, length-take, length-drop}
 use lib.Dec.{eqb, ltb}
 use Rattle.type_book.specs.Book.{blocks, is_type, name_of, type_name_of}
-use Rattle.type_provider.specs.declared.Found.{Found}
-use Rattle.type_provider.specs.declared.Found.TheVariants.{At, Nothing}
 use Rattle.type_provider.specs.Find.{find}
 use Rattle.type_provider.proofs.Finds.{find-named, named-name}
 use Rattle.type_book_check.specs.declared.BookCheck.TheVariants.{Valid}
@@ -33,7 +32,7 @@ use Rattle.plan_decides.proofs.Taken.{rest_of, due_at, Taken, due-stays, next-du
 
 -- a name is settled: our book has it, or the controller's lacks it, or its definition has no room
 pub record Settled (c : List ℕ) (z : Ours) (x : List ℕ) : Type 0 where
-  pub full : find (book_of z) x ≡ Nothing → (n : ℕ) → find c x ≡ At n → has_room (length z.buffer) z.len (length (definition_of c n)) ≡ false
+  pub full : find (book_of z) x ≡ None → (n : ℕ) → find c x ≡ Some n → has_room (length z.buffer) z.len (length (definition_of c n)) ≡ false
 
 -- our buffer later: our book is valid, and the old one with more after it
 pub record Later (s z : Ours) : Type 0 where
@@ -42,10 +41,10 @@ pub record Later (s z : Ours) : Type 0 where
   pub grows : book_of z ≡ book_of s ++ more
   pub long : length z.buffer ≡ length s.buffer
 
-found-apart : {X : Type 0} (n : ℕ) → At n ≡ Nothing → X
+found-apart : {X : Type 0} (n : ℕ) → Some n ≡ None → X
 found-apart n e = let z : ◌≡◌ {A = ℕ} 0 1 = cc in absurd (omega arith)
 
-at_same : (m n : ℕ) → At m ≡ At n → m ≡ n
+at_same : (m n : ℕ) → Some m ≡ Some n → m ≡ n
 at_same m n e = cc
 
 due-apart : {X : Type 0} (m n : ℕ) → Rest m ≡ Names n → X
@@ -99,12 +98,12 @@ module _ (s z : Ours) (v : check_book s.buffer s.len ≡ Valid) (a : Later s z) 
   pub settled-later : (c x : List ℕ) → Settled c s x → Settled c z x
   settled-later c x o = record { full = λ e n q. by e n q (find (book_of s) x) refl }
     where
-      by : find (book_of z) x ≡ Nothing → (n : ℕ) → find c x ≡ At n → (f : Found) → find (book_of s) x ≡ f
+      by : find (book_of z) x ≡ None → (n : ℕ) → find c x ≡ Some n → (f : Option ℕ) → find (book_of s) x ≡ f
           → has_room (length z.buffer) z.len (length (definition_of c n)) ≡ false
-      by e n q (At k) h =
-          let y : find (book_of z) x ≡ At k = ap (λ (l : List ℕ). find l x) a.grows ∙ find-kept (book_of s) a.more ours-valid x k h in
+      by e n q (Some k) h =
+          let y : find (book_of z) x ≡ Some k = ap (λ (l : List ℕ). find l x) a.grows ∙ find-kept (book_of s) a.more ours-valid x k h in
           found-apart k (sym y ∙ e)
-      by e n q Nothing h =
+      by e n q None h =
           room-less (length z.buffer) s.len z.len (length (definition_of c n)) longer
           (ap (λ (r : ℕ). has_room r s.len (length (definition_of c n))) a.long ∙ o.full h n q)
 
@@ -131,7 +130,7 @@ module _ (c : List ℕ) (w : ValidBook c) (s : Ours) (v : check_book s.buffer s.
             rw e (sym (refused-same (λ z. omega (arith, q, z))))
         by false e = rw e
 
-  module _ (x : List ℕ) (n : ℕ) (e : find c x ≡ At n) where
+  module _ (x : List ℕ) (n : ℕ) (e : find c x ≡ Some n) where
     typed : is_type c n ≡ true
     typed = found_type c x n e
 
@@ -144,7 +143,7 @@ module _ (c : List ℕ) (w : ValidBook c) (s : Ours) (v : check_book s.buffer s.
         let g : Grown s.buffer s.len (definition_of c n) = grown s.buffer s.len (definition_of c n) h in
         let r : s.len + length (definition_of c n) ≤ length s.buffer = room_fits _ _ _ (accepted s.buffer s.len (definition_of c n) h).room in
         let b : book_of (next c (add n) s) ≡ book_of s ++ definition_of c n = rw (call_done s.buffer s.len (definition_of c n) h) g.book in
-        let f : find (book_of (next c (add n) s)) x ≡ At (blocks (book_of s)) =
+        let f : find (book_of (next c (add n) s)) x ≡ Some (blocks (book_of s)) =
         ap (find (book_of (next c (add n) s))) (sym (definition_name c w n typed ∙ named)) ∙ ap (λ (l : List ℕ). find l (name_of (definition_of c n) 0)) b
         ∙ find-new (book_of s) (definition_of c n) g.old g.valid g.one g.new g.few in
         let k : length (append_buffer s.buffer s.len (definition_of c n)) ≡ length s.buffer =
@@ -158,7 +157,7 @@ module _ (c : List ℕ) (w : ValidBook c) (s : Ours) (v : check_book s.buffer s.
     left : (append_refusal s.buffer s.len (definition_of c n) ≡ 0 → ⊥) → Settles c s x s
     left h = record { later = later_same s v; settled = record { full = λ z m q. by z m (at_same n m (sym e ∙ q)) (has_room (length s.buffer) s.len (length (definition_of c n))) refl } }
       where
-        by : find (book_of s) x ≡ Nothing → (m : ℕ) → n ≡ m → (t : Bool) → has_room (length s.buffer) s.len (length (definition_of c n)) ≡ t
+        by : find (book_of s) x ≡ None → (m : ℕ) → n ≡ m → (t : Bool) → has_room (length s.buffer) s.len (length (definition_of c n)) ≡ t
             → has_room (length s.buffer) s.len (length (definition_of c m)) ≡ false
         by z m q true r = absurd (h (add-lacking c w n typed s.buffer s.len v (ap (find (book_of s)) named ∙ z) r))
         by z m q false r = rw (← q) r
@@ -174,12 +173,12 @@ module _ (c : List ℕ) (w : ValidBook c) (s : Ours) (v : check_book s.buffer s.
   unfolding fetch_by passing
   fetch_settles i = by (find c (type_name_of (book_of s) i)) refl
     where
-      none : find c (type_name_of (book_of s) i) ≡ Nothing → Settles c s (type_name_of (book_of s) i) (passing (lacks i s))
+      none : find c (type_name_of (book_of s) i) ≡ None → Settles c s (type_name_of (book_of s) i) (passing (lacks i s))
       none e = record { later = later_same s v; settled = record { full = λ z n q. found-apart n (sym q ∙ e) } }
 
-      by : (f : Found) → find c (type_name_of (book_of s) i) ≡ f → Settles c s (type_name_of (book_of s) i) (passing (fetch_by c i s f))
-      by (At n) e = added_settles (type_name_of (book_of s) i) n e
-      by Nothing e = none e
+      by : (f : Option ℕ) → find c (type_name_of (book_of s) i) ≡ f → Settles c s (type_name_of (book_of s) i) (passing (fetch_by c i s f))
+      by (Some n) e = added_settles (type_name_of (book_of s) i) n e
+      by None e = none e
 
 -- ---- the sweep
 module _ (c : List ℕ) (w : ValidBook c) (width : ℕ) where

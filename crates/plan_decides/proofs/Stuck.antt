@@ -1,12 +1,11 @@
 -- After a sweep from block 0 an ask lists only what can't be added. Assumes nothing.
+use Rattle.std.specs.Prelude.{Option, Some, None}
 use mathlib.Core.Path.{◌≡◌, refl, sym, ap, ◌∙◌}
 use mathlib.Core.Bool.{true, false}
 use mathlib.Core.List.Memᴰ
 use mathlib.Core.List.{List, ◌∷◌}
 use Prim.Native.Nat.{ℕ}
 use Rattle.type_book.specs.Book.{is_type, name_of, type_name_of}
-use Rattle.type_provider.specs.declared.Found.{Found}
-use Rattle.type_provider.specs.declared.Found.TheVariants.{At, Nothing}
 use Rattle.type_provider.specs.Find.{find}
 use Rattle.type_provider.proofs.Finds.{find-named, named-name}
 use lib.ListN.{length}
@@ -33,7 +32,7 @@ pub data Stuck (z : Ours) (a : Adding) : Type 0 where
   full : a ≡ room z → Stuck z a
 
 module _ (c : List ℕ) (w : ValidBook c) (z : Ours) (v : check_book z.buffer z.len ≡ Valid) (b : ℕ) where
-  append_full : (n : ℕ) → is_type c n ≡ true → find (book_of z) (name_of c n) ≡ Nothing
+  append_full : (n : ℕ) → is_type c n ≡ true → find (book_of z) (name_of c n) ≡ None
       → has_room (length z.buffer) z.len (length (definition_of c n)) ≡ false → append_of c n z ≡ room z
   unfolding append_of
   append_full n t e r =
@@ -44,15 +43,15 @@ module _ (c : List ℕ) (w : ValidBook c) (z : Ours) (v : check_book z.buffer z.
       (has_room (length z.buffer) z.len (length d)) refl r in
       rw (← q)
 
-  fetch_stuck : find (book_of z) (type_name_of (book_of z) b) ≡ Nothing → Settled c z (type_name_of (book_of z) b) → Stuck z (fetch_of c b z)
+  fetch_stuck : find (book_of z) (type_name_of (book_of z) b) ≡ None → Settled c z (type_name_of (book_of z) b) → Stuck z (fetch_of c b z)
   unfolding fetch_by
   fetch_stuck e o = by (find c (type_name_of (book_of z) b)) refl
     where
-      by : (f : Found) → find c (type_name_of (book_of z) b) ≡ f → Stuck z (fetch_by c b z f)
-      by (At n) q =
+      by : (f : Option ℕ) → find c (type_name_of (book_of z) b) ≡ f → Stuck z (fetch_by c b z f)
+      by (Some n) q =
           let x : name_of c n ≡ type_name_of (book_of z) b = named-name c (type_name_of (book_of z) b) n (find-named c (type_name_of (book_of z) b) n q).named in
           Stuck.full (append_full n (found_type c (type_name_of (book_of z) b) n q) (ap (find (book_of z)) x ∙ e) (o.full e n q))
-      by Nothing q = Stuck.nowhere b refl
+      by None q = Stuck.nowhere b refl
 
   all_stuck : (width i : ℕ) (bs : List ℕ) → Stuck z (fetch_of c b z) → Stuck z (add_all c width i (b ∷ bs) z)
   unfolding add_all add_listed then_on

@@ -1,4 +1,5 @@
 -- The plan for a root by its name: one law for each way out. Assumes nothing.
+use Rattle.std.specs.Prelude.{Option, Some, None}
 use mathlib.Core.Path.{◌≡◌, refl, sym, ap, ◌∙◌}
 use mathlib.Core.Bool.{Bool, true, false, cond, not}
 use mathlib.Core.List.{List}
@@ -9,8 +10,6 @@ use lib.ListN.{length, take, replicate}
 use lib.Dec.{eqb}
 use Rattle.enc_number.specs.Answer.{refusal_of}
 use Rattle.type_book.specs.Book.{blocks, is_type, name_of}
-use Rattle.type_provider.specs.declared.Found.{Found}
-use Rattle.type_provider.specs.declared.Found.TheVariants.{At, Nothing}
 use Rattle.type_provider.specs.Find.{find, found_numbers}
 use Rattle.type_provider.proofs.Numbers.{found-is}
 use Rattle.type_provider.proofs.Finds.{find-named, named-kind, named-name}
@@ -45,21 +44,21 @@ use Rattle.plan_save.proofs.Ends.{or_here, or_next_lem}
 use Rattle.plan_named.specs.Named.{plan_by_name, named_refusal, plan_named_of, PlanNamedIs}
 use Rattle.plan_named.specs.State.{RootAdded, EndedIs}
 
-found-apart : (n : ℕ) → At n ≡ Nothing → ⊥
+found-apart : (n : ℕ) → Some n ≡ None → ⊥
 found-apart n e = let z : ◌≡◌ {A = ℕ} 0 1 = cc in omega arith
 
 -- ---- adding the root
-module _ (c : List ℕ) (v : ValidBook c) (name buffer : List ℕ) (len : ℕ) (b : check_book buffer len ≡ Valid) (new : find (take len buffer) name ≡ Nothing)
-    (f : Found) (ef : found_numbers f ≡ found_numbers (find c name)) where
+module _ (c : List ℕ) (v : ValidBook c) (name buffer : List ℕ) (len : ℕ) (b : check_book buffer len ≡ Valid) (new : find (take len buffer) name ≡ None)
+    (f : Option ℕ) (ef : found_numbers f ≡ found_numbers (find c name)) where
   is-find : f ≡ find c name
   is-find = found-is _ _ ef
 
-  pub root-nowhere : f ≡ Nothing → RootAdded c name buffer len (NotFound lacking_root len) buffer
+  pub root-nowhere : f ≡ None → RootAdded c name buffer len (NotFound lacking_root len) buffer
   unfolding added_said fetch_by
   root-nowhere h = record { is = rw (← is-find, h); valid = b; holds = λ l e. let z : ◌≡◌ {A = ℕ} 0 1 = cc in absurd (omega arith) }
 
-  module _ (n : ℕ) (h : f ≡ At n) where
-    at : find c name ≡ At n
+  module _ (n : ℕ) (h : f ≡ Some n) where
+    at : find c name ≡ Some n
     at = sym is-find ∙ h
 
     pub root-type : is_type c n ≡ true
@@ -68,7 +67,7 @@ module _ (c : List ℕ) (v : ValidBook c) (name buffer : List ℕ) (len : ℕ) (
     named : name_of c n ≡ name
     named = named-name c name n (find-named c name n at).named
 
-    lacking : find (take len buffer) (name_of c n) ≡ Nothing
+    lacking : find (take len buffer) (name_of c n) ≡ None
     lacking = rw named new
 
     fetched : fetch_by c lacking_root (ours buffer len) (find c name) ≡ append_of c n (ours buffer len)
@@ -160,7 +159,7 @@ module _ (buffer : List ℕ) (len : ℕ) (b : check_book buffer len ≡ Valid) w
 
     module _ (sc hints : List ℕ) (r : Plan) (after' sc' hints' : List ℕ) where
       pub lacking-more : (l : ℕ) → a ≡ More l → PlanDone (plan_from c width (len / 512) 18 (ours after l)) sc hints r after' sc' hints'
-          → PlanDone (plan_by_name c width name (ours buffer len) Nothing) sc hints r after' sc' hints'
+          → PlanDone (plan_by_name c width name (ours buffer len) None) sc hints r after' sc' hints'
       unfolding plan_by_name next_round added_said
       lacking-more l e p =
           let q : fetch_by c lacking_root (ours buffer len) (find c name) ≡ on (ours after l) = sym o.is ∙ rw e in
@@ -168,14 +167,14 @@ module _ (buffer : List ℕ) (len : ℕ) (b : check_book buffer len ≡ Valid) w
 
     module _ (sc hints : List ℕ) (r : Plan) (sc' hints' : List ℕ) where
       pub lacking-nowhere : (k l : ℕ) → a ≡ NotFound k l → EndedIs (plan.NotFound k l) sc hints r sc' hints'
-          → PlanDone (plan_by_name c width name (ours buffer len) Nothing) sc hints r after sc' hints'
+          → PlanDone (plan_by_name c width name (ours buffer len) None) sc hints r after sc' hints'
       unfolding plan_by_name next_round added_said outcome_numbers outcome_ours
       lacking-nowhere k l e p =
           let q : fetch_by c lacking_root (ours buffer len) (find c name) ≡ lacks k (ours after l) = sym o.is ∙ rw e in
           record { answer = rw (p.same, q); bytes = rw q; scratch = p.scratch; index = p.index }
 
       pub lacking-full : (l : ℕ) → a ≡ Full l → EndedIs (plan.Refused 15 l) sc hints r sc' hints'
-          → PlanDone (plan_by_name c width name (ours buffer len) Nothing) sc hints r after sc' hints'
+          → PlanDone (plan_by_name c width name (ours buffer len) None) sc hints r after sc' hints'
       unfolding plan_by_name next_round added_said outcome_numbers outcome_ours
       lacking-full l e p =
           let q : fetch_by c lacking_root (ours buffer len) (find c name) ≡ room (ours after l) = sym o.is ∙ rw e in
@@ -195,7 +194,7 @@ module _ (buffer : List ℕ) (len : ℕ) (name : List ℕ) (g : check_given buff
   pub lacking-checked : check_book buffer len ≡ Valid
   lacking-checked = let l = lacking-valid buffer len name g in valid_in buffer len l.fits l.valid
 
-  pub lacking-new : find (take len buffer) name ≡ Nothing
+  pub lacking-new : find (take len buffer) name ≡ None
   lacking-new = (lacking-valid buffer len name g).nothing
 
   module _ (controller : List ℕ) (theirs width : ℕ) (sc hints : List ℕ) (k : ℕ) (ek : k ≡ refusal_of (book_numbers (check_book controller theirs))) where
@@ -203,7 +202,7 @@ module _ (buffer : List ℕ) (len : ℕ) (name : List ℕ) (g : check_given buff
     unfolding named_refusal at_given
     after-name = rw (g, ← ek) (or_next_lem 0 _ refl)
 
-    lacking_outcome : plan_named_of 0 buffer len controller theirs width name ≡ plan_by_name (take theirs controller) width name (ours buffer len) Nothing
+    lacking_outcome : plan_named_of 0 buffer len controller theirs width name ≡ plan_by_name (take theirs controller) width name (ours buffer len) None
     unfolding plan_named_of
     lacking_outcome = rw lacking-new
 
@@ -225,7 +224,7 @@ module _ (buffer : List ℕ) (len : ℕ) (name : List ℕ) (g : check_given buff
           (refused_all 6 buffer len controller theirs width name sc hints (λ q. omega arith))
 
       pub lacking-done : (t : Bool) → t ≡ scratch_fits sc → not t ≡ false → (r : Plan) (after sc' hints' : List ℕ)
-          → PlanDone (plan_by_name (take theirs controller) width name (ours buffer len) Nothing) sc hints r after sc' hints'
+          → PlanDone (plan_by_name (take theirs controller) width name (ours buffer len) None) sc hints r after sc' hints'
           → PlanNamedIs (named_refusal buffer len controller theirs name sc) buffer len controller theirs width name sc hints r after sc' hints'
       lacking-done t e h r after sc' hints' p =
           rw (after-name, or_next_lem k (cond (scratch_fits sc) 0 6) z, sym e ∙ not-false t h)
@@ -245,10 +244,10 @@ module _ (buffer : List ℕ) (len : ℕ) (name : List ℕ) (k : GivenRoot) (e : 
   unfolding check_given given_root found_root
   some-refusal n h z = by (eqb (refusal_of (book_numbers (check_book buffer len))) 0) refl (is_root_name name) (find (take len buffer) name) (sym e ∙ h)
     where
-      by : (t : Bool) → eqb (refusal_of (book_numbers (check_book buffer len))) 0 ≡ t → (u : Bool) (f : Found)
+      by : (t : Bool) → eqb (refusal_of (book_numbers (check_book buffer len))) 0 ≡ t → (u : Bool) (f : Option ℕ)
           → cond t (cond u (found_root f) (root.Refused 23)) (root.Refused (refusal_of (book_numbers (check_book buffer len)))) ≡ root.Refused n → ⊥
-      by true q true (At m) y = let x : ◌≡◌ {A = ℕ} 0 1 = cc in omega arith
-      by true q true Nothing y = let x : ◌≡◌ {A = ℕ} 0 1 = cc in omega arith
+      by true q true (Some m) y = let x : ◌≡◌ {A = ℕ} 0 1 = cc in omega arith
+      by true q true None y = let x : ◌≡◌ {A = ℕ} 0 1 = cc in omega arith
       by true q false f y = let x : 23 ≡ n = cc in omega arith
       by false q u f y = let x : refusal_of (book_numbers (check_book buffer len)) ≡ n = cc in eqb-false _ _ q (x ∙ z)
 
@@ -261,7 +260,7 @@ module _ (buffer : List ℕ) (len : ℕ) (name : List ℕ) (k : GivenRoot) (e : 
         (refused_all n buffer len controller theirs width name sc hints (some-refusal n h))
 
     module _ (t : ℕ) (h : k ≡ root.Block t) where
-      found : find (take len buffer) name ≡ At t
+      found : find (take len buffer) name ≡ Some t
       found = (named-valid buffer len name t (sym e ∙ h)).found
 
       pub named-checked : check_root buffer len t ≡ Root t

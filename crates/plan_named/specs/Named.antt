@@ -1,12 +1,10 @@
 -- `plan_save_named`: the plan of a save of a root that is given by its name, over our book, which may lack that name as the book of no bytes does
 -- (change request 5), and the controller's. Refusals 1 to 4 of our book, 23 of the name, 1 to 4 of the controller's book, 6 of the scratch, then
 -- those of the asks and adds. Assumes nothing.
-use Rattle.std.specs.Prelude.{◌≡◌, cond, List, ℕ, take, eqb}
+use Rattle.std.specs.Prelude.{◌≡◌, cond, List, ℕ, take, eqb, Option, Some, None}
 use Rattle.enc_number.specs.Answer.{refusal_of}
 use Rattle.enc_number.specs.Refusals as refusal
 use Rattle.type_book.specs.Book.{blocks}
-use Rattle.type_provider.specs.declared.Found.{Found}
-use Rattle.type_provider.specs.declared.Found.TheVariants.{At, Nothing}
 use Rattle.type_provider.specs.Find.{find}
 use Rattle.type_book_check.specs.Check.{check_book, book_numbers}
 use Rattle.type_book_check.specs.Given.{lacking_root, check_given, at_given}
@@ -22,9 +20,9 @@ use Rattle.plan_save.specs.Call.{plan_numbers, outcome_numbers, outcome_ours}
 -- the asks and adds, by whether our book has the root's name. It has it at block t: the rounds for t. It lacks it: the first add is the root's own
 -- definition from the controller's book, and the rounds are those for the block that it becomes, the first after ours; 7 with the number of a
 -- lacking root where neither book has the name, 15 where the definition has no room
-unfoldable pub plan_by_name : List ℕ → ℕ → List ℕ → Ours → Found → Decision
-plan_by_name c width name s (At t) = plan_from c width t 18 s
-plan_by_name c width name s Nothing = next_round (plan_from c width (blocks (book_of s)) 18) (fetch_by c lacking_root s (find c name))
+unfoldable pub plan_by_name : List ℕ → ℕ → List ℕ → Ours → Option ℕ → Decision
+plan_by_name c width name s (Some t) = plan_from c width t 18 s
+plan_by_name c width name s None = next_round (plan_from c width (blocks (book_of s)) 18) (fetch_by c lacking_root s (find c name))
 
 -- 1 to 4 of our book and 23 of the name, 1 to 4 of the controller's book, 6 of the scratch; 0 if there is none
 unfoldable pub named_refusal : List ℕ → ℕ → List ℕ → ℕ → List ℕ → List ℕ → ℕ

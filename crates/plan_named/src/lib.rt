@@ -2,9 +2,8 @@
 // definition is the first that is added from the controller's book.
 #![tactic(auto)]
 
-ghost use Rattle.std.specs.Prelude.{◌≡◌, ◌≤◌, length, take};
+ghost use Rattle.std.specs.Prelude.{◌≡◌, ◌≤◌, length, take, None};
 ghost use Rattle.type_provider.specs.Find.{find as find_in};
-ghost use Rattle.type_provider.specs.declared.Found.TheVariants.{Nothing};
 ghost use Rattle.type_book_check.specs.declared.BookCheck.TheVariants.{Valid};
 ghost use Rattle.type_book_check.specs.declared.GivenRoot.TheVariants.{Lacking};
 ghost use Rattle.type_book_check.specs.Check.{ValidBook, check_book};
@@ -22,18 +21,18 @@ use resolve_walk::scratch_fits;
 use type_book::block::BLOCK;
 use type_book_check::{GivenRoot, check_root_named};
 use type_cache::{Appended, append};
-use type_provider::{Found, find};
+use type_provider::find;
 
 // The number that stands for a root's name which a book lacks.
 const LACKING: u32 = 0xffff_ffff;
 
 // Adds the root's definition from the controller's book to our book, which lacks its name.
 fn add_root(buffer: &mut [u8], len: usize, controller: &[u8], name: &[u8]) -> Added
-    requires { ValidBook controller.now × (check_book buffer.old len ≡ Valid) × (find_in (take len buffer.old) name.now ≡ Nothing) }
+    requires { ValidBook controller.now × (check_book buffer.old len ≡ Valid) × (find_in (take len buffer.old) name.now ≡ None) }
     ensures { RootAdded controller.now name.now buffer.old len result buffer.new }
 {
     let found = find(controller, name);
-    let Found::At(n) = found else {
+    let Some(n) = found else {
         return Added::NotFound(LACKING, len);
     };
     let answer = append(buffer, len, definition(controller, n));
@@ -62,8 +61,8 @@ fn plan_lacking_in(
     scratch: &mut [u32],
     index: &mut [u32],
 ) -> Plan
-    requires { ValidBook controller.now × (check_book buffer.old len ≡ Valid) × (find_in (take len buffer.old) name.now ≡ Nothing) × (8192 ≤ length scratch.old) }
-    ensures { PlanDone (plan_by_name controller.now width name.now (ours buffer.old len) Nothing) scratch.old index.old result buffer.new scratch.new index.new }
+    requires { ValidBook controller.now × (check_book buffer.old len ≡ Valid) × (find_in (take len buffer.old) name.now ≡ None) × (8192 ≤ length scratch.old) }
+    ensures { PlanDone (plan_by_name controller.now width name.now (ours buffer.old len) None) scratch.old index.old result buffer.new scratch.new index.new }
 {
     let root = (len / BLOCK) as u32;
     let added = add_root(buffer, len, controller, name);

@@ -1,4 +1,5 @@
 -- On the premises of demand 3 from nothing the call answers, and rightly: the root, where our book lacks it, is one add more. Assumes nothing.
+use Rattle.std.specs.Prelude.{Option, Some, None}
 use mathlib.Core.Path.{◌≡◌, refl, sym, ap, ◌∙◌, subst}
 use mathlib.Core.Bool.{Bool, true, false}
 use mathlib.Core.List.{List, []}
@@ -7,8 +8,6 @@ use lib.ListN.{length}
 use lib.Seq.{take-length}
 use lib.Dec.{eqb}
 use Rattle.type_book.specs.Book.{blocks, is_type, name_of}
-use Rattle.type_provider.specs.declared.Found.{Found}
-use Rattle.type_provider.specs.declared.Found.TheVariants.{At, Nothing}
 use Rattle.type_provider.specs.Find.{find}
 use Rattle.type_provider.proofs.Finds.{find-named, named-name}
 use Rattle.type_book_check.specs.declared.BookCheck.TheVariants.{Valid}
@@ -50,10 +49,10 @@ keeps c width root s v = plan-keeps c width root 18 s v
 
 -- the root is added: our book as it was, or with the definition after it, and then the rounds
 module _ (c : List ℕ) (width : ℕ) (s : Ours) (v : check_book s.buffer s.len ≡ Valid) where
-  after-root : (f : Found) → Extends s (outcome_ours (next_round (plan_from c width (blocks (book_of s)) 18) (fetch_by c lacking_root s f)))
+  after-root : (f : Option ℕ) → Extends s (outcome_ours (next_round (plan_from c width (blocks (book_of s)) 18) (fetch_by c lacking_root s f)))
   unfolding next_round fetch_by append_of outcome_ours
-  after-root Nothing = extends_same s v
-  after-root (At n) = by (eqb (append_refusal s.buffer s.len (definition_of c n)) 15) refl
+  after-root None = extends_same s v
+  after-root (Some n) = by (eqb (append_refusal s.buffer s.len (definition_of c n)) 15) refl
     where
       by : (t : Bool) → eqb (append_refusal s.buffer s.len (definition_of c n)) 15 ≡ t
           → Extends s (outcome_ours (next_round (plan_from c width (blocks (book_of s)) 18) (append_of c n s)))
@@ -64,20 +63,20 @@ module _ (c : List ℕ) (width : ℕ) (s : Ours) (v : check_book s.buffer s.len 
 
 pub plan-named-keeps : PlanNamedKeeps
 unfolding PlanNamedKeeps plan_by_name
-plan-named-keeps c width name s (At t) v = keeps c width t s v
-plan-named-keeps c width name s Nothing v = after-root c width s v (find c name)
+plan-named-keeps c width name s (Some t) v = keeps c width t s v
+plan-named-keeps c width name s None v = after-root c width s v (find c name)
 
 -- ---- the answer
 
 module _ (c : List ℕ) (width : ℕ) (name : List ℕ) (formed : is_root_name name ≡ true) where
   -- a book that has the root's name at block t, and what the rounds for t leave of it
-  answered : (t : ℕ) (y : Ours) → check_book y.buffer y.len ≡ Valid → find (book_of y) name ≡ At t
+  answered : (t : ℕ) (y : Ours) → check_book y.buffer y.len ≡ Valid → find (book_of y) name ≡ Some t
       → (a : Answered c width t name (plan_from c width t 18 y)) → NamedClosed c width name a.final
   unfolding outcome_ours
   answered t y v e a =
       let z : Ours = a.final in
       let x : Extends y z = rw a.is at (keeps c width t y v) in
-      let f : find (book_of z) name ≡ At t = rw x.grows (find-kept (book_of y) x.more (valid-book y.buffer y.len v) name t e) in
+      let f : find (book_of z) name ≡ Some t = rw x.grows (find-kept (book_of y) x.more (valid-book y.buffer y.len v) name t e) in
       record {
         at = t;
         found = f;
@@ -99,17 +98,17 @@ module _ (c : List ℕ) (width : ℕ) (name : List ℕ) (s : Ours) (sc : List �
   formed : is_root_name name ≡ true
   formed = name-formed c p.theirs-valid name root
 
-  unrefused : (f : Found) → find (book_of s) name ≡ f → named_refusal s.buffer s.len c (length c) name sc ≡ 0
+  unrefused : (f : Option ℕ) → find (book_of s) name ≡ f → named_refusal s.buffer s.len c (length c) name sc ≡ 0
   unfolding named_refusal at_given book_numbers
-  unrefused (At t) e = rw (given-found c name formed s o t e, w.valid, h) (or_next_lem 0 (or_next 0 0) refl ∙ or_next_lem 0 0 refl)
-  unrefused Nothing e = rw (given-lacks c name formed s o e, w.valid, h) (or_next_lem 0 (or_next 0 0) refl ∙ or_next_lem 0 0 refl)
+  unrefused (Some t) e = rw (given-found c name formed s o t e, w.valid, h) (or_next_lem 0 (or_next 0 0) refl ∙ or_next_lem 0 0 refl)
+  unrefused None e = rw (given-lacks c name formed s o e, w.valid, h) (or_next_lem 0 (or_next 0 0) refl ∙ or_next_lem 0 0 refl)
 
   from : (n : ℕ) → n ≡ 0 → plan_named_of n s.buffer s.len c (length c) width name ≡ plan_by_name c width name s (find (book_of s) name)
   unfolding plan_named_of
   from n e = rw (e, take-length c)
 
   -- the rounds for the root's block in book y, of our book or of the one with the root after it
-  decides : (t : ℕ) (y : Ours) → Base c y → (e : find (book_of y) name ≡ At t) (f : Found) → find (book_of s) name ≡ f
+  decides : (t : ℕ) (y : Ours) → Base c y → (e : find (book_of y) name ≡ Some t) (f : Option ℕ) → find (book_of s) name ≡ f
       → plan_by_name c width name s f ≡ plan_from c width t 18 y → NamedDecides c width name s sc
   decides t y b e f q g =
       let a : Answered c width t name (plan_from c width t 18 y) = rounds c width t name w p.defines sc h 16 y (sound-at c name y b t e) in
@@ -122,7 +121,7 @@ module _ (c : List ℕ) (width : ℕ) (name : List ℕ) (s : Ours) (sc : List �
       }
 
   -- our book lacks the root: its definition is added, and nothing refuses it
-  module _ (e : find (book_of s) name ≡ Nothing) where
+  module _ (e : find (book_of s) name ≡ None) where
     abbrev n : ℕ
     n = root.at
 
@@ -132,28 +131,28 @@ module _ (c : List ℕ) (width : ℕ) (name : List ℕ) (s : Ours) (sc : List �
     named : name_of c n ≡ name
     named = named-name c name n (find-named c name n root.found).named
 
-    lacking : find (book_of s) (name_of c n) ≡ Nothing
+    lacking : find (book_of s) (name_of c n) ≡ None
     lacking = rw named e
 
     taken : append_of c n s ≡ on (next c (add n) s)
     unfolding append_of
     taken = rw (add_none c w.valid s o n type lacking)
 
-    found : find (book_of (next c (add n) s)) name ≡ At (blocks (book_of s))
+    found : find (book_of (next c (add n) s)) name ≡ Some (blocks (book_of s))
     found =
-        let q : find (book_of (next c (add n) s)) (name_of c n) ≡ At (blocks (book_of s)) =
+        let q : find (book_of (next c (add n) s)) (name_of c n) ≡ Some (blocks (book_of s)) =
         rw (add-longer c w.valid s o n type lacking) (add-added c w.valid s o n type lacking).found in
-        subst (λ (x : List ℕ). find (book_of (next c (add n) s)) x ≡ At (blocks (book_of s))) named q
+        subst (λ (x : List ℕ). find (book_of (next c (add n) s)) x ≡ Some (blocks (book_of s))) named q
 
-    goes_on : plan_by_name c width name s Nothing ≡ plan_from c width (blocks (book_of s)) 18 (next c (add n) s)
+    goes_on : plan_by_name c width name s None ≡ plan_from c width (blocks (book_of s)) 18 (next c (add n) s)
     unfolding plan_by_name next_round fetch_by
     goes_on = rw (root.found, taken)
 
-  pub is-decided : (f : Found) → find (book_of s) name ≡ f → NamedDecides c width name s sc
+  pub is-decided : (f : Option ℕ) → find (book_of s) name ≡ f → NamedDecides c width name s sc
   unfolding plan_by_name
-  is-decided (At t) e = decides t s o e (At t) e refl
-  is-decided Nothing e =
-      decides (blocks (book_of s)) (next c (add root.at) s) (base-add c w.valid s o root.at (type e)) (found e) Nothing e (goes_on e)
+  is-decided (Some t) e = decides t s o e (Some t) e refl
+  is-decided None e =
+      decides (blocks (book_of s)) (next c (add root.at) s) (base-add c w.valid s o root.at (type e)) (found e) None e (goes_on e)
 
 pub plan-named-decides : PlanNamedDecides
 unfolding PlanNamedDecides

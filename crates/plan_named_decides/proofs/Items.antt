@@ -1,4 +1,5 @@
 -- A plan by a name is a list of asks and adds: the root's add, if our book lacks it, and then the rounds. Assumes nothing.
+use Rattle.std.specs.Prelude.{Option, Some, None}
 use mathlib.Core.Path.{◌≡◌, refl, sym, subst}
 use mathlib.Core.Bool.{Bool, true, false}
 use mathlib.Core.List.{List, [], ◌∷◌}
@@ -6,8 +7,6 @@ use Prim.Native.Nat.{ℕ}
 use native.Mathlib.Omega.{arith}
 use lib.ListN.{length}
 use Rattle.type_book.specs.Book.{blocks, is_type, name_of}
-use Rattle.type_provider.specs.declared.Found.{Found}
-use Rattle.type_provider.specs.declared.Found.TheVariants.{At, Nothing}
 use Rattle.type_provider.specs.Find.{find}
 use Rattle.type_provider.proofs.Finds.{find-named, named-name}
 use Rattle.type_book_check.specs.declared.BookCheck.TheVariants.{Valid}
@@ -42,7 +41,7 @@ rounds-made c width root s ix sc list i p q = plan-made c width root 18 s ix sc 
 
 -- what our book has stays at its block, so an ask by the block is one by the name
 named_none : (c : List ℕ) (width t : ℕ) (name : List ℕ) {s : Ours} {is : List Call} → ListedNone c width t s is → check_book s.buffer s.len ≡ Valid
-    → find (book_of s) name ≡ At t → NamedNone c width name s is
+    → find (book_of s) name ≡ Some t → NamedNone c width name s is
 named_none c width t name (demand.here h) v e = here e h
 named_none c width t name (demand.later {s} {i} {is} r) v e =
     let x : Extends s (next c i s) = extends_next c s i v in
@@ -59,12 +58,12 @@ module _ (c : List ℕ) (width : ℕ) (name : List ℕ) (s : Ours) (ix sc list :
   abbrev go : Ours → Decision
   go = plan_from c width (blocks (book_of s)) 18
 
-  has : (t : ℕ) → find (book_of s) name ≡ At t → NamedMade c width name s (plan_from c width t 18 s)
+  has : (t : ℕ) → find (book_of s) name ≡ Some t → NamedMade c width name s (plan_from c width t 18 s)
   has t e =
       let m : Made c width t s (plan_from c width t 18 s) = rounds-made c width t s ix sc list i p q in
       record { items = m.items; given = m.given; left = m.left; none = λ b z h. named_none c width t name (m.none b z h) v e }
 
-  module _ (e : find (book_of s) name ≡ Nothing) (n : ℕ) (f : find c name ≡ At n) where
+  module _ (e : find (book_of s) name ≡ None) (n : ℕ) (f : find c name ≡ Some n) where
     abbrev d : List ℕ
     d = definition_of c n
 
@@ -74,7 +73,7 @@ module _ (c : List ℕ) (width : ℕ) (name : List ℕ) (s : Ours) (ix sc list :
     named : name_of c n ≡ name
     named = named-name c name n (find-named c name n f).named
 
-    new : find (book_of s) (name_of c n) ≡ Nothing
+    new : find (book_of s) (name_of c n) ≡ None
     new = rw named e
 
     -- there is room for the root's definition: its add, and the rounds for its block
@@ -88,12 +87,12 @@ module _ (c : List ℕ) (width : ℕ) (name : List ℕ) (s : Ours) (ix sc list :
       after : Extends s (next c (add n) s)
       after = extends_next c s (add n) v
 
-      found : find (book_of (next c (add n) s)) name ≡ At (blocks (book_of s))
+      found : find (book_of (next c (add n) s)) name ≡ Some (blocks (book_of s))
       found =
-          let y : find (book_of (next c (add n) s)) (name_of c n) ≡ At (blocks (book_of s)) =
+          let y : find (book_of (next c (add n) s)) (name_of c n) ≡ Some (blocks (book_of s)) =
           rw (call_done s.buffer s.len d accepted, grows.book)
           (added (book_of s) c n (valid-book s.buffer s.len v) w type new (omega (arith, grows.few, definition_size c w n type))).found in
-          subst (λ (x : List ℕ). find (book_of (next c (add n) s)) x ≡ At (blocks (book_of s))) named y
+          subst (λ (x : List ℕ). find (book_of (next c (add n) s)) x ≡ Some (blocks (book_of s))) named y
 
       adds : NamedMade c width name s (go (next c (add n) s))
       unfolding after_calls
@@ -117,15 +116,15 @@ module _ (c : List ℕ) (width : ℕ) (name : List ℕ) (s : Ours) (ix sc list :
     fetches true r = rw (accepted r) (adds r)
     fetches false r = rw (full r) (record { items = []; given = none; left = refl; none = λ b z h. absurd (refused-apart 15 s b z h) })
 
-  lacks : find (book_of s) name ≡ Nothing → (f : Found) → find c name ≡ f → NamedMade c width name s (next_round go (fetch_by c lacking_root s f))
+  lacks : find (book_of s) name ≡ None → (f : Option ℕ) → find c name ≡ f → NamedMade c width name s (next_round go (fetch_by c lacking_root s f))
   unfolding fetch_by next_round outcome_ours after_calls
-  lacks e (At n) f = fetches e n f (has_room (length s.buffer) s.len (length (definition_of c n))) refl
-  lacks e Nothing f = record { items = []; given = none; left = refl; none = λ b z h. absurd (lacking-apart lacking_root s b z h) }
+  lacks e (Some n) f = fetches e n f (has_room (length s.buffer) s.len (length (definition_of c n))) refl
+  lacks e None f = record { items = []; given = none; left = refl; none = λ b z h. absurd (lacking-apart lacking_root s b z h) }
 
-  pub is_made : (f : Found) → find (book_of s) name ≡ f → NamedMade c width name s (plan_by_name c width name s f)
+  pub is_made : (f : Option ℕ) → find (book_of s) name ≡ f → NamedMade c width name s (plan_by_name c width name s f)
   unfolding plan_by_name
-  is_made (At t) e = has t e
-  is_made Nothing e = lacks e (find c name) refl
+  is_made (Some t) e = has t e
+  is_made None e = lacks e (find c name) refl
 
 pub plan-named-made : PlanNamedMade
 unfolding PlanNamedMade

@@ -1,7 +1,6 @@
 -- Demand 3 from nothing of the call that makes the list itself: on its premises, which let our book lack the root, `plan_save_named` is not refused,
 -- and answers "yes" exactly when a reached name resolves to a function block. Assumes nothing.
-use Rattle.std.specs.Prelude.{◌≡◌, Bool, true, ◌↔◌, List, [], ℕ, length}
-use Rattle.type_provider.specs.declared.Found.{Found}
+use Rattle.std.specs.Prelude.{◌≡◌, Bool, true, ◌↔◌, List, [], ℕ, length, Option}
 use Rattle.type_book_check.specs.declared.BookCheck.TheVariants.{Valid}
 use Rattle.type_book_check.specs.Check.{check_book}
 use Rattle.resolve_walk.specs.Scratch.{scratch_fits}
@@ -30,5 +29,5 @@ PlanNamedDecides = (c : List ℕ) (width : ℕ) (name : List ℕ) (s : Ours) (sc
 -- the claim: in every outcome, a refusal too, a valid book of ours stays one, and is the old one, or the old one with whole definitions after it;
 -- whatever the controller's book holds, and whether ours has the root's name or not
 unfoldable pub PlanNamedKeeps : Type 0
-PlanNamedKeeps = (c : List ℕ) (width : ℕ) (name : List ℕ) (s : Ours) (f : Found) → check_book s.buffer s.len ≡ Valid
+PlanNamedKeeps = (c : List ℕ) (width : ℕ) (name : List ℕ) (s : Ours) (f : Option ℕ) → check_book s.buffer s.len ≡ Valid
     → Extends s (outcome_ours (plan_by_name c width name s f))

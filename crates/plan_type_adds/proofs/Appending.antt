@@ -1,4 +1,5 @@
 -- Appending where both books were checked once: one law for each way out. Assumes nothing.
+use Rattle.std.specs.Prelude.{Option, Some, None}
 use mathlib.Core.Path.{◌≡◌, refl, sym, ap, ◌∙◌, subst}
 use mathlib.Core.Bool.{Bool, true, false, not, ◌||◌}
 use mathlib.Core.List.{List, ◌++◌}
@@ -9,8 +10,6 @@ use lib.Dec.{eqb}
 use lib.ListN.{length, get_or, take, drop, set, length-set, length-drop}
 use Rattle.type_book.specs.Book.{blocks, is_type, fields_of, entries_of, name_of}
 use Rattle.type_provider.specs.Find.{find, is_found}
-use Rattle.type_provider.specs.declared.Found.{Found}
-use Rattle.type_provider.specs.declared.Found.TheVariants.{At, Nothing}
 use Rattle.type_book_check.specs.declared.BookCheck.TheVariants.{Valid}
 use Rattle.type_book_check.specs.Check.{check_book, ValidBook}
 use Rattle.type_book_check.proofs.Valid.{valid-type, valid-size, valid-below, valid-own}
@@ -36,13 +35,13 @@ module _ (c : List ℕ) (v : ValidBook c) (n : ℕ) (t : is_type c n ≡ true) (
 
 -- ---- the call
 
-at_same : (m n : ℕ) → At m ≡ At n → m ≡ n
+at_same : (m n : ℕ) → Some m ≡ Some n → m ≡ n
 at_same m n e = cc
 
-known_of : (f : Found) (k : ℕ) → f ≡ At k → is_found f ≡ true
+known_of : (f : Option ℕ) (k : ℕ) → f ≡ Some k → is_found f ≡ true
 known_of f k e = rw e
 
-known-none : (f : Found) → f ≡ Nothing → is_found f ≡ false
+known-none : (f : Option ℕ) → f ≡ None → is_found f ≡ false
 known-none f e = rw e
 
 module _ (c : List ℕ) (w : ValidBook c) (n : ℕ) (t : is_type c n ≡ true) (buffer : List ℕ) (len : ℕ) (b : check_book buffer len ≡ Valid)
@@ -96,7 +95,7 @@ module _ (c : List ℕ) (w : ValidBook c) (n : ℕ) (t : is_type c n ≡ true) (
       grows : Grown buffer len d
       grows = grown buffer len d (sym none)
 
-      lacks : find (take len buffer) (name_of c n) ≡ Nothing
+      lacks : find (take len buffer) (name_of c n) ≡ None
       lacks = unknown (take len buffer) (name_of c n) (sym (k.is n t) ∙ sym eg ∙ z)
 
       longer : Added (take len buffer) c n (take len buffer ++ d)
@@ -110,9 +109,9 @@ module _ (c : List ℕ) (w : ValidBook c) (n : ℕ) (t : is_type c n ≡ true) (
           by true e = let o : m ≡ n = eqb-true m n e in rw o (marked-set known n in_below ∙ sym (known_of _ _ longer.found))
           by false e = marked_other known n m (eqb-false m n e) ∙ k.is m tm ∙ old (find (take len buffer) (name_of c m)) refl
             where
-              old : (f : Found) → find (take len buffer) (name_of c m) ≡ f → is_known (take len buffer) (name_of c m) ≡ is_known (take len buffer ++ d) (name_of c m)
-              old (At j) q = known_of _ j q ∙ sym (known_of _ j (longer.old (name_of c m) j q))
-              old Nothing q =
+              old : (f : Option ℕ) → find (take len buffer) (name_of c m) ≡ f → is_known (take len buffer) (name_of c m) ≡ is_known (take len buffer ++ d) (name_of c m)
+              old (Some j) q = known_of _ j q ∙ sym (known_of _ j (longer.old (name_of c m) j q))
+              old None q =
                   known-none _ q
                   ∙ sym (known-none _ (longer.other (name_of c m) q
                   (λ y. eqb-false m n e (at_same m n (sym (valid-own c w m tm) ∙ ap (find c) y ∙ valid-own c w n t)))))

@@ -1,4 +1,5 @@
 -- The marks of the types that a book knows: what each of them says, as they are made. Assumes nothing.
+use Rattle.std.specs.Prelude.{Option, Some, None}
 use mathlib.Core.Path.{◌≡◌, refl, sym, ap, ◌∙◌}
 use mathlib.Core.Bool.{Bool, true, false, not, cond, ◌||◌}
 use mathlib.Core.List.{List}
@@ -11,8 +12,6 @@ use lib.Dec.{eqb}
 use Rattle.type_book.specs.Book.{blocks, is_type, name_of, is_named}
 use Rattle.type_provider.proofs.Numbers.{found-is, found-says}
 use Rattle.type_provider.specs.Find.{searched, find_from, find, is_found}
-use Rattle.type_provider.specs.declared.Found.{Found}
-use Rattle.type_provider.specs.declared.Found.TheVariants.{At, Nothing}
 use Rattle.type_provider.proofs.Finds.{named-kind, named-name, named-own}
 use Rattle.type_index.specs.Index.{FoundBy}
 use Rattle.type_book_check.specs.Check.{ValidBook}
@@ -66,18 +65,18 @@ module _ (c : List ℕ) (v : ValidBook c) (book : List ℕ) (i : ℕ) (known : L
   pub mark-other : (t : Bool) → t ≡ is_type book i → not t ≡ true → MarkedBy c book i known known
   mark-other t e h = none (λ n k w. let z : is_type book i ≡ true = named-kind book _ i w in let y : is_type book i ≡ false = sym e ∙ not-true t h in let x : ◌≡◌ {A = ℕ} 0 1 = cc in omega arith)
 
-  module _ (ti : Bool) (eti : ti ≡ is_type book i) (hti : not ti ≡ false) (name : List ℕ) (e : name ≡ name_of book i) (r : Found) (f : FoundBy c name r) where
+  module _ (ti : Bool) (eti : ti ≡ is_type book i) (hti : not ti ≡ false) (name : List ℕ) (e : name ≡ name_of book i) (r : Option ℕ) (f : FoundBy c name r) where
     is-find : r ≡ find c (name_of book i)
     is-find = found-is _ _ (f.unique (valid-unique c v)) ∙ ap (find c) e
 
     -- a type of c that has the name of block i is the one that was found
-    own : (n : ℕ) → is_type c n ≡ true → is_named book (name_of c n) i ≡ true → r ≡ At n
+    own : (n : ℕ) → is_type c n ≡ true → is_named book (name_of c n) i ≡ true → r ≡ Some n
     own n t w = is-find ∙ ap (find c) (named-name book (name_of c n) i w) ∙ valid-own c v n t
 
-    pub mark-lacks : r ≡ Nothing → MarkedBy c book i known known
-    mark-lacks h = none (λ n t w. let z : r ≡ At n = own n t w in let x : ◌≡◌ {A = ℕ} 0 1 = cc in omega arith)
+    pub mark-lacks : r ≡ None → MarkedBy c book i known known
+    mark-lacks h = none (λ n t w. let z : r ≡ Some n = own n t w in let x : ◌≡◌ {A = ℕ} 0 1 = cc in omega arith)
 
-    module _ (n : ℕ) (h : r ≡ At n) where
+    module _ (n : ℕ) (h : r ≡ Some n) where
       found-named : is_named c (name_of book i) n ≡ true
       found-named = rw e at (f.at n (found-says _ _ h)).named
 
@@ -89,7 +88,7 @@ module _ (c : List ℕ) (v : ValidBook c) (book : List ℕ) (i : ℕ) (known : L
           record {
             long = length-set known n 1;
             is = λ m t. marked_more known n m (is_named book (name_of c m) i) (mark-below l)
-                (λ w. let z : r ≡ At m = own m t w in cc)
+                (λ w. let z : r ≡ Some m = own m t w in cc)
                 (λ q. rw (q, named-name c (name_of book i) n found-named) (named-own book i (sym eti ∙ not_false' ti hti)));
           }
         where

@@ -16,7 +16,7 @@ use type_book::block;
 use type_book::block::BLOCK;
 use type_cache::{Appended, copy, has_room};
 use type_index::{Trust, find_in};
-use type_provider::{Found, searched};
+use type_provider::searched;
 
 // The number of marks: as many as a book has blocks at most.
 pub const MARKS: usize = 65536;
@@ -42,7 +42,7 @@ fn mark_block(book: &[u8], controller: &[u8], index: &[u32], trust: Trust, known
         return;
     }
     let found = find_in(controller, index, trust, block::name(book, i));
-    let Found::At(n) = found else {
+    let Some(n) = found else {
         return;
     };
     known[n as usize] = 1;

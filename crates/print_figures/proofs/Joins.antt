@@ -1,4 +1,5 @@
 -- Laws of `Puts`: how bytes are put in several parts, and what that says of a call that prints them. Assumes nothing.
+use Rattle.std.specs.Prelude.{Option, Some, None}
 use mathlib.Core.Path.{◌≡◌, refl, sym, ap, ◌∙◌}
 use mathlib.Core.Bool.{Bool, true, false, cond}
 use mathlib.Core.List.{List, [], ◌∷◌, ◌++◌}
@@ -10,8 +11,6 @@ use lib.Seq.{drop-cons, take-nil, take_all, take-append-add, take-append-le}
 use lib.Dec.{leb}
 use borrow.Author.Tests.{leb-true, leb-false, le-leb, lt-leb}
 use Rattle.enc_utf_8.specs.Buffer.{splice, fits_in}
-use Rattle.enc_utf_8.specs.declared.Put.{Put}
-use Rattle.enc_utf_8.specs.declared.Put.TheVariants.{Next, Full}
 use Rattle.enc_utf_8.proofs.Splices.{splice-none, splice-start, length-splice, splice-both, fits_in-then, unfits_in_then, next-full, went, stored_1}
 use Rattle.print_figures.specs.Puts.{laid_after, over, Puts, ClearedEnd, Printed}
 
@@ -39,31 +38,31 @@ unfits_more (x ∷ xs) ys at room f = take-append-le (room - at) (x ∷ xs) ys (
 
 -- ---- nothing, and one byte
 
-none-by : (p : Put) (room : ℕ) → p ≡ laid_after p [] room
+none-by : (p : Option ℕ) (room : ℕ) → p ≡ laid_after p [] room
 unfolding laid_after fits_in
-none-by (Next at) room = let e : at + 0 ≡ at = omega arith in rw e
-none-by Full room = refl
+none-by (Some at) room = let e : at + 0 ≡ at = omega arith in rw e
+none-by None room = refl
 
-none_over : (p : Put) (out : List ℕ) → out ≡ over p [] out
+none_over : (p : Option ℕ) (out : List ℕ) → out ≡ over p [] out
 unfolding over
-none_over (Next at) out = rw (take-nil (length out - at)) (sym (splice-none out at))
-none_over Full out = refl
+none_over (Some at) out = rw (take-nil (length out - at)) (sym (splice-none out at))
+none_over None out = refl
 
-pub puts_none : {out : List ℕ} {p : Put} → Puts [] out p p out
+pub puts_none : {out : List ℕ} {p : Option ℕ} → Puts [] out p p out
 puts_none {out} {p} = record { answer = none-by p (length out); buffer = none_over p out }
 
-pub puts_full : {xs out : List ℕ} {p : Put} → p ≡ Full → Puts xs out p Full out
+pub puts_full : {xs out : List ℕ} {p : Option ℕ} → p ≡ None → Puts xs out p None out
 unfolding laid_after over
 puts_full {xs} {out} {p} e = record { answer = rw e; buffer = rw e }
 
-module _ (b : ℕ) (out : List ℕ) (p : Put) (at : ℕ) (e : p ≡ Next at) where
-  pub byte-over : length out ≤ at → Puts (b ∷ []) out p Full out
+module _ (b : ℕ) (out : List ℕ) (p : Option ℕ) (at : ℕ) (e : p ≡ Some at) where
+  pub byte-over : length out ≤ at → Puts (b ∷ []) out p None out
   unfolding laid_after over fits_in
   byte-over h =
       let z : length out - at ≡ 0 = omega arith in
       record { answer = rw (e, lt-leb (at + 1) (length out) (omega arith)); buffer = rw (e, z) (sym (splice-none out at)) }
 
-  pub byte_put : at < length out → Puts (b ∷ []) out p (Next (at + 1)) (set out at b)
+  pub byte_put : at < length out → Puts (b ∷ []) out p (Some (at + 1)) (set out at b)
   unfolding laid_after over
   byte_put h =
       let w = went (stored_1 out at b (omega arith)) refl in
@@ -71,9 +70,9 @@ module _ (b : ℕ) (out : List ℕ) (p : Put) (at : ℕ) (e : p ≡ Next at) whe
 
 -- ---- two parts
 
-module _ (xs ys out out₁ out₂ : List ℕ) (r : Put) where
-  then_by : (at : ℕ) (q : Put) (f : Bool) → fits_in xs at (length out) ≡ f → q ≡ cond f (Next (at + length xs)) Full → out₁ ≡ splice out at (take (length out - at) xs)
-      → Puts ys out₁ q r out₂ → Puts (xs ++ ys) out (Next at) r out₂
+module _ (xs ys out out₁ out₂ : List ℕ) (r : Option ℕ) where
+  then_by : (at : ℕ) (q : Option ℕ) (f : Bool) → fits_in xs at (length out) ≡ f → q ≡ cond f (Some (at + length xs)) None → out₁ ≡ splice out at (take (length out - at) xs)
+      → Puts ys out₁ q r out₂ → Puts (xs ++ ys) out (Some at) r out₂
   unfolding laid_after over
   then_by at q true f e w b =
       let v : out₁ ≡ splice out at xs = w ∙ ap (splice out at) (fits_all xs at (length out) f) in
@@ -84,7 +83,7 @@ module _ (xs ys out out₁ out₂ : List ℕ) (r : Put) where
         answer = b.answer ∙ rw (e, l, ← fits_in-then xs ys (length out) at f, k);
         buffer =
             b.buffer
-            ∙ ap (λ (p : Put). over p ys out₁) e
+            ∙ ap (λ (p : Option ℕ). over p ys out₁) e
             ∙ ap (λ (n : ℕ). splice out₁ (at + length xs) (take (n - (at + length xs)) ys)) l
             ∙ ap (λ (o : List ℕ). splice o (at + length xs) rest) v
             ∙ splice-both out xs rest at f
@@ -93,44 +92,44 @@ module _ (xs ys out out₁ out₂ : List ℕ) (r : Put) where
   then_by at q false f e w b =
       record {
         answer = b.answer ∙ rw (e, unfits_in_then xs ys (length out) at f);
-        buffer = b.buffer ∙ ap (λ (p : Put). over p ys out₁) e ∙ w ∙ ap (splice out at) (sym (unfits_more xs ys at (length out) f));
+        buffer = b.buffer ∙ ap (λ (p : Option ℕ). over p ys out₁) e ∙ w ∙ ap (splice out at) (sym (unfits_more xs ys at (length out) f));
       }
 
-  chain_by : (p q : Put) → Puts xs out p q out₁ → Puts ys out₁ q r out₂ → Puts (xs ++ ys) out p r out₂
+  chain_by : (p q : Option ℕ) → Puts xs out p q out₁ → Puts ys out₁ q r out₂ → Puts (xs ++ ys) out p r out₂
   unfolding laid_after over
-  chain_by (Next at) q a b = then_by at q (fits_in xs at (length out)) refl a.answer a.buffer b
-  chain_by Full q a b = record { answer = b.answer ∙ rw a.answer; buffer = b.buffer ∙ ap (λ (p : Put). over p ys out₁) a.answer ∙ a.buffer }
+  chain_by (Some at) q a b = then_by at q (fits_in xs at (length out)) refl a.answer a.buffer b
+  chain_by None q a b = record { answer = b.answer ∙ rw a.answer; buffer = b.buffer ∙ ap (λ (p : Option ℕ). over p ys out₁) a.answer ∙ a.buffer }
 
 -- the first, then the second
-pub chain : {xs ys out out₁ out₂ : List ℕ} {p q r : Put} → Puts xs out p q out₁ → Puts ys out₁ q r out₂ → Puts (xs ++ ys) out p r out₂
+pub chain : {xs ys out out₁ out₂ : List ℕ} {p q r : Option ℕ} → Puts xs out p q out₁ → Puts ys out₁ q r out₂ → Puts (xs ++ ys) out p r out₂
 chain {xs} {ys} {out} {out₁} {out₂} {p} {q} {r} a b = chain_by xs ys out out₁ out₂ r p q a b
 
 -- three in a row
-pub chain_3 : {xs ys zs out out₁ out₂ out₃ : List ℕ} {p q r s : Put} → Puts xs out p q out₁ → Puts ys out₁ q r out₂ → Puts zs out₂ r s out₃ → Puts (xs ++ ys ++ zs) out p s out₃
+pub chain_3 : {xs ys zs out out₁ out₂ out₃ : List ℕ} {p q r s : Option ℕ} → Puts xs out p q out₁ → Puts ys out₁ q r out₂ → Puts zs out₂ r s out₃ → Puts (xs ++ ys ++ zs) out p s out₃
 chain_3 a b c = chain (chain a b) c
 
 -- the same bytes under another name
-pub puts_as : {xs ys out out' : List ℕ} {p r : Put} → xs ≡ ys → Puts ys out p r out' → Puts xs out p r out'
+pub puts_as : {xs ys out out' : List ℕ} {p r : Option ℕ} → xs ≡ ys → Puts ys out p r out' → Puts xs out p r out'
 puts_as e h = rw e h
 
 -- ---- a loop: whatever puts `ys` from here on, puts `xs` from the loop's beginning on
 
-pub record Rest (xs out : List ℕ) (p : Put) (ys out₁ : List ℕ) (p₁ : Put) : Type 0 where
-  pub finish : (r : Put) (out₂ : List ℕ) → Puts ys out₁ p₁ r out₂ → Puts xs out p r out₂
+pub record Rest (xs out : List ℕ) (p : Option ℕ) (ys out₁ : List ℕ) (p₁ : Option ℕ) : Type 0 where
+  pub finish : (r : Option ℕ) (out₂ : List ℕ) → Puts ys out₁ p₁ r out₂ → Puts xs out p r out₂
 
-pub rest_all : {xs ys out : List ℕ} {p : Put} → xs ≡ ys → Rest xs out p ys out p
+pub rest_all : {xs ys out : List ℕ} {p : Option ℕ} → xs ≡ ys → Rest xs out p ys out p
 rest_all e = record { finish = λ r out₂ h. puts_as e h }
 
-pub rest-next : {xs ys us vs out out₁ out₂ : List ℕ} {p q r : Put} → Rest xs out p ys out₁ q → ys ≡ us ++ vs → Puts us out₁ q r out₂ → Rest xs out p vs out₂ r
+pub rest-next : {xs ys us vs out out₁ out₂ : List ℕ} {p q r : Option ℕ} → Rest xs out p ys out₁ q → ys ≡ us ++ vs → Puts us out₁ q r out₂ → Rest xs out p vs out₂ r
 rest-next q e a = record { finish = λ r out₃ h. q.finish r out₃ (puts_as e (chain a h)) }
 
-pub rest_end : {xs ys out out₁ : List ℕ} {p q : Put} → Rest xs out p ys out₁ q → ys ≡ [] → Puts xs out p q out₁
+pub rest_end : {xs ys out out₁ : List ℕ} {p q : Option ℕ} → Rest xs out p ys out₁ q → ys ≡ [] → Puts xs out p q out₁
 rest_end {out₁ = out₁} {q = q} h e = h.finish q out₁ (puts_as e puts_none)
 
 -- ---- some bytes as they are
 
-module _ (bytes out₀ : List ℕ) (p₀ : Put) (i : ℕ) (out : List ℕ) (p : Put) (inv : Rest bytes out₀ p₀ (drop i bytes) out p) where
-  pub bytes-again : {out' : List ℕ} {r : Put} → i < length bytes → Puts (get_or bytes i 0 ∷ []) out p r out' → Rest bytes out₀ p₀ (drop (i + 1) bytes) out' r
+module _ (bytes out₀ : List ℕ) (p₀ : Option ℕ) (i : ℕ) (out : List ℕ) (p : Option ℕ) (inv : Rest bytes out₀ p₀ (drop i bytes) out p) where
+  pub bytes-again : {out' : List ℕ} {r : Option ℕ} → i < length bytes → Puts (get_or bytes i 0 ∷ []) out p r out' → Rest bytes out₀ p₀ (drop (i + 1) bytes) out' r
   bytes-again h a = rest-next inv (rw add-one (drop-cons bytes i 0 h)) a
 
   pub bytes-end : length bytes ≤ i → Puts bytes out₀ p₀ p out
@@ -138,10 +137,10 @@ module _ (bytes out₀ : List ℕ) (p₀ : Put) (i : ℕ) (out : List ℕ) (p : 
 
 -- ---- after the last byte
 
-pub ended-next : {p : Put} {out : List ℕ} (n : ℕ) → p ≡ Next n → ClearedEnd p out (Next n) out
+pub ended-next : {p : Option ℕ} {out : List ℕ} (n : ℕ) → p ≡ Some n → ClearedEnd p out (Some n) out
 ended-next n e = record { answer = sym e; on = λ k q. refl; off = λ q. next-full (sym e ∙ q) }
 
-pub ended-full : {p : Put} {out out' : List ℕ} → p ≡ Full → out' ≡ replicate (length out) 0 → ClearedEnd p out Full out'
+pub ended-full : {p : Option ℕ} {out out' : List ℕ} → p ≡ None → out' ≡ replicate (length out) 0 → ClearedEnd p out None out'
 ended-full e h = record { answer = sym e; on = λ k q. next-full (sym q ∙ e); off = λ q. h }
 
 fits-start : (xs : List ℕ) (room : ℕ) → fits_in xs 0 room ≡ leb (length xs) room
@@ -149,8 +148,8 @@ unfolding fits_in
 fits-start [] room = sym (le-leb 0 room (omega arith))
 fits-start (x ∷ xs) room = let e : 0 + length (x ∷ xs) ≡ length (x ∷ xs) = omega arith in rw e
 
-module _ (xs out out₁ out₂ : List ℕ) (q r : Put) (b : ClearedEnd q out₁ r out₂) where
-  whole_by : (f : Bool) → fits_in xs 0 (length out) ≡ f → q ≡ cond f (Next (0 + length xs)) Full → out₁ ≡ splice out 0 (take (length out - 0) xs)
+module _ (xs out out₁ out₂ : List ℕ) (q r : Option ℕ) (b : ClearedEnd q out₁ r out₂) where
+  whole_by : (f : Bool) → fits_in xs 0 (length out) ≡ f → q ≡ cond f (Some (0 + length xs)) None → out₁ ≡ splice out 0 (take (length out - 0) xs)
       → length out₁ ≡ length out → Printed xs out r out₂
   whole_by true f e w l =
       let k : 0 + length xs ≡ length xs = omega arith in
@@ -161,6 +160,6 @@ module _ (xs out out₁ out₂ : List ℕ) (q r : Put) (b : ClearedEnd q out₁ 
       record { answer = b.answer ∙ e ∙ rw g; buffer = b.off e ∙ rw (g, l) }
 
 -- the whole, from the buffer's start on
-pub printed : (xs : List ℕ) {out out₁ out₂ : List ℕ} {q r : Put} → Puts xs out (Next 0) q out₁ → length out₁ ≡ length out → ClearedEnd q out₁ r out₂ → Printed xs out r out₂
+pub printed : (xs : List ℕ) {out out₁ out₂ : List ℕ} {q r : Option ℕ} → Puts xs out (Some 0) q out₁ → length out₁ ≡ length out → ClearedEnd q out₁ r out₂ → Printed xs out r out₂
 unfolding laid_after over
 printed xs {out} {out₁} {out₂} {q} {r} a l b = whole_by xs out out₁ out₂ q r b (fits_in xs 0 (length out)) refl a.answer a.buffer l

@@ -4,10 +4,9 @@ ghost use Rattle.print_figures.specs.Puts.{Puts};
 ghost use Rattle.print_figures.specs.Figures.{signed};
 
 use crate::put::put_byte;
-use enc_utf_8::Put;
 
 // A number in decimal, the highest digit first.
-pub fn put_decimal(p: Put, n: u64, out: &mut [u8]) -> Put
+pub fn put_decimal(p: Option<usize>, n: u64, out: &mut [u8]) -> Option<usize>
     ensures { Puts (decimal n) out.old p result out.new }
 {
     if n < 10 {
@@ -18,7 +17,7 @@ pub fn put_decimal(p: Put, n: u64, out: &mut [u8]) -> Put
 }
 
 // A number of 64 bits in two's complement, in decimal with its sign.
-pub fn put_signed(p: Put, n: u64, out: &mut [u8]) -> Put
+pub fn put_signed(p: Option<usize>, n: u64, out: &mut [u8]) -> Option<usize>
     ensures { Puts (signed n) out.old p result out.new }
 {
     if n < 0x8000_0000_0000_0000 {

@@ -4,7 +4,6 @@ ghost use Rattle.print_figures.specs.Puts.{Puts};
 ghost use Rattle.print_figures.specs.Figures.{glyph, hex, hex_text};
 
 use crate::put::put_byte;
-use enc_utf_8::Put;
 
 // A hexadecimal digit, a capital above 9.
 fn digit(d: u64) -> u8
@@ -18,7 +17,7 @@ fn digit(d: u64) -> u8
 }
 
 // The last k hexadecimal digits of a number, the highest first.
-pub fn put_hex(p: Put, k: u8, n: u64, out: &mut [u8]) -> Put
+pub fn put_hex(p: Option<usize>, k: u8, n: u64, out: &mut [u8]) -> Option<usize>
     ensures { Puts (hex k n) out.old p result out.new }
 {
     if k == 0 {
@@ -29,7 +28,7 @@ pub fn put_hex(p: Put, k: u8, n: u64, out: &mut [u8]) -> Put
 }
 
 // Two hexadecimal digits for each byte.
-pub fn put_hex_text(p: Put, text: &[u8], out: &mut [u8]) -> Put
+pub fn put_hex_text(p: Option<usize>, text: &[u8], out: &mut [u8]) -> Option<usize>
     ensures { Puts (hex_text text.now) out.old p result out.new }
 {
     let mut next = p;

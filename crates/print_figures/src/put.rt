@@ -3,27 +3,26 @@
 ghost use Rattle.std.specs.Prelude.{[], ◌∷◌};
 ghost use Rattle.print_figures.specs.Puts.{Puts, ClearedEnd};
 
-use enc_utf_8::Put;
 use enc_zeros::clear_bytes;
 
 // One byte.
-pub fn put_byte(p: Put, byte: u8, out: &mut [u8]) -> Put
+pub fn put_byte(p: Option<usize>, byte: u8, out: &mut [u8]) -> Option<usize>
     ensures { Puts (byte ∷ []) out.old p result out.new }
 {
     match p {
-        Put::Next(at) => {
+        Some(at) => {
             if out.len() <= at {
-                return Put::Full;
+                return None;
             }
             out[at] = byte;
-            Put::Next(at + 1)
+            Some(at + 1)
         }
-        Put::Full => Put::Full,
+        None => None,
     }
 }
 
 // Some bytes as they are.
-pub fn put_bytes(p: Put, bytes: &[u8], out: &mut [u8]) -> Put
+pub fn put_bytes(p: Option<usize>, bytes: &[u8], out: &mut [u8]) -> Option<usize>
     ensures { Puts bytes.now out.old p result out.new }
 {
     let mut next = p;
@@ -34,14 +33,14 @@ pub fn put_bytes(p: Put, bytes: &[u8], out: &mut [u8]) -> Put
 }
 
 // The answer after the last byte: where not all fit, the buffer is all zeros.
-pub fn finish(p: Put, out: &mut [u8]) -> Put
+pub fn finish(p: Option<usize>, out: &mut [u8]) -> Option<usize>
     ensures { ClearedEnd p out.old result out.new }
 {
     match p {
-        Put::Next(n) => Put::Next(n),
-        Put::Full => {
+        Some(n) => Some(n),
+        None => {
             clear_bytes(out);
-            Put::Full
+            None
         }
     }
 }

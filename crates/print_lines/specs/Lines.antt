@@ -1,16 +1,15 @@
 -- The lines that a walk prints, as bytes (document 01, "Program `adswalk`"). Assumes nothing.
-use Rattle.std.specs.Prelude.{List, [], ◌∷◌, ◌++◌, ℕ, zero, suc, ◌+◌}
+use Rattle.std.specs.Prelude.{List, [], ◌∷◌, ◌++◌, ℕ, zero, suc, ◌+◌, Option, Some, None}
 use Rattle.type_book.specs.Book.{name_of}
 use Rattle.tape.specs.declared.record.Record.{Record}
-use Rattle.tape.specs.declared.cursor.NextRecord.{NextRecord}
-use Rattle.tape.specs.declared.cursor.NextRecord.TheVariants as step
 use Rattle.tape.specs.Record.{step_at}
 use Rattle.print_record_line.specs.Line.{counted_line, line_of}
+use Rattle.tape.specs.declared.cursor.Cursor.{Cursor}
 
 -- a record before others, or the end
-unfoldable pub before : NextRecord → List Record → List Record
-before (step.Record r next) rest = r ∷ rest
-before step.End rest = []
+unfoldable pub before : Option (Record × Cursor) → List Record → List Record
+before (Some (r, next)) rest = r ∷ rest
+before None rest = []
 
 -- the first n records of the tape from a place on, or as many as it has
 unfoldable pub records_at : List ℕ → ℕ → ℕ → List Record

@@ -1,11 +1,11 @@
 -- The line of a record, at each exit of the functions that put it. Assumes nothing.
+use Rattle.std.specs.Prelude.{Option}
 use mathlib.Core.Path.{◌≡◌, refl}
 use mathlib.Core.List.{List, [], ◌∷◌}
 use Prim.Native.Nat.{ℕ, ◌*◌}
 use native.Mathlib.Omega.{arith}
 use lib.ListN.{length}
 use borrow.Author.Tests.{eq-eqb, ne_eqb}
-use Rattle.enc_utf_8.specs.declared.Put.{Put}
 use Rattle.enc_windows_1252.specs.Text.{decimal}
 use Rattle.tape.specs.declared.record.Record.{Record}
 use Rattle.tape.specs.Text.{record_text}
@@ -16,7 +16,7 @@ use Rattle.print_record_line.specs.Line.{counted_line, named_line, sized_start, 
 
 -- ---- the forms
 
-module _ {out out₁ out₂ out₃ : List ℕ} {p q r s : Put} where
+module _ {out out₁ out₂ out₃ : List ℕ} {p q r s : Option ℕ} where
   pub counted_put : (word : List ℕ) (n : ℕ) → Puts word out p q out₁ → Puts (decimal n) out₁ q r out₂ → Puts (0x0a ∷ []) out₂ r s out₃ → Puts (counted_line word n) out p s out₃
   unfolding counted_line
   counted_put word n a b c = chain_3 a b c
@@ -41,19 +41,19 @@ module _ {out out₁ out₂ out₃ : List ℕ} {p q r s : Put} where
   unfolding real_line
   real_put word k n a b c = chain_3 a b c
 
-  pub text_put : (w : ℕ) (text : List ℕ) {out₄ : List ℕ} {t : Put} → (length text ≡ 0 → ⊥) → Puts (text_word w) out p q out₁ → Puts (0x20 ∷ []) out₁ q r out₂ → Puts (hex_text text) out₂ r s out₃ → Puts (0x0a ∷ []) out₃ s t out₄ → Puts (text_line w text) out p t out₄
+  pub text_put : (w : ℕ) (text : List ℕ) {out₄ : List ℕ} {t : Option ℕ} → (length text ≡ 0 → ⊥) → Puts (text_word w) out p q out₁ → Puts (0x20 ∷ []) out₁ q r out₂ → Puts (hex_text text) out₂ r s out₃ → Puts (0x0a ∷ []) out₃ s t out₄ → Puts (text_line w text) out p t out₄
   unfolding text_line
   text_put w [] h a b c d = absurd (h refl)
   text_put w (x ∷ xs) h a b c d = chain_3 (chain a b) c d
 
-pub text-alone : (w : ℕ) (text : List ℕ) {out out₁ out₂ : List ℕ} {p q r : Put} → length text ≡ 0 → Puts (text_word w) out p q out₁ → Puts (0x0a ∷ []) out₁ q r out₂ → Puts (text_line w text) out p r out₂
+pub text-alone : (w : ℕ) (text : List ℕ) {out out₁ out₂ : List ℕ} {p q r : Option ℕ} → length text ≡ 0 → Puts (text_word w) out p q out₁ → Puts (0x0a ∷ []) out₁ q r out₂ → Puts (text_line w text) out p r out₂
 unfolding text_line
 text-alone w [] e a b = chain a b
 text-alone w (x ∷ xs) e a b = absurd (omega arith)
 
 -- ---- the word before a text
 
-module _ (w : ℕ) {out out' : List ℕ} {p q : Put} where
+module _ (w : ℕ) {out out' : List ℕ} {p q : Option ℕ} where
   pub word_clipped : w ≡ 0 → Puts (0x63 ∷ 0x6c ∷ 0x69 ∷ 0x70 ∷ 0x70 ∷ 0x65 ∷ 0x64 ∷ []) out p q out' → Puts (text_word w) out p q out'
   unfolding text_word
   word_clipped e a = rw (eq-eqb w 0 e) a
@@ -64,7 +64,7 @@ module _ (w : ℕ) {out out' : List ℕ} {p q : Put} where
 
 -- ---- the line of a record, kind by kind
 
-module _ (r : Record) {out out' : List ℕ} {p q : Put} where
+module _ (r : Record) {out out' : List ℕ} {p q : Option ℕ} where
   pub bool_line : r.kind ≡ 6 → Puts (counted_line (0x62 ∷ 0x6f ∷ 0x6f ∷ 0x6c ∷ 0x20 ∷ []) r.b) out p q out' → Puts (number_line r) out p q out'
   unfolding number_line
   bool_line e a = rw e a
@@ -85,11 +85,11 @@ module _ (r : Record) {out out' : List ℕ} {p q : Put} where
   unfolding number_line
   double_line e a = rw e a
 
-pub no_line : (r : Record) {out : List ℕ} {p : Put} → (r.kind ≡ 6 → ⊥) → (r.kind ≡ 7 → ⊥) → (r.kind ≡ 8 → ⊥) → (r.kind ≡ 9 → ⊥) → (r.kind ≡ 10 → ⊥) → Puts (number_line r) out p p out
+pub no_line : (r : Record) {out : List ℕ} {p : Option ℕ} → (r.kind ≡ 6 → ⊥) → (r.kind ≡ 7 → ⊥) → (r.kind ≡ 8 → ⊥) → (r.kind ≡ 9 → ⊥) → (r.kind ≡ 10 → ⊥) → Puts (number_line r) out p p out
 unfolding number_line
 no_line r a b c d e = rw (ne_eqb r.kind 6 a, ne_eqb r.kind 7 b, ne_eqb r.kind 8 c, ne_eqb r.kind 9 d, ne_eqb r.kind 10 e) puts_none
 
-module _ (book text : List ℕ) (r : Record) {out out' : List ℕ} {p q : Put} where
+module _ (book text : List ℕ) (r : Record) {out out' : List ℕ} {p q : Option ℕ} where
   pub array_line : r.kind ≡ 1 → Puts (counted_line (0x61 ∷ 0x72 ∷ 0x72 ∷ 0x61 ∷ 0x79 ∷ 0x20 ∷ []) r.a) out p q out' → Puts (line_of book text r) out p q out'
   unfolding line_of
   array_line e a = rw e a

@@ -4,7 +4,6 @@
 ghost use Rattle.print_figures.specs.Puts.{Puts};
 ghost use Rattle.print_record_line.specs.Line.{counted_line, named_line, sized_start, int_line, nat_line, real_line, text_word, text_line, number_line, line_of};
 
-use enc_utf_8::Put;
 use print_figures::decimal::{put_decimal, put_signed};
 use print_figures::hexadecimal::{put_hex, put_hex_text};
 use print_figures::put::{put_byte, put_bytes};
@@ -15,7 +14,7 @@ use tape::record::{
 use tape::text::record_text;
 
 // A word with its blank, and a number.
-pub fn counted(p: Put, word: &[u8], n: u64, out: &mut [u8]) -> Put
+pub fn counted(p: Option<usize>, word: &[u8], n: u64, out: &mut [u8]) -> Option<usize>
     ensures { Puts (counted_line word.now n) out.old p result out.new }
 {
     let a = put_bytes(p, word, out);
@@ -24,7 +23,7 @@ pub fn counted(p: Put, word: &[u8], n: u64, out: &mut [u8]) -> Put
 }
 
 // A word with its blank, and a name.
-fn named(p: Put, word: &[u8], name: &[u8], out: &mut [u8]) -> Put
+fn named(p: Option<usize>, word: &[u8], name: &[u8], out: &mut [u8]) -> Option<usize>
     ensures { Puts (named_line word.now name.now) out.old p result out.new }
 {
     let a = put_bytes(p, word, out);
@@ -33,7 +32,7 @@ fn named(p: Put, word: &[u8], name: &[u8], out: &mut [u8]) -> Put
 }
 
 // What an integer's line begins with: a word with its blank, the width in bits, a blank.
-fn sized(p: Put, word: &[u8], width: u8, out: &mut [u8]) -> Put
+fn sized(p: Option<usize>, word: &[u8], width: u8, out: &mut [u8]) -> Option<usize>
     ensures { Puts (sized_start word.now width) out.old p result out.new }
 {
     let a = put_bytes(p, word, out);
@@ -42,7 +41,7 @@ fn sized(p: Put, word: &[u8], width: u8, out: &mut [u8]) -> Put
 }
 
 // A signed integer: its width in bits and its value.
-fn int_line(p: Put, width: u8, n: u64, out: &mut [u8]) -> Put
+fn int_line(p: Option<usize>, width: u8, n: u64, out: &mut [u8]) -> Option<usize>
     ensures { Puts (int_line width n) out.old p result out.new }
 {
     let a = sized(p, b"int ", width, out);
@@ -51,7 +50,7 @@ fn int_line(p: Put, width: u8, n: u64, out: &mut [u8]) -> Put
 }
 
 // An integer without a sign: its width in bits and its value.
-fn nat_line(p: Put, width: u8, n: u64, out: &mut [u8]) -> Put
+fn nat_line(p: Option<usize>, width: u8, n: u64, out: &mut [u8]) -> Option<usize>
     ensures { Puts (nat_line width n) out.old p result out.new }
 {
     let a = sized(p, b"nat ", width, out);
@@ -60,7 +59,7 @@ fn nat_line(p: Put, width: u8, n: u64, out: &mut [u8]) -> Put
 }
 
 // A real's bits, all their k hexadecimal digits.
-fn real_line(p: Put, word: &[u8], k: u8, n: u64, out: &mut [u8]) -> Put
+fn real_line(p: Option<usize>, word: &[u8], k: u8, n: u64, out: &mut [u8]) -> Option<usize>
     ensures { Puts (real_line word.now k n) out.old p result out.new }
 {
     let a = put_bytes(p, word, out);
@@ -69,7 +68,7 @@ fn real_line(p: Put, word: &[u8], k: u8, n: u64, out: &mut [u8]) -> Put
 }
 
 // The word before a text: byte 1 of its record says whether it was ended.
-fn text_word(p: Put, ended: u8, out: &mut [u8]) -> Put
+fn text_word(p: Option<usize>, ended: u8, out: &mut [u8]) -> Option<usize>
     ensures { Puts (text_word ended) out.old p result out.new }
 {
     if ended == 0 {
@@ -79,7 +78,7 @@ fn text_word(p: Put, ended: u8, out: &mut [u8]) -> Put
 }
 
 // A text's word and its bytes; the empty text has no blank after its word.
-fn text_line(p: Put, ended: u8, text: &[u8], out: &mut [u8]) -> Put
+fn text_line(p: Option<usize>, ended: u8, text: &[u8], out: &mut [u8]) -> Option<usize>
     ensures { Puts (text_line ended text.now) out.old p result out.new }
 {
     let a = text_word(p, ended, out);
@@ -92,7 +91,7 @@ fn text_line(p: Put, ended: u8, text: &[u8], out: &mut [u8]) -> Put
 }
 
 // The line of a bool, an integer or a real; another kind has none.
-fn number_line(p: Put, r: Record, out: &mut [u8]) -> Put
+fn number_line(p: Option<usize>, r: Record, out: &mut [u8]) -> Option<usize>
     ensures { Puts (number_line r) out.old p result out.new }
 {
     let kind = r.kind;
@@ -107,7 +106,13 @@ fn number_line(p: Put, r: Record, out: &mut [u8]) -> Put
 }
 
 // The line of a record; a kind that no record has gives none.
-pub fn line<'a>(p: Put, book: &'a [u8], text: &'a [u8], r: Record, out: &mut [u8]) -> Put
+pub fn line<'a>(
+    p: Option<usize>,
+    book: &'a [u8],
+    text: &'a [u8],
+    r: Record,
+    out: &mut [u8],
+) -> Option<usize>
     ensures { Puts (line_of book.now text.now r) out.old p result out.new }
 {
     let kind = r.kind;

@@ -1,4 +1,5 @@
 -- Laws of plans: one field, its entry, the loop over the fields. Assumes nothing.
+use Rattle.std.specs.Prelude.{Option, Some, None}
 use mathlib.Core.Path.{◌≡◌, refl, sym, ap, ◌∙◌, subst}
 use mathlib.Core.Bool.{Bool, true, false}
 use mathlib.Core.List.{List, []}
@@ -12,8 +13,6 @@ use mir.Syntax.{w32, w64}
 use mir.Val.{Fits}
 use Rattle.type_book.specs.Book.{is_type, offset_of, size_of, fields_of, type_name_of}
 use Rattle.type_provider.specs.Find.{find}
-use Rattle.type_provider.specs.declared.Found.{Found}
-use Rattle.type_provider.specs.declared.Found.TheVariants.{At, Nothing}
 use Rattle.type_category.specs.declared.type_category.AdsTypeCategory.{AdsTypeCategory}
 use Rattle.type_category.specs.Category.{category_of}
 use Rattle.type_category.specs.Number.{category_number, category_at}
@@ -53,10 +52,10 @@ module _ (book : List ℕ) (width f : ℕ) (x : ResolvedField) where
   parts_of_lem n (resolved.NotFound c) e = absurd (let z : ◌≡◌ {A = ℕ} 0 1 = cc in omega arith)
   parts_of_lem n resolved.TooLong e = absurd (let z : ◌≡◌ {A = ℕ} 0 1 = cc in omega arith)
 
-  parts-found : (u : Found) → field_found book width f u ≡ answer.Field x → Parts book f x
+  parts-found : (u : Option ℕ) → field_found book width f u ≡ answer.Field x → Parts book f x
   unfolding field_found
-  parts-found (At n) e = parts_of_lem n (resolve_alias book width n) e
-  parts-found Nothing e = absurd (let z : ◌≡◌ {A = ℕ} 0 1 = cc in omega arith)
+  parts-found (Some n) e = parts_of_lem n (resolve_alias book width n) e
+  parts-found None e = absurd (let z : ◌≡◌ {A = ℕ} 0 1 = cc in omega arith)
 
   pub parts : resolve_field book width f ≡ answer.Field x → Parts book f x
   unfolding resolve_field
@@ -72,10 +71,10 @@ module _ (book : List ℕ) (width f : ℕ) (x : ResolvedField) where
   resolves_of n (resolved.NotFound c) q e = absurd (let z : ◌≡◌ {A = ℕ} 0 1 = cc in omega arith)
   resolves_of n resolved.TooLong q e = absurd (let z : ◌≡◌ {A = ℕ} 0 1 = cc in omega arith)
 
-  resolves-found : (u : Found) → field_found book width f u ≡ answer.Field x → resolve_alias book width x.named ≡ resolved.Base x.resolved
+  resolves-found : (u : Option ℕ) → field_found book width f u ≡ answer.Field x → resolve_alias book width x.named ≡ resolved.Base x.resolved
   unfolding field_found
-  resolves-found (At n) e = resolves_of n (resolve_alias book width n) refl e
-  resolves-found Nothing e = absurd (let z : ◌≡◌ {A = ℕ} 0 1 = cc in omega arith)
+  resolves-found (Some n) e = resolves_of n (resolve_alias book width n) refl e
+  resolves-found None e = absurd (let z : ◌≡◌ {A = ℕ} 0 1 = cc in omega arith)
 
   -- what a field's type was named leads to what it resolves to
   resolves : resolve_field book width f ≡ answer.Field x → resolve_alias book width x.named ≡ resolved.Base x.resolved
@@ -101,7 +100,7 @@ field-only {book} {width} {f} x h = record {
 }
 
 -- by what the named type resolves to
-module _ (book : List ℕ) (width f n : ℕ) (w : find book (type_name_of book f) ≡ At n) (r : Resolved) (q : ResolvedIs book (resolve_alias book width n) r) where
+module _ (book : List ℕ) (width f n : ℕ) (w : find book (type_name_of book f) ≡ Some n) (r : Resolved) (q : ResolvedIs book (resolve_alias book width n) r) where
   at : resolve_field book width f ≡ field_of book f n r
   at = field_at book width f n w ∙ ap (field_of book f n) (sym (resolved-by _ _ q.is))
 
@@ -138,11 +137,11 @@ module _ (book : List ℕ) (width f n : ℕ) (w : find book (type_name_of book f
       }
 
 -- the named type is a type block
-pub alias-typed : (book : List ℕ) (f n : ℕ) → find book (type_name_of book f) ≡ At n → is_type book n ≡ true
+pub alias-typed : (book : List ℕ) (f n : ℕ) → find book (type_name_of book f) ≡ Some n → is_type book n ≡ true
 alias-typed book f n w = found_type book (type_name_of book f) n w
 
 -- a type that is no alias is what it resolves to
-pub named-plain : (book : List ℕ) (width f n : ℕ) → find book (type_name_of book f) ≡ At n → (o s : ℕ) (c : AdsTypeCategory) (b : Bool) → c ≡ category_of book width n → b ≡ goes_on false c → b ≡ false → o ≡ offset_of book f → s ≡ size_of book f
+pub named-plain : (book : List ℕ) (width f n : ℕ) → find book (type_name_of book f) ≡ Some n → (o s : ℕ) (c : AdsTypeCategory) (b : Bool) → c ≡ category_of book width n → b ≡ goes_on false c → b ≡ false → o ≡ offset_of book f → s ≡ size_of book f
     → PlannedFieldIs book width f (planned.Field (record { offset = o; size = s; named = n; resolved = n; category = c }))
 unfolding is_followed
 named-plain book width f n w o s c b k eb z eo es =
@@ -156,12 +155,12 @@ named-plain book width f n w o s c b k eb z eo es =
     n o s c refl k eo es
 
 -- by what the field's type name finds
-module _ (book : List ℕ) (width f : ℕ) (x : Found) (ex : x ≡ find book (type_name_of book f)) where
-  pub plan-nothing : x ≡ Nothing → PlannedFieldIs book width f (planned.NotFound f)
+module _ (book : List ℕ) (width f : ℕ) (x : Option ℕ) (ex : x ≡ find book (type_name_of book f)) where
+  pub plan-nothing : x ≡ None → PlannedFieldIs book width f (planned.NotFound f)
   plan-nothing h = lacks-only f (field-nothing book width f (sym ex ∙ h))
 
-  module _ (n : ℕ) (h : x ≡ At n) where
-    pub plan-found : find book (type_name_of book f) ≡ At n
+  module _ (n : ℕ) (h : x ≡ Some n) where
+    pub plan-found : find book (type_name_of book f) ≡ Some n
     plan-found = sym ex ∙ h
 
 -- a type's block number is small, so an entry fits
@@ -232,7 +231,7 @@ same-type : (book : List ℕ) (width g : ℕ) (z : ResolvedField) (n u : ℕ) �
 same-type book width g z n u e m r = rw (← m, ← r) (resolves book width g z e)
 
 -- the entry of an earlier field of the same type
-module _ (book : List ℕ) (width f n : ℕ) (v : ValidBook book) (w : find book (type_name_of book f) ≡ At n) (plan : List ℕ) (i e : ℕ) (h : Earlier book width i plan) (r : Recent plan i n e) (ne : e ≡ 0 → ⊥) where
+module _ (book : List ℕ) (width f n : ℕ) (v : ValidBook book) (w : find book (type_name_of book f) ≡ Some n) (plan : List ℕ) (i e : ℕ) (h : Earlier book width i plan) (r : Recent plan i n e) (ne : e ≡ 0 → ⊥) where
   abbrev among : Among plan i n e
   among = r.found ne
 

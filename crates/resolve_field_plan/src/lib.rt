@@ -2,7 +2,7 @@
 // type's category, so that a type that is read many times is looked up once. A type that several fields have is resolved once, too.
 #![tactic(auto)]
 
-ghost use Rattle.std.specs.Prelude.{◌≡◌, true, ◌<◌, get_or, set};
+ghost use Rattle.std.specs.Prelude.{◌≡◌, true, ◌<◌, get_or, set, Some};
 ghost use Rattle.type_book.specs.Book.{is_type, type_name_of};
 ghost use Rattle.type_provider.specs.Find.{find};
 ghost use Rattle.type_book_check.specs.Check.{ValidBook};
@@ -13,7 +13,6 @@ use resolvers::Resolved;
 use type_book::block;
 use type_category::type_category::AdsTypeCategory;
 use type_category_number::{category_at, number};
-use type_provider::Found;
 
 // A field whose type is resolved: offset and size as its block says, its type's block as named and with aliases resolved, the
 // category of that.
@@ -37,7 +36,7 @@ pub enum Planned {
 
 // Field block f, whose type name finds the alias at block `named`.
 fn plan_alias(book: &[u8], index: &[u32], width: u8, f: u32, named: u32) -> Planned
-    requires { ValidBook book.now × (find book.now (type_name_of book.now f) ≡ Found.At named) }
+    requires { ValidBook book.now × (find book.now (type_name_of book.now f) ≡ Some named) }
     ensures { PlannedFieldIs book.now width f result }
 {
     let answer = resolvers::resolve_alias_in(book, index, width, named);
@@ -56,7 +55,7 @@ fn plan_alias(book: &[u8], index: &[u32], width: u8, f: u32, named: u32) -> Plan
 
 // Field block f, whose type name finds block `named`. Most types are no alias: their category is determined once.
 fn plan_named(book: &[u8], index: &[u32], width: u8, f: u32, named: u32) -> Planned
-    requires { ValidBook book.now × (find book.now (type_name_of book.now f) ≡ Found.At named) }
+    requires { ValidBook book.now × (find book.now (type_name_of book.now f) ≡ Some named) }
     ensures { PlannedFieldIs book.now width f result }
 {
     let category = AdsTypeCategory::determine(book, width, named);
@@ -78,7 +77,7 @@ fn plan_field(book: &[u8], index: &[u32], width: u8, f: u32) -> Planned
     ensures { PlannedFieldIs book.now width f result }
 {
     let found = resolvers::named_in(book, index, f);
-    let Found::At(named) = found else {
+    let Some(named) = found else {
         return Planned::NotFound(f);
     };
     plan_named(book, index, width, f, named)
@@ -162,7 +161,7 @@ fn plan_next(
     ensures { PlannedFieldIs book.now width f result }
 {
     let found = resolvers::named_in(book, index, f);
-    let Found::At(named) = found else {
+    let Some(named) = found else {
         return Planned::NotFound(f);
     };
     let entry = recent(plan, last, i, named);

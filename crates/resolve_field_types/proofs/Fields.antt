@@ -1,4 +1,5 @@
 -- The types of fields: one field, and the first refusal of several. Assumes nothing.
+use Rattle.std.specs.Prelude.{Option, Some, None}
 use mathlib.Core.Path.{◌≡◌, refl, sym, ap, ◌∙◌}
 use mathlib.Core.Bool.{true}
 use mathlib.Core.List.{List}
@@ -6,8 +7,6 @@ use Prim.Native.Nat.{ℕ, suc, ◌+◌, ◌-◌, ◌≤◌, ◌<◌}
 use native.Mathlib.Omega.{arith}
 use mir.Syntax.{w32}
 use mir.Val.{Fits}
-use Rattle.type_provider.specs.declared.Found.{Found}
-use Rattle.type_provider.specs.declared.Found.TheVariants.{At, Nothing}
 use Rattle.type_book.specs.Book.{is_type, offset_of, size_of, fields_of, type_name_of}
 use Rattle.type_provider.specs.Find.{find}
 use Rattle.type_book_check.specs.Check.{ValidBook}
@@ -27,23 +26,23 @@ use Rattle.resolve_field_types.proofs.Numbers.{field_is, field-says}
 -- ---- one field
 
 module _ (book : List ℕ) (width f : ℕ) where
-  pub field_at : (n : ℕ) → find book (type_name_of book f) ≡ At n → resolve_field book width f ≡ field_of book f n (resolve_alias book width n)
+  pub field_at : (n : ℕ) → find book (type_name_of book f) ≡ Some n → resolve_field book width f ≡ field_of book f n (resolve_alias book width n)
   unfolding resolve_field field_found
   field_at n e = rw e
 
-  pub field-nothing : find book (type_name_of book f) ≡ Nothing → resolve_field book width f ≡ answer.NotFound f
+  pub field-nothing : find book (type_name_of book f) ≡ None → resolve_field book width f ≡ answer.NotFound f
   unfolding resolve_field field_found
   field-nothing e = rw e
 
-  module _ (x : Found) (ex : x ≡ find book (type_name_of book f)) where
-    pub resolved-nothing : x ≡ Nothing → FieldResolved book width f (answer.NotFound f)
+  module _ (x : Option ℕ) (ex : x ≡ find book (type_name_of book f)) where
+    pub resolved-nothing : x ≡ None → FieldResolved book width f (answer.NotFound f)
     resolved-nothing h =
         record {
           is = field-says _ _ (sym (field-nothing (sym ex ∙ h)));
           typed = λ y e. absurd (let z : ◌≡◌ {A = ℕ} 0 1 = cc in omega arith);
         }
 
-    module _ (n : ℕ) (h : x ≡ At n) (r : Resolved) (q : ResolvedIs book (resolve_alias book width n) r) where
+    module _ (n : ℕ) (h : x ≡ Some n) (r : Resolved) (q : ResolvedIs book (resolve_alias book width n) r) where
       found : resolve_field book width f ≡ field_of book f n r
       found = field_at n (sym ex ∙ h) ∙ ap (field_of book f n) (sym (resolved-is _ _ q.is))
 

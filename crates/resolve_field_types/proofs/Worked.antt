@@ -1,9 +1,9 @@
 -- Document 01's order of 15, 7 and 8 where fields are resolved. Assumes nothing.
+use Rattle.std.specs.Prelude.{None}
 use mathlib.Core.Path.{◌≡◌, refl, sym, ◌∙◌}
 use mathlib.Core.List.{List}
 use Prim.Native.Nat.{ℕ, suc, ◌+◌, ◌-◌, ◌≤◌, ◌<◌}
 use native.Mathlib.Omega.{arith}
-use Rattle.type_provider.specs.declared.Found.TheVariants.{Nothing}
 use Rattle.type_book.specs.Book.{fields_of, type_name_of}
 use Rattle.type_provider.specs.Find.{find}
 use Rattle.resolve_field_types.specs.declared.ResolvedField.{ResolvedField}
@@ -23,7 +23,7 @@ module _ (book : List ℕ) (width t room : ℕ) where
       let f : 0 ≡ records_that_fit (fields_of book t) room = omega arith in
       sym (answer-short book width t room (fields_of book t) refl 0 f check.Fine (sym (fields-none book width (t + 1))) refl h)
 
-  pub first_missing : 0 < fields_of book t → 1 ≤ room → find book (type_name_of book (t + 1)) ≡ Nothing
+  pub first_missing : 0 < fields_of book t → 1 ≤ room → find book (type_name_of book (t + 1)) ≡ None
       → fields_answer book width t room ≡ fields.NotFound (t + 1)
   first_missing h l e =
       let k : ℕ = records_that_fit (fields_of book t) room - 1 in

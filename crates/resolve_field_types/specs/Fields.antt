@@ -1,8 +1,6 @@
 -- The types of fields, by look-ups in a type book (document 01, "resolvers.rs"; refusals 7 and 8). Assumes nothing.
-use Rattle.std.specs.Prelude.{◌≡◌, true, List, [], ◌∷◌, ℕ, zero, suc, ◌+◌}
+use Rattle.std.specs.Prelude.{◌≡◌, true, List, [], ◌∷◌, ℕ, zero, suc, ◌+◌, Option, Some, None}
 use Rattle.enc_number.specs.Refusals as refusal
-use Rattle.type_provider.specs.declared.Found.{Found}
-use Rattle.type_provider.specs.declared.Found.TheVariants.{At, Nothing}
 use Rattle.type_book.specs.Book.{is_type, offset_of, size_of, fields_of, type_name_of}
 use Rattle.type_provider.specs.Find.{find}
 use Rattle.resolvers.specs.declared.Resolved.{Resolved}
@@ -39,9 +37,9 @@ field_of book f n (NotFound c) = answer.NotFound c
 field_of book f n TooLong = answer.TooLong
 
 -- field block f, by what the look-up of its type name found; nothing is 7 with block f
-unfoldable pub field_found : List ℕ → ℕ → ℕ → Found → FieldAnswer
-field_found book width f (At n) = field_of book f n (resolve_alias book width n)
-field_found book width f Nothing = answer.NotFound f
+unfoldable pub field_found : List ℕ → ℕ → ℕ → Option ℕ → FieldAnswer
+field_found book width f (Some n) = field_of book f n (resolve_alias book width n)
+field_found book width f None = answer.NotFound f
 
 -- field block f: its offset and size as they stand, and its type, with aliases resolved
 unfoldable pub resolve_field : List ℕ → ℕ → ℕ → FieldAnswer

@@ -13,7 +13,6 @@ ghost use Rattle.resolve_field_types.specs.Calls.{records_that_fit, fields_numbe
 use resolvers::Resolved;
 use type_book::block;
 use type_book_check::{GivenRoot, LACKING_ROOT, RootCheck};
-use type_provider::Found;
 
 // The numbers of a field's record.
 const RECORD: usize = 4;
@@ -60,7 +59,7 @@ pub fn resolve_field_in(book: &[u8], index: &[u32], width: u8, f: u32) -> FieldA
     ensures { FieldResolved book.now width f result }
 {
     let found = resolvers::named_in(book, index, f);
-    let Found::At(named) = found else {
+    let Some(named) = found else {
         return FieldAnswer::NotFound(f);
     };
     let answer = resolvers::resolve_alias_in(book, index, width, named);

@@ -1,5 +1,6 @@
 -- What a walk lists, and what is needed: a listed block names a needed name that the book lacks; where the walk is whole, each reached name
 -- that comes to nothing is listed; where it moreover lists nothing, every needed name is found. Assumes nothing.
+use Rattle.std.specs.Prelude.{Option, Some, None}
 use mathlib.Core.Path.{◌≡◌, refl, sym, ap, ◌∙◌}
 use mathlib.Core.Bool.{Bool, true, false}
 use mathlib.Core.Logic.{⊎_elim}
@@ -7,8 +8,6 @@ use mathlib.Core.List.Memᴰ
 use mathlib.Core.List.{List, [], ◌∷◌, Memᴰ}
 use Prim.Native.Nat.{ℕ, zero, suc}
 use native.Mathlib.Omega.{arith}
-use Rattle.type_provider.specs.declared.Found.{Found}
-use Rattle.type_provider.specs.declared.Found.TheVariants.{At, Nothing}
 use Rattle.type_book.specs.Book.{is_type, name_of, type_name_of}
 use Rattle.type_provider.specs.Find.{find}
 use Rattle.type_book_check.specs.Check.{ValidBook}
@@ -34,7 +33,7 @@ record Ending (book : List ℕ) (width : ℕ) (x : List ℕ) : Type 0 where
   at : ℕ
   to : ℕ
   looks : ℕ
-  found : find book x ≡ At at
+  found : find book x ≡ Some at
   ends : follow (is_followed false book width) book looks at ≡ Base to
 
 module _ (book : List ℕ) (width : ℕ) where
@@ -43,22 +42,22 @@ module _ (book : List ℕ) (width : ℕ) where
   next-ends t g zero u e = let z = follow-none (is_followed false book width) book t in different cc
   next-ends t g (suc k) u e = by (find book (type_name_of book t)) refl
     where
-      by : (f : Found) → find book (type_name_of book t) ≡ f → Ending book width (type_name_of book t)
-      by (At n) q = record { at = n; to = u; looks = k; found = q; ends = sym (follow-on (is_followed false book width) book k t n g q) ∙ e }
-      by Nothing q = let z = follow-lacks (is_followed false book width) book k t g q in different cc
+      by : (f : Option ℕ) → find book (type_name_of book t) ≡ f → Ending book width (type_name_of book t)
+      by (Some n) q = record { at = n; to = u; looks = k; found = q; ends = sym (follow-on (is_followed false book width) book k t n g q) ∙ e }
+      by None q = let z = follow-lacks (is_followed false book width) book k t g q in different cc
 
   -- the name at which a needed name's chain breaks is needed
-  break_needed : (root : List ℕ) (k : ℕ) (x : List ℕ) (t c : ℕ) → Needed book width root x → find book x ≡ At t → follow (is_followed false book width) book k t ≡ NotFound c → Needed book width root (type_name_of book c)
+  break_needed : (root : List ℕ) (k : ℕ) (x : List ℕ) (t c : ℕ) → Needed book width root x → find book x ≡ Some t → follow (is_followed false book width) book k t ≡ NotFound c → Needed book width root (type_name_of book c)
   break_needed root zero x t c n f e = let z = follow-none (is_followed false book width) book t in different cc
   break_needed root (suc k) x t c n f e =
       by (is_followed false book width t) refl (find book (type_name_of book t)) refl (λ m u. break_needed root k (type_name_of book t) u c m)
     where
-      by : (g : Bool) → is_followed false book width t ≡ g → (q : Found) → find book (type_name_of book t) ≡ q
-          → (Needed book width root (type_name_of book t) → (u : ℕ) → find book (type_name_of book t) ≡ At u → follow (is_followed false book width) book k u ≡ NotFound c → Needed book width root (type_name_of book c))
+      by : (g : Bool) → is_followed false book width t ≡ g → (q : Option ℕ) → find book (type_name_of book t) ≡ q
+          → (Needed book width root (type_name_of book t) → (u : ℕ) → find book (type_name_of book t) ≡ Some u → follow (is_followed false book width) book k u ≡ NotFound c → Needed book width root (type_name_of book c))
           → Needed book width root (type_name_of book c)
       by false g q h ih = let z = follow-base (is_followed false book width) book k t g in different cc
-      by true g (At u) h ih = ih (chain n f g refl) u h (sym (follow-on (is_followed false book width) book k t u g h) ∙ e)
-      by true g Nothing h ih =
+      by true g (Some u) h ih = ih (chain n f g refl) u h (sym (follow-on (is_followed false book width) book k t u g h) ∙ e)
+      by true g None h ih =
           let z = follow-lacks (is_followed false book width) book k t g h in
           let o : t ≡ c = cc in
           chain n f g (ap (type_name_of book) (sym o))
@@ -91,14 +90,14 @@ listed_here c b x f w e = rw e (Memᴰ.head refl)
 
 module _ (book : List ℕ) (width : ℕ) (root : List ℕ) where
   -- a reached name of block b that comes to nothing at block c
-  comes_lacking : (b c : ℕ) → Reached book width root (type_name_of book b) → (f : Found) → find book (type_name_of book b) ≡ f → comes_to book width b f ≡ NotFound c → Unresolved book book width root c
+  comes_lacking : (b c : ℕ) → Reached book width root (type_name_of book b) → (f : Option ℕ) → find book (type_name_of book b) ≡ f → comes_to book width b f ≡ NotFound c → Unresolved book book width root c
   unfolding chain_onward
-  comes_lacking b c r (At t) q e =
+  comes_lacking b c r (Some t) q e =
       record {
         lacking = (follow_breaks (is_followed false book width) book 32 t c e).nothing;
         needed = break_needed book width root 32 (type_name_of book b) t c (reached r) q e;
       }
-  comes_lacking b c r Nothing q e =
+  comes_lacking b c r None q e =
       let o : b ≡ c = cc in
       rw (← o) (record { lacking = q; needed = reached r })
 
@@ -118,7 +117,7 @@ module _ (book : List ℕ) (width root : ℕ) (v : ValidBook book) (y : is_type 
   pub listed-lacking : (c : ℕ) → Memᴰ c (listed (walk_of book width root)) → Unresolved book book width (name_of book root) c
   unfolding walk_of meet names chain_onward
   listed-lacking c m =
-      let own : find book (name_of book root) ≡ At root = valid-own book v root y in
+      let own : find book (name_of book root) ≡ Some root = valid-own book v root y in
       let name = name_of book root in
       listed_cases c root name (comes_to book width root (find book name)) (walk book width 4095 (name ∷ []) (push book width (comes_to book width root (find book name)) [])) m
       (λ q.
@@ -138,7 +137,7 @@ module _ (book : List ℕ) (width root : ℕ) (h : whole (walk_of book width roo
       record { at = q.at; to = q.to; looks = 32; found = q.found; ends = q.base }
   needed-ends (chain {x} {y} {t} n f g e) =
       let q = needed-ends n in
-      let o : q.at ≡ t = let p : At q.at ≡ At t = sym q.found ∙ f in cc in
+      let o : q.at ≡ t = let p : Some q.at ≡ Some t = sym q.found ∙ f in cc in
       rw e (next-ends book width t g q.looks q.to (rw (← o) q.ends))
 
   pub needed-found : (x : List ℕ) → Needed book width (name_of book root) x → Defined book x
@@ -150,7 +149,7 @@ module _ (book : List ℕ) (width : ℕ) where
   rest-listing : (b : ℕ) (y : List ℕ) (f : Resolved) (w : Walk) (x : List ℕ) → Listing book (listed w) x → Listing book (listed (met b y f w)) x
   rest-listing b y f w x q = record { block = q.block; member = listed-rest q.block b y f w q.member; names_it_lem = q.names_it_lem }
 
-  goes-listing : {left : ℕ} {v : List (List ℕ)} {s : List ℕ} {w : Walk} → Goes book width left v s w → whole w ≡ true → (x : List ℕ) → Memᴰ x (names w) → find book x ≡ Nothing → Listing book (listed w) x
+  goes-listing : {left : ℕ} {v : List (List ℕ)} {s : List ℕ} {w : Walk} → Goes book width left v s w → whole w ≡ true → (x : List ℕ) → Memᴰ x (names w) → find book x ≡ None → Listing book (listed w) x
   unfolding names whole chain_onward
   goes-listing none h x m q = absurd (Memᴰ.not-nil m)
   goes-listing (old e g) h x m q = goes-listing g h x m q
@@ -164,7 +163,7 @@ module _ (book : List ℕ) (width : ℕ) where
   goes-listing (stop e) h x m q = different cc
 
   goes_broken : {left : ℕ} {v : List (List ℕ)} {s : List ℕ} {w : Walk} → Goes book width left v s w → whole w ≡ true → (x : List ℕ) → Memᴰ x (names w)
-      → (t c : ℕ) → find book x ≡ At t → resolve_alias book width t ≡ NotFound c → Memᴰ c (listed w)
+      → (t c : ℕ) → find book x ≡ Some t → resolve_alias book width t ≡ NotFound c → Memᴰ c (listed w)
   unfolding names whole chain_onward
   goes_broken none h x m t c q k = absurd (Memᴰ.not-nil m)
   goes_broken (old e g) h x m t c q k = goes_broken g h x m t c q k
@@ -179,7 +178,7 @@ module _ (book : List ℕ) (width : ℕ) where
 
 module _ (book : List ℕ) (width root : ℕ) (h : whole (walk_of book width root) ≡ true) (x : List ℕ) (r : Reached book width (name_of book root) x) where
   -- a reached name whose chain breaks at block c: block c is listed
-  pub broken_listed : (t c : ℕ) → find book x ≡ At t → resolve_alias book width t ≡ NotFound c → Memᴰ c (listed (walk_of book width root))
+  pub broken_listed : (t c : ℕ) → find book x ≡ Some t → resolve_alias book width t ≡ NotFound c → Memᴰ c (listed (walk_of book width root))
   unfolding walk_of meet names chain_onward
   broken_listed t c q k =
       let y = name_of book root in
@@ -198,6 +197,6 @@ module _ (book : List ℕ) (width root : ℕ) (h : whole (walk_of book width roo
       let f = comes_to book width root (find book y) in
       let w = walk book width 4095 (y ∷ []) (push book width f []) in
       ⊎_elim
-      (λ o. let z : find book y ≡ At root = valid-own book v root t in let n : find book y ≡ Nothing = ap (find book) (sym o) ∙ q in different cc)
+      (λ o. let z : find book y ≡ Some root = valid-own book v root t in let n : find book y ≡ None = ap (find book) (sym o) ∙ q in different cc)
       (λ n. rest-listing book width root y f w x (goes-listing book width (goes book width 4095 (y ∷ []) _) (whole-rest root y f w h) x n q))
       (Memᴰ.cases_cons (reached-met book width root h r))

@@ -1,4 +1,5 @@
 -- Blocks of a valid book: which of them name a type as a part, and which are found. Assumes nothing.
+use Rattle.std.specs.Prelude.{Option, Some}
 use mathlib.Core.Path.{◌≡◌, refl, sym, ◌∙◌}
 use mathlib.Core.Bool.{true, false}
 use mathlib.Core.List.Memᴰ
@@ -7,8 +8,6 @@ use mathlib.Core.Logic.{⊎_elim}
 use Prim.Native.Nat.{ℕ, zero, suc, ◌+◌, ◌≤◌, ◌<◌}
 use native.Mathlib.Omega.{arith}
 use borrow.Author.Tests.{ne_eqb, lt-ltb}
-use Rattle.type_provider.specs.declared.Found.{Found}
-use Rattle.type_provider.specs.declared.Found.TheVariants as found
 use Rattle.type_book.specs.Book.{kind_of, is_type, dimensions_of, fields_of, name_of, type_name_of}
 use lib.ListN.{length}
 use Rattle.type_provider.specs.Find.{find, searched}
@@ -72,14 +71,14 @@ part-is book width t v y b m = by (parts_kind (category_of book width t)) refl m
 -- ---- names found
 
 -- what is found has that name
-pub find-name : (book name : List ℕ) (t : ℕ) → find book name ≡ found.At t → name_of book t ≡ name
+pub find-name : (book name : List ℕ) (t : ℕ) → find book name ≡ Some t → name_of book t ≡ name
 find-name book name t e = named-name book name t (find-named book name t e).named
 
 -- what block b names, and a name that the book lacks, have a bit in the scratch
 pub low_bit : (sc : List ℕ) (t : ℕ) → t < 131072 → 8192 ≤ length sc → BitIn sc t
 low_bit sc t l z = record { low = l; room = omega arith }
 
-pub found-low : (book : List ℕ) (b : ℕ) (f : Found) → f ≡ find book (type_name_of book b) → (t : ℕ) → f ≡ found.At t → ValidBook book → t < 131072
+pub found-low : (book : List ℕ) (b : ℕ) (f : Option ℕ) → f ≡ find book (type_name_of book b) → (t : ℕ) → f ≡ Some t → ValidBook book → t < 131072
 found-low book b f ef t h v = let l = type-below book t v (found-typed book b f ef t h) in omega arith
 
 pub lacking-low : (name : List ℕ) (b : ℕ) → b ≡ lacking_bit name → b < 131072
@@ -87,5 +86,5 @@ unfolding lacking_bit
 lacking-low name b e = rw e (omega arith)
 
 -- what is found is below block 65,536
-pub find-below : (book name : List ℕ) (t : ℕ) → find book name ≡ found.At t → t < 65536
+pub find-below : (book name : List ℕ) (t : ℕ) → find book name ≡ Some t → t < 65536
 find-below book name t e = let l : t < searched book = (find-named book name t e).below in omega arith

@@ -1,5 +1,6 @@
 -- What a walk meets: (i) only what is reached, (ii) all of it where it ends whole, and then all is found where it lists nothing, (iii) no
 -- name twice. Each law is of the walk from a name, and then of a root's, which is that from its name. Assumes nothing.
+use Rattle.std.specs.Prelude.{Option, Some, None}
 use mathlib.Core.Path.{◌≡◌, refl, sym, ap, ◌∙◌}
 use mathlib.Core.Bool.{Bool, true, false, ◌||◌, or-true}
 use mathlib.Core.Logic.{◌⊎◌, inl, inr, ⊎_elim}
@@ -8,8 +9,6 @@ use mathlib.Core.List.{List, [], ◌∷◌, Memᴰ}
 use Prim.Native.Nat.{ℕ, ◌≤◌}
 use native.Mathlib.Omega.{arith}
 use lib.ListN.{length}
-use Rattle.type_provider.specs.declared.Found.{Found}
-use Rattle.type_provider.specs.declared.Found.TheVariants.{At, Nothing}
 use Rattle.type_book.specs.Book.{name_of, type_name_of, same_name}
 use Rattle.type_provider.specs.Find.{find}
 use Rattle.type_book.proofs.Names.{same_eq, same_refl}
@@ -41,12 +40,12 @@ push_cases book width s (NotFound c) m p q = q m
 push_cases book width s TooLong m p q = q m
 
 -- a name comes to a type: the book defines it, and its aliases end there
-look-base : (book : List ℕ) (width b u : ℕ) (f : Found) → comes_to book width b f ≡ Base u → (t : ℕ) × (f ≡ At t) × (resolve_alias book width t ≡ Base u)
+look-base : (book : List ℕ) (width b u : ℕ) (f : Option ℕ) → comes_to book width b f ≡ Base u → (t : ℕ) × (f ≡ Some t) × (resolve_alias book width t ≡ Base u)
 unfolding chain_onward
-look-base book width b u (At t) h = (t, refl, h)
-look-base book width b u Nothing h = absurd (let z : ◌≡◌ {A = ℕ} 0 1 = cc in omega arith)
+look-base book width b u (Some t) h = (t, refl, h)
+look-base book width b u None h = absurd (let z : ◌≡◌ {A = ℕ} 0 1 = cc in omega arith)
 
-base-look : (book : List ℕ) (width b u t : ℕ) (f : Found) → f ≡ At t → resolve_alias book width t ≡ Base u → comes_to book width b f ≡ Base u
+base-look : (book : List ℕ) (width b u t : ℕ) (f : Option ℕ) → f ≡ Some t → resolve_alias book width t ≡ Base u → comes_to book width b f ≡ Base u
 unfolding chain_onward
 base-look book width b u t f e h = rw e h
 
@@ -179,7 +178,7 @@ module _ (book : List ℕ) (width : ℕ) where
 
   -- the parts of what is met are known in the end
   closed : {left : ℕ} {v : List (List ℕ)} {s : List ℕ} {w : Walk} → Goes book width left v s w → whole w ≡ true
-      → (x : List ℕ) (t u c : ℕ) → Memᴰ x (names w) → find book x ≡ At t → resolve_alias book width t ≡ Base u → Memᴰ c (parts_of book width u) → Known v w (type_name_of book c)
+      → (x : List ℕ) (t u c : ℕ) → Memᴰ x (names w) → find book x ≡ Some t → resolve_alias book width t ≡ Base u → Memᴰ c (parts_of book width u) → Known v w (type_name_of book c)
   unfolding whole names
   closed none h x t u c m f r p = absurd (Memᴰ.not-nil m)
   closed (old e g) h x t u c m f r p = closed g h x t u c m f r p
@@ -257,6 +256,6 @@ unfolding walk_of
 count-whole book width root = from-count book width (name_of book root) root
 
 -- a walk from a name that the book lacks meets that name alone: its block is listed, or 7 is answered with it
-pub from-lacking : (book : List ℕ) (width : ℕ) (name : List ℕ) (block : ℕ) → find book name ≡ Nothing → walk_from book width name block ≡ met block name (NotFound block) over
+pub from-lacking : (book : List ℕ) (width : ℕ) (name : List ℕ) (block : ℕ) → find book name ≡ None → walk_from book width name block ≡ met block name (NotFound block) over
 unfolding meet push chain_onward
 from-lacking book width name block h = rw (h, walk_none book width 4095 (name ∷ []))

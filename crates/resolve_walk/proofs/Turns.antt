@@ -1,4 +1,5 @@
 -- What a turn of the walk does to the state, and what `step` and `start` owe at each exit. Assumes nothing.
+use Rattle.std.specs.Prelude.{Option, Some, None}
 use mathlib.Core.Path.{◌≡◌, refl, sym, ap, ◌∙◌}
 use mathlib.Core.Bool.{Bool, true, false, ◌&&◌, ◌||◌, and-true, and-false}
 use mathlib.Core.Logic.{⊎_elim}
@@ -10,8 +11,6 @@ use native.Mathlib.Nat.{zero-div}
 use lib.ListN.{length, get_or, replicate}
 use lib.Dec.{eqb}
 use borrow.Author.Tests.{eq-eqb, ne_eqb}
-use Rattle.type_provider.specs.declared.Found.{Found}
-use Rattle.type_provider.specs.declared.Found.TheVariants.{At, Nothing}
 use Rattle.type_book.specs.Book.{is_type, name_of, type_name_of, same_name}
 use Rattle.type_provider.specs.Find.{find}
 use Rattle.type_book.proofs.Names.{same_eq, eq_same}
@@ -33,7 +32,7 @@ use Rattle.resolve_walk.specs.State.{seen_by, turn_event, new_on, turn_on, step_
 use Rattle.resolve_walk.proofs.Goes.{walk-old, walk-fresh, walk-stop}
 use Rattle.resolve_walk.proofs.Places.{find-name, find-below, part-is}
 
-at-nothing : {X : Type 0} {t : ℕ} → At t ≡ Nothing → X
+at-nothing : {X : Type 0} {t : ℕ} → Some t ≡ None → X
 at-nothing e = absurd (let z : ◌≡◌ {A = ℕ} 0 1 = cc in omega arith)
 
 same_as : (y x : List ℕ) (t u : ℕ) → (y ≡ x → t ≡ u) → (t ≡ u → y ≡ x) → same_name y x ≡ eqb t u
@@ -68,21 +67,21 @@ kept sc sc' t m u h = m u ∙ by (eqb t u)
     by false = h
 
 module _ (book ls sc sc' : List ℕ) where
-  seen-marks : ((u : ℕ) → marked_in sc' u ≡ marked_in sc u) → (x : List ℕ) (f : Found) → seen_by book sc ls x f ≡ seen_by book sc' ls x f
+  seen-marks : ((u : ℕ) → marked_in sc' u ≡ marked_in sc u) → (x : List ℕ) (f : Option ℕ) → seen_by book sc ls x f ≡ seen_by book sc' ls x f
   unfolding seen_by was_listed
-  seen-marks m x (At t) = sym (m t)
-  seen-marks m x Nothing = rw (m (lacking_bit x))
+  seen-marks m x (Some t) = sym (m t)
+  seen-marks m x None = rw (m (lacking_bit x))
 
-  module _ (v : List (List ℕ)) (y : List ℕ) (t : ℕ) (ey : find book y ≡ At t) (m : (u : ℕ) → marked_in sc' u ≡ eqb t u || marked_in sc u) where
-    seen-new : (x : List ℕ) (f : Found) → find book x ≡ f → has v x ≡ seen_by book sc ls x f → has (y ∷ v) x ≡ seen_by book sc' ls x f
+  module _ (v : List (List ℕ)) (y : List ℕ) (t : ℕ) (ey : find book y ≡ Some t) (m : (u : ℕ) → marked_in sc' u ≡ eqb t u || marked_in sc u) where
+    seen-new : (x : List ℕ) (f : Option ℕ) → find book x ≡ f → has v x ≡ seen_by book sc ls x f → has (y ∷ v) x ≡ seen_by book sc' ls x f
     unfolding seen_by has was_listed
-    seen-new x (At u) ex h =
+    seen-new x (Some u) ex h =
         let e : same_name y x ≡ eqb t u =
         same_as y x t u
-        (λ q. let p : At t ≡ At u = sym ey ∙ ap (find book) q ∙ ex in cc)
+        (λ q. let p : Some t ≡ Some u = sym ey ∙ ap (find book) q ∙ ex in cc)
         (λ q. sym (find-name book y t ey) ∙ ap (name_of book) q ∙ find-name book x u ex) in
         rw (h, m u, e)
-    seen-new x Nothing ex h =
+    seen-new x None ex h =
         let e : same_name y x ≡ false = not_same y x (λ q. at-nothing (sym ey ∙ ap (find book) q ∙ ex)) in
         let d : eqb t (lacking_bit x) ≡ false = apart t x (find-below book y t ey) in
         rw (h, e, m (lacking_bit x), d)
@@ -103,10 +102,10 @@ ref_alias : (book ls : List ℕ) (c : ℕ) → is_part book c ≡ false → (x :
 unfolding names_it
 ref_alias book ls c h x = has_ref_snoc book ls c x ∙ rw h (ap (λ (t : Bool). t || has_ref book ls x) (and-false (same_name (type_name_of book c) x)))
 
-seen-alias : (book ls sc : List ℕ) (c : ℕ) → is_part book c ≡ false → (x : List ℕ) (f : Found) → seen_by book sc ls x f ≡ seen_by book sc (ls ++ (c ∷ [])) x f
+seen-alias : (book ls sc : List ℕ) (c : ℕ) → is_part book c ≡ false → (x : List ℕ) (f : Option ℕ) → seen_by book sc ls x f ≡ seen_by book sc (ls ++ (c ∷ [])) x f
 unfolding seen_by was_listed
-seen-alias book ls sc c h x (At u) = refl
-seen-alias book ls sc c h x Nothing = rw (ref_alias book ls c h x)
+seen-alias book ls sc c h x (Some u) = refl
+seen-alias book ls sc c h x None = rw (ref_alias book ls c h x)
 
 -- a lacking name's bit is set, and its block listed
 module _ (book ls sc sc' : List ℕ) (b : ℕ) (m : (u : ℕ) → marked_in sc' u ≡ eqb (lacking_bit (type_name_of book b)) u || marked_in sc u)
@@ -119,7 +118,7 @@ module _ (book ls sc sc' : List ℕ) (b : ℕ) (m : (u : ℕ) → marked_in sc' 
   told-lacking : (x : List ℕ) → has_ref book (ls ++ (b ∷ [])) x ≡ true → marked_in sc' (lacking_bit x) ≡ true
   told-lacking x h = name-told x (same_name (type_name_of book b) x) refl (sym (has_ref_snoc book ls b x) ∙ h)
 
-  module _ (v : List (List ℕ)) (a : is_part book b ≡ true) (ey : find book (type_name_of book b) ≡ Nothing) where
+  module _ (v : List (List ℕ)) (a : is_part book b ≡ true) (ey : find book (type_name_of book b) ≡ None) where
     other : (x : List ℕ) (r : Bool) → has_ref book ls x ≡ r → marked_in sc (lacking_bit x) && r ≡ (eqb (lacking_bit (type_name_of book b)) (lacking_bit x) || marked_in sc (lacking_bit x)) && r
     other x true e = rw (told x e) (by (eqb (lacking_bit (type_name_of book b)) (lacking_bit x)))
       where
@@ -135,25 +134,25 @@ module _ (book ls sc sc' : List ℕ) (b : ℕ) (m : (u : ℕ) → marked_in sc' 
     lacking-by x true e h = let q : type_name_of book b ≡ x = same_eq _ _ e in sym (rw (m (lacking_bit x), q, eq-eqb (lacking_bit x) (lacking_bit x) refl, a))
     lacking-by x false e h = rw (h, m (lacking_bit x)) (other x (has_ref book ls x) refl)
 
-    seen-lacking : (x : List ℕ) (f : Found) → find book x ≡ f
+    seen-lacking : (x : List ℕ) (f : Option ℕ) → find book x ≡ f
         → has v x ≡ seen_by book sc ls x f → has (type_name_of book b ∷ v) x ≡ seen_by book sc' (ls ++ (b ∷ [])) x f
     unfolding seen_by has names_it was_listed
-    seen-lacking x (At u) ex h =
+    seen-lacking x (Some u) ex h =
         let e : same_name (type_name_of book b) x ≡ false = not_same (type_name_of book b) x (λ q. at-nothing (sym ex ∙ ap (find book) (sym q) ∙ ey)) in
         rw (h, e, m u, apart' (type_name_of book b) u (find-below book x u ex))
-    seen-lacking x Nothing ex h = rw (has_ref_snoc book ls b x) (lacking-by x (same_name (type_name_of book b) x) refl h)
+    seen-lacking x None ex h = rw (has_ref_snoc book ls b x) (lacking-by x (same_name (type_name_of book b) x) refl h)
 
 -- ---- a name that the book defines, and is new
 
 module _ (book : List ℕ) (width : ℕ) (ls : List ℕ) (v : List (List ℕ)) (sc : List ℕ) (left d b : ℕ) (y : List ℕ) (t : ℕ)
     (seen : (x : List ℕ) → has v x ≡ seen_by book sc ls x (find book x)) (told : (x : List ℕ) → has_ref book ls x ≡ true → marked_in sc (lacking_bit x) ≡ true) (valid : ValidBook book)
-    (parts : (c : ℕ) → Memᴰ c (stack_of sc d) → is_part book c ≡ true) (room : d + left ≤ 4096) (n : 0 < left) (ey : find book y ≡ At t) {w : Walk}
-    (ew : w ≡ met b y (comes_to book width b (At t)) (walk book width (left - 1) (y ∷ v) (push book width (comes_to book width b (At t)) (stack_of sc d)))) where
+    (parts : (c : ℕ) → Memᴰ c (stack_of sc d) → is_part book c ≡ true) (room : d + left ≤ 4096) (n : 0 < left) (ey : find book y ≡ Some t) {w : Walk}
+    (ew : w ≡ met b y (comes_to book width b (Some t)) (walk book width (left - 1) (y ∷ v) (push book width (comes_to book width b (Some t)) (stack_of sc d)))) where
   met_as : (a : Resolved) → resolve_alias book width t ≡ a → w ≡ met b y a (walk book width (left - 1) (y ∷ v) (push book width a (stack_of sc d)))
   unfolding chain_onward
   met_as a h = ew ∙ ap (λ (a : Resolved). met b y a (walk book width (left - 1) (y ∷ v) (push book width a (stack_of sc d)))) h
 
-  dead-left : {r : ℕ} {sc' : List ℕ} → Dead sc d t r sc' → (ls' : List ℕ) → ((x : List ℕ) (f : Found) → seen_by book sc' ls x f ≡ seen_by book sc' ls' x f)
+  dead-left : {r : ℕ} {sc' : List ℕ} → Dead sc d t r sc' → (ls' : List ℕ) → ((x : List ℕ) (f : Option ℕ) → seen_by book sc' ls x f ≡ seen_by book sc' ls' x f)
       → ((x : List ℕ) → has_ref book ls' x ≡ has_ref book ls x) → LeftToWalk book width sc' ls' (left - 1) r (walk book width (left - 1) (y ∷ v) (stack_of sc d))
   dead-left {r} {sc'} x ls' q o =
       record {
@@ -221,7 +220,7 @@ module _ (book : List ℕ) (width : ℕ) (ls : List ℕ) (left : ℕ) {sc sc' : 
   told-after : {w : Walk} (l : LeftToWalk book width sc ls left depth w) (x : List ℕ) → has_ref book ls x ≡ true → marked_in sc' (lacking_bit x) ≡ true
   told-after l x h = took.marks (lacking_bit x) ∙ l.told x h
 
-  is_seen : {w : Walk} (l : LeftToWalk book width sc ls left depth w) (f : Found) → f ≡ find book (type_name_of book k.block)
+  is_seen : {w : Walk} (l : LeftToWalk book width sc ls left depth w) (f : Option ℕ) → f ≡ find book (type_name_of book k.block)
       → has l.v (type_name_of book k.block) ≡ seen_by book sc' ls (type_name_of book k.block) f
   is_seen l f ef = rw ef (seen-after l (type_name_of book k.block))
 
@@ -234,7 +233,7 @@ module _ (book : List ℕ) (width : ℕ) (ls : List ℕ) (left : ℕ) {sc sc' : 
   length-top : length (stack_of sc depth) ≡ suc (length (stack_of sc' k.depth))
   length-top = ap length took.top
 
-  module _ (f : Found) (ef : f ≡ find book (type_name_of book k.block)) where
+  module _ (f : Option ℕ) (ef : f ≡ find book (type_name_of book k.block)) where
     event-is : {r : Event} → r ≡ turn_event book width sc' ls left k f → r ≡ step_event book width sc ls left depth
     unfolding step_event
     event-is e = e ∙ rw (ef, took.taken, took.numbers)
@@ -277,17 +276,17 @@ module _ (book : List ℕ) (width : ℕ) (ls : List ℕ) (left : ℕ) {sc sc' : 
           numbers = numbers_are (rw (h, z));
         }
 
-    module _ (h : seen_by book sc' ls (type_name_of book k.block) f ≡ false) (n : left ≡ 0 → ⊥) {w : Walk} (l : LeftToWalk book width sc ls left depth w) (g : Found) (eg : f ≡ g) where
+    module _ (h : seen_by book sc' ls (type_name_of book k.block) f ≡ false) (n : left ≡ 0 → ⊥) {w : Walk} (l : LeftToWalk book width sc ls left depth w) (g : Option ℕ) (eg : f ≡ g) where
       is-met : w ≡ met k.block (type_name_of book k.block) (comes_to book width k.block g) (walk book width (left - 1) (type_name_of book k.block ∷ l.v) (push book width (comes_to book width k.block g) (stack_of sc' k.depth)))
       is-met =
           let q : left ≡ suc (left - 1) = omega arith in
           let e : find book (type_name_of book k.block) ≡ g = sym ef ∙ eg in
           is-top l ∙ ap (λ (n : ℕ). walk book width n l.v (k.block ∷ stack_of sc' k.depth)) q
           ∙ walk-fresh book width l.v (stack_of sc' k.depth) k.block (left - 1) (is_seen l f ef ∙ h)
-          ∙ ap (λ (g : Found). met k.block (type_name_of book k.block) (comes_to book width k.block g) (walk book width (left - 1) (type_name_of book k.block ∷ l.v) (push book width (comes_to book width k.block g) (stack_of sc' k.depth)))) e
+          ∙ ap (λ (g : Option ℕ). met k.block (type_name_of book k.block) (comes_to book width k.block g) (walk book width (left - 1) (type_name_of book k.block ∷ l.v) (push book width (comes_to book width k.block g) (stack_of sc' k.depth)))) e
 
     -- the book defines it
-    module _ (t : ℕ) (ft : f ≡ At t) where
+    module _ (t : ℕ) (ft : f ≡ Some t) where
       pub step-marked : (g : Bool) → g ≡ marked_in sc' t → g ≡ true → Stepped book width sc ls left depth (Old k.depth) sc'
       unfolding seen_by
       step-marked g eg h = stepped_old (rw ft (sym eg ∙ h))
@@ -303,21 +302,21 @@ module _ (book : List ℕ) (width : ℕ) (ls : List ℕ) (left : ℕ) {sc sc' : 
         pub step-new : {sc'' : List ℕ} {r : Event} → (left ≡ 0 → ⊥) → Settles book width sc' k.depth t r sc'' → Stepped book width sc ls left depth r sc''
         unfolding work turn_event turn_on new_on chain_onward
         step-new {sc''} {r} n x =
-            let ey : find book (type_name_of book k.block) ≡ At t = sym ef ∙ ft in
+            let ey : find book (type_name_of book k.block) ≡ Some t = sym ef ∙ ft in
             let p : 0 < left = omega (arith, n) in
             let z : eqb left 0 ≡ false = ne_eqb left 0 n in
             record {
               goes = λ w l.
                   let rm : k.depth + left ≤ 4096 = let a = l.room in let b = took.less in omega arith in
                   settled-after book width ls l.v sc' left k.depth k.block (type_name_of book k.block) t (seen-after l) (told-after l) l.valid (parts-after l) rm p ey
-                  (is-met fresh n l (At t) ft) r sc'' x.so;
+                  (is-met fresh n l (Some t) ft) r sc'' x.so;
               falls = settled-falls book width sc' left k.depth t (work sc left depth) p (omega (arith, length-top)) r sc'' x.so;
               event = event-is (rw (fresh, z, ft) x.event);
               numbers = numbers_are (rw (fresh, z, ft) x.numbers);
             }
 
     -- the book lacks it
-    module _ (ft : f ≡ Nothing) (name : List ℕ) (en : name ≡ type_name_of book k.block) where
+    module _ (ft : f ≡ None) (name : List ℕ) (en : name ≡ type_name_of book k.block) where
       pub step-listed : (g : Bool) → g ≡ was_listed book sc' ls name → g ≡ true → Stepped book width sc ls left depth (Old k.depth) sc'
       unfolding seen_by
       step-listed g eg h = stepped_old (rw (ft, ← en) (sym eg ∙ h))
@@ -334,7 +333,7 @@ module _ (book : List ℕ) (width : ℕ) (ls : List ℕ) (left : ℕ) {sc sc' : 
             → Stepped book width sc ls left depth (event.NotFound k.block k.depth) sc''
         unfolding push chain_onward work turn_event turn_on new_on settled_event
         step-lacking n lim u eu {sc''} x =
-            let ey : find book (type_name_of book k.block) ≡ Nothing = sym ef ∙ ft in
+            let ey : find book (type_name_of book k.block) ≡ None = sym ef ∙ ft in
             let z : eqb left 0 ≡ false = ne_eqb left 0 n in
             let q : u ≡ lacking_bit (type_name_of book k.block) = rw (← en) eu in
             let m : (v : ℕ) → marked_in sc'' v ≡ eqb (lacking_bit (type_name_of book k.block)) v || marked_in sc' v = λ v. rw (← q) (x.marks v) in
@@ -347,7 +346,7 @@ module _ (book : List ℕ) (width : ℕ) (ls : List ℕ) (left : ℕ) {sc sc' : 
                     by = k.block;
                     name = type_name_of book k.block;
                     next = walk book width (left - 1) (type_name_of book k.block ∷ l.v) (stack_of sc' k.depth);
-                    is = is-met fresh' n l Nothing ft;
+                    is = is-met fresh' n l None ft;
                     left_over = record {
                       v = type_name_of book k.block ∷ l.v;
                       seen = λ p y. seen-lacking book ls sc' sc'' k.block m (told-after l) l.v pb ey y (find book y) refl (seen-after l y);
@@ -375,10 +374,10 @@ no-marks : (m u : ℕ) → marked_in (replicate m 0) u ≡ false
 unfolding marked_in
 no-marks m u = rw (zero-at m (4096 + u / 32), zero-div (2 ^ (u % 32)))
 
-none_seen : (book sc : List ℕ) → sc ≡ replicate (length sc) 0 → (y : List ℕ) (g : Found) → has [] y ≡ seen_by book sc [] y g
+none_seen : (book sc : List ℕ) → sc ≡ replicate (length sc) 0 → (y : List ℕ) (g : Option ℕ) → has [] y ≡ seen_by book sc [] y g
 unfolding has seen_by has_ref was_listed
-none_seen book sc z y (At u) = sym (ap (λ (l : List ℕ). marked_in l u) z ∙ no-marks (length sc) u)
-none_seen book sc z y Nothing = sym (and-false (marked_in sc (lacking_bit y)))
+none_seen book sc z y (Some u) = sym (ap (λ (l : List ℕ). marked_in l u) z ∙ no-marks (length sc) u)
+none_seen book sc z y None = sym (and-false (marked_in sc (lacking_bit y)))
 
 none_told : (book sc x : List ℕ) → has_ref book [] x ≡ true → marked_in sc (lacking_bit x) ≡ true
 unfolding has_ref
@@ -395,8 +394,8 @@ pub start-settled : (book : List ℕ) (width root : ℕ) → ValidBook book → 
     → Settles book width sc 0 root r sc' → Started book width root sc r sc'
 unfolding stack_of walk_of meet
 start-settled book width root v y sc {sc'} {r} z x =
-    let own : find book (name_of book root) ≡ At root = valid-own book v root y in
-    let all : walk_of book width root ≡ met root (name_of book root) (comes_to book width root (At root)) (walk book width 4095 (name_of book root ∷ []) (push book width (comes_to book width root (At root)) [])) = rw own in
+    let own : find book (name_of book root) ≡ Some root = valid-own book v root y in
+    let all : walk_of book width root ≡ met root (name_of book root) (comes_to book width root (Some root)) (walk book width 4095 (name_of book root ∷ []) (push book width (comes_to book width root (Some root)) [])) = rw own in
     record {
       goes =
           settled-after book width [] [] sc 4096 0 root (name_of book root) root (λ y. none_seen book sc z y (find book y)) (none_told book sc) v (λ c m. absurd (Memᴰ.not-nil m)) (omega arith) (omega arith)

@@ -1,10 +1,8 @@
 -- How a walk's state stands in the scratch of crate `resolve_walk_scratch`, and what a turn promises the two readings. No contract of a call of
 -- document 01 cites this. Assumes nothing.
-use Rattle.std.specs.Prelude.{◌≡◌, Bool, true, cond, ◌||◌, ℕ, ◌+◌, ◌*◌, ◌-◌, ◌≤◌, ◌<◌, length, eqb}
+use Rattle.std.specs.Prelude.{◌≡◌, Bool, true, cond, ◌||◌, ℕ, ◌+◌, ◌*◌, ◌-◌, ◌≤◌, ◌<◌, length, eqb, Option, Some, None}
 use mathlib.Core.List.{List, [], ◌∷◌, ◌++◌, Memᴰ}
 use Rattle.type_book.specs.Book.{type_name_of}
-use Rattle.type_provider.specs.declared.Found.{Found}
-use Rattle.type_provider.specs.declared.Found.TheVariants.{At, Nothing}
 use Rattle.type_provider.specs.Find.{find}
 use Rattle.type_category.specs.declared.type_category.AdsTypeCategory.{AdsTypeCategory}
 use Rattle.type_category.specs.Category.{category_of}
@@ -20,25 +18,25 @@ use Rattle.resolve_walk_events.specs.declared.Event.TheVariants as event
 use Rattle.resolve_walk.specs.Walk.{Walk, full, met, comes_to, has, walk, walk_of}
 
 -- a name was visited: where the book defines it, by its block's bit; else its own bit is set, and a listed block names it as a part
-unfoldable pub seen_by : List ℕ → List ℕ → List ℕ → List ℕ → Found → Bool
-seen_by book sc ls x (At t) = marked_in sc t
-seen_by book sc ls x Nothing = was_listed book sc ls x
+unfoldable pub seen_by : List ℕ → List ℕ → List ℕ → List ℕ → Option ℕ → Bool
+seen_by book sc ls x (Some t) = marked_in sc t
+seen_by book sc ls x None = was_listed book sc ls x
 
 -- ---- the event and the numbers of a turn
 
 -- the event of the block that was taken off, by what the look-up of its type name found: visited before, one name too many, or new
-unfoldable pub turn_event : List ℕ → ℕ → List ℕ → List ℕ → ℕ → Taken → Found → Event
+unfoldable pub turn_event : List ℕ → ℕ → List ℕ → List ℕ → ℕ → Taken → Option ℕ → Event
 turn_event book width sc ls left k f =
     cond (seen_by book sc ls (type_name_of book k.block) f) (Old k.depth)
     (cond (eqb left 0) Full (settled_event book width k.depth (comes_to book width k.block f)))
 
 -- the scratch after the new name x, by what its look-up found: a name that the book lacks has no block to mark, but a bit of its own
-unfoldable pub new_on : List ℕ → ℕ → List ℕ → ℕ → List ℕ → Found → List ℕ
-new_on book width sc depth x (At t) = settled_on book width sc depth t (resolve_alias book width t)
-new_on book width sc depth x Nothing = marked_on sc (lacking_bit x)
+unfoldable pub new_on : List ℕ → ℕ → List ℕ → ℕ → List ℕ → Option ℕ → List ℕ
+new_on book width sc depth x (Some t) = settled_on book width sc depth t (resolve_alias book width t)
+new_on book width sc depth x None = marked_on sc (lacking_bit x)
 
 -- the scratch then: as the block was taken off it, unless the name is new
-unfoldable pub turn_on : List ℕ → ℕ → List ℕ → List ℕ → ℕ → Taken → Found → List ℕ
+unfoldable pub turn_on : List ℕ → ℕ → List ℕ → List ℕ → ℕ → Taken → Option ℕ → List ℕ
 turn_on book width sc ls left k f =
     cond (seen_by book sc ls (type_name_of book k.block) f || eqb left 0) sc (new_on book width sc k.depth (type_name_of book k.block) f)
 

@@ -1,7 +1,6 @@
 -- The walk of the types that a type is made of (document 01, "resolvers.rs"), last in, first out. It knows of no answer and no buffer.
 -- Assumes nothing.
-use Rattle.std.specs.Prelude.{Bool, false, cond, ◌||◌, List, [], ◌∷◌, ◌++◌, ℕ, zero, suc}
-use Rattle.type_provider.specs.declared.Found.{Found}
+use Rattle.std.specs.Prelude.{Bool, false, cond, ◌||◌, List, [], ◌∷◌, ◌++◌, ℕ, zero, suc, Option}
 use Rattle.type_book.specs.Book.{name_of, type_name_of, same_name}
 use Rattle.type_provider.specs.Find.{find}
 use Rattle.resolvers.specs.declared.Resolved.{Resolved}
@@ -10,7 +9,7 @@ use Rattle.resolvers.specs.Resolve.{chain_onward, resolve_alias}
 use Rattle.resolve_walk_scratch.specs.Parts.{parts_of}
 
 -- what a name that block b names comes to, by what the look-up of that name found: a type with its aliases resolved, or 7 or 8
-abbrev pub comes_to : List ℕ → ℕ → ℕ → Found → Resolved
+abbrev pub comes_to : List ℕ → ℕ → ℕ → Option ℕ → Resolved
 comes_to book width b f = chain_onward (resolve_alias book width) b f
 
 -- ---- the walk

@@ -15,7 +15,6 @@ use resolve_walk_scratch::{lacking_bit, mark, marked, take, was_listed};
 use resolvers::named_by;
 use type_book::block;
 use type_index::Trust;
-use type_provider::Found;
 
 // The maximum number of distinct type names to visit before a corrupted type table is assumed: this guards against very wide type
 // graphs only, since cycles end at the visited names.
@@ -65,7 +64,7 @@ pub fn step(
     let taken = take(scratch, depth);
     let b = taken.block;
     let d = taken.depth;
-    let Found::At(t) = named_by(book, index, trust, b) else {
+    let Some(t) = named_by(book, index, trust, b) else {
         let name = block::type_name(book, b);
         if was_listed(book, scratch, list, n, name) {
             return Event::Old(d);

@@ -1,11 +1,11 @@
 -- Document 01's cases of a chain, in any book: 31 hops resolve; 32 answer 8, but 7 if the 32nd target is missing; an alias to itself is 8.
 -- Assumes nothing.
+use Rattle.std.specs.Prelude.{Some, None}
 use mathlib.Core.Path.{◌≡◌, ap, ◌∙◌}
 use mathlib.Core.Bool.{Bool, true, false}
 use mathlib.Core.List.{List}
 use Prim.Native.Nat.{ℕ, zero, suc, ◌+◌}
 use native.Mathlib.Omega.{arith}
-use Rattle.type_provider.specs.declared.Found.TheVariants.{At, Nothing}
 use Rattle.type_book.specs.Book.{type_name_of}
 use Rattle.type_provider.specs.Find.{find}
 use Rattle.resolvers.specs.declared.Resolved.TheVariants.{Base, NotFound, TooLong}
@@ -22,7 +22,7 @@ module _ (goes : ℕ → Bool) (book : List ℕ) where
       ap (λ (j : ℕ). follow goes book j t) z ∙ follow-on goes book (k + m) t n h e ∙ hops_follow k m n u r
 
   -- a block that names itself
-  pub hops_self : (k t : ℕ) → goes t ≡ true → find book (type_name_of book t) ≡ At t → Hops goes book k t t
+  pub hops_self : (k t : ℕ) → goes t ≡ true → find book (type_name_of book t) ≡ Some t → Hops goes book k t t
   hops_self zero t h e = none
   hops_self (suc k) t h e = hop h e (hops_self k t h e)
 
@@ -35,8 +35,8 @@ module _ (references : Bool) (book : List ℕ) (width : ℕ) where
   hops_32 t u r = hops_follow (is_followed references book width) book 32 0 t u r ∙ follow-none (is_followed references book width) book u
 
   pub hops_missing : (t u : ℕ) → Hops (is_followed references book width) book 31 t u → is_followed references book width u ≡ true
-      → find book (type_name_of book u) ≡ Nothing → resolve_type references book width t ≡ NotFound u
+      → find book (type_name_of book u) ≡ None → resolve_type references book width t ≡ NotFound u
   hops_missing t u r h e = hops_follow (is_followed references book width) book 31 1 t u r ∙ follow-lacks (is_followed references book width) book 0 u h e
 
-  pub self_endless : (t : ℕ) → is_followed references book width t ≡ true → find book (type_name_of book t) ≡ At t → resolve_type references book width t ≡ TooLong
+  pub self_endless : (t : ℕ) → is_followed references book width t ≡ true → find book (type_name_of book t) ≡ Some t → resolve_type references book width t ≡ TooLong
   self_endless t h e = hops_32 t t (hops_self (is_followed references book width) book 32 t h e)

@@ -1,8 +1,6 @@
 -- Chains of aliases and references, by look-ups in a type book (document 01, "resolvers.rs"; refusals 7 and 8). Assumes nothing.
-use Rattle.std.specs.Prelude.{◌≡◌, Bool, true, false, cond, List, [], ◌∷◌, ℕ, zero, suc}
+use Rattle.std.specs.Prelude.{◌≡◌, Bool, true, false, cond, List, [], ◌∷◌, ℕ, zero, suc, Option, Some, None}
 use Rattle.enc_number.specs.Refusals as refusal
-use Rattle.type_provider.specs.declared.Found.{Found}
-use Rattle.type_provider.specs.declared.Found.TheVariants.{At, Nothing}
 use Rattle.type_book.specs.Book.{is_type, type_name_of}
 use Rattle.type_provider.specs.Find.{find}
 use Rattle.type_category.specs.declared.type_category.AdsTypeCategory.{AdsTypeCategory}
@@ -43,9 +41,9 @@ unfoldable pub is_followed : Bool → List ℕ → ℕ → ℕ → Bool
 is_followed references book width n = goes_on references (category_of book width n)
 
 -- on to the block that the type name of block b was found at, or 7 with block b
-unfoldable pub chain_onward : (ℕ → Resolved) → ℕ → Found → Resolved
-chain_onward go b (At u) = go u
-chain_onward go b Nothing = NotFound b
+unfoldable pub chain_onward : (ℕ → Resolved) → ℕ → Option ℕ → Resolved
+chain_onward go b (Some u) = go u
+chain_onward go b None = NotFound b
 
 -- the block at which the chain from block t ends, in at most k look-ups, where `goes` says from which blocks it goes on
 unfoldable pub follow : (ℕ → Bool) → List ℕ → ℕ → ℕ → Resolved

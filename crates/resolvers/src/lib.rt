@@ -14,7 +14,6 @@ ghost use Rattle.resolvers.specs.Calls.{resolution_numbers, resolution, root_res
 use type_book_check::{GivenRoot, LACKING_ROOT, RootCheck};
 use type_category::type_category::AdsTypeCategory;
 use type_index::Trust;
-use type_provider::Found;
 
 // The maximum number of look-ups on a chain of aliases, or of aliases and references (the Rust's MAX_INDIRECTION_DEPTH is the same
 // number). A cycle in the book ends there.
@@ -61,7 +60,7 @@ fn is_followed(book: &[u8], width: u8, n: u32, references: bool) -> bool
 }
 
 // The type that block b names, as a field, as an array or as an alias, with what the call knows of its index.
-pub fn named_by(book: &[u8], index: &[u32], trust: Trust, b: u32) -> Found
+pub fn named_by(book: &[u8], index: &[u32], trust: Trust, b: u32) -> Option<u32>
     requires { ValidBook book.now × Trusted book.now index.now trust }
     ensures { found_numbers result ≡ found_numbers (find book.now (type_name_of book.now b)) }
 {
@@ -69,7 +68,7 @@ pub fn named_by(book: &[u8], index: &[u32], trust: Trust, b: u32) -> Found
 }
 
 // The same with any index.
-pub fn named_in(book: &[u8], index: &[u32], b: u32) -> Found
+pub fn named_in(book: &[u8], index: &[u32], b: u32) -> Option<u32>
     requires { ValidBook book.now }
     ensures { found_numbers result ≡ found_numbers (find book.now (type_name_of book.now b)) }
 {
@@ -87,7 +86,7 @@ fn follow(book: &[u8], index: &[u32], trust: Trust, width: u8, t: u32, reference
             return Resolved::Base(at);
         }
         let found = named_by(book, index, trust, at);
-        let Found::At(u) = found else {
+        let Some(u) = found else {
             return Resolved::NotFound(at);
         };
         at = u;
@@ -125,7 +124,7 @@ pub fn look_up_in(book: &[u8], index: &[u32], width: u8, b: u32) -> Resolved
     ensures { LookedUp book.now width b result }
 {
     let found = named_in(book, index, b);
-    let Found::At(u) = found else {
+    let Some(u) = found else {
         return Resolved::NotFound(b);
     };
     resolve_alias_in(book, index, width, u)

@@ -1,4 +1,5 @@
 -- A name whose hash is not marked is that of no field before, and what that means for the bits. Assumes nothing.
+use Rattle.std.specs.Prelude.{Option, Some, None}
 use mathlib.Core.Path.{◌≡◌, refl, sym, ◌∙◌}
 use mathlib.Core.Bool.{Bool, true, false}
 use mathlib.Core.List.{List}
@@ -12,8 +13,6 @@ use lib.Dec.{eqb, ltb}
 use borrow.Author.Tests.{ltb-true, ltb-false}
 use Rattle.type_book.specs.Book.{fields_of, name_of, same_name}
 use Rattle.type_book.proofs.Names.{same_eq, same_refl}
-use Rattle.type_provider.specs.declared.Found.{Found}
-use Rattle.type_provider.specs.declared.Found.TheVariants.{At, Nothing}
 use Rattle.ser_named_blocks.specs.Named.{named_from, field_named}
 use Rattle.type_marks.proofs.Laws.{bit_is}
 use Rattle.type_marks.specs.Marks.{hash_of, bit_of, BitSet, is_marked, Marked}
@@ -21,7 +20,7 @@ use Rattle.ser_first_fields.specs.Firsts.{found_block, Met, Firsts, Noted}
 
 -- the block at place i is the first of a name that none before it has
 first-at : (book name : List ℕ) (n k i : ℕ) → i < k → ((j : ℕ) → j < i → same_name (name_of book (n + j)) name ≡ false) → same_name (name_of book (n + i)) name ≡ true
-    → named_from book name n k ≡ At (n + i)
+    → named_from book name n k ≡ Some (n + i)
 unfolding named_from
 first-at book name n zero i l before here = absurd (omega arith)
 first-at book name n (suc k) zero l before here = let e : n + 0 ≡ n = omega arith in rw (e) (rw (rw e at here))
@@ -59,14 +58,14 @@ module _ (book : List ℕ) (t k c i : ℕ) (names : List ℕ) (met : Met book t 
       note_new q o l names' firsts' m b =
           let free : is_marked names (hash_of (name_of book (t + 1 + i))) ≡ false = rw (← en, ← eh) (sym eg ∙ q) in
           let class : hash_of (name_of book (t + 1 + i)) % k ≡ c = rw (← en, ← eh) o in
-          let own : field_named book t (name_of book (t + 1 + i)) ≡ At (t + 1 + i) = first-at book (name_of book (t + 1 + i)) (t + 1) (fields_of book t) i l (other class free) (same_refl (name_of book (t + 1 + i))) in
+          let own : field_named book t (name_of book (t + 1 + i)) ≡ Some (t + 1 + i) = first-at book (name_of book (t + 1 + i)) (t + 1) (fields_of book t) i l (other class free) (same_refl (name_of book (t + 1 + i))) in
           record {
             met = met-more names' m.kept (λ _. rw (← en, ← eh) m.here);
             firsts_are = record { at = λ j s. by own b j s (eqb j i) refl };
           }
         where
-          by : {firsts' : List ℕ} → field_named book t (name_of book (t + 1 + i)) ≡ At (t + 1 + i) → BitSet firsts i firsts' → (j : ℕ) → bit_of firsts' j ≡ true → (e : Bool) → eqb j i ≡ e
-              → field_named book t (name_of book (t + 1 + j)) ≡ At (t + 1 + j)
+          by : {firsts' : List ℕ} → field_named book t (name_of book (t + 1 + i)) ≡ Some (t + 1 + i) → BitSet firsts i firsts' → (j : ℕ) → bit_of firsts' j ≡ true → (e : Bool) → eqb j i ≡ e
+              → field_named book t (name_of book (t + 1 + j)) ≡ Some (t + 1 + j)
           by own b j s true e = rw (eqb-true j i e) own
           by own b j s false e = f.at j (sym (b.others j (eqb-false j i e)) ∙ s)
 
@@ -99,22 +98,22 @@ enough-bits book t n len e l = omega arith
 
 -- ---- by a name
 
-pub block_at : (x : Found) (f : ℕ) → x ≡ At f → f ≡ found_block x
+pub block_at : (x : Option ℕ) (f : ℕ) → x ≡ Some f → f ≡ found_block x
 unfolding found_block
 block_at x f e = rw e
 
-pub block_none : (x : Found) → x ≡ Nothing → 0 ≡ found_block x
+pub block_none : (x : Option ℕ) → x ≡ None → 0 ≡ found_block x
 unfolding found_block
 block_none x e = rw e
 
-pub block-named : (book : List ℕ) (t : ℕ) (name : List ℕ) (x : Found) → x ≡ field_named book t name → (r : ℕ) → r ≡ found_block x → r ≡ found_block (field_named book t name)
+pub block-named : (book : List ℕ) (t : ℕ) (name : List ℕ) (x : Option ℕ) → x ≡ field_named book t name → (r : ℕ) → r ≡ found_block x → r ≡ found_block (field_named book t name)
 block-named book t name x ex r er = er ∙ rw ex
 
 pub named-first : (book : List ℕ) (t f : ℕ) (firsts : List ℕ) → Firsts book t firsts → t < f → (b : Bool) → b ≡ bit_of firsts (f - t - 1) → b ≡ true → f ≡ found_block (field_named book t (name_of book f))
 unfolding found_block
 named-first book t f firsts x l b eb h =
     let z : t + 1 + (f - t - 1) ≡ f = omega arith in
-    let y : field_named book t (name_of book f) ≡ At f = (rw z at (x.at (f - t - 1) (sym eb ∙ h))) in
+    let y : field_named book t (name_of book f) ≡ Some f = (rw z at (x.at (f - t - 1) (sym eb ∙ h))) in
     rw y
 
 pub named-searched : (book : List ℕ) (t f : ℕ) (name : List ℕ) → name ≡ name_of book f → (r : ℕ) → r ≡ found_block (field_named book t name) → r ≡ found_block (field_named book t (name_of book f))

@@ -11,7 +11,6 @@ use enc_zeros::clear_numbers;
 use ser_named_blocks::field_by_name;
 use type_book::block;
 use type_marks::{bit, hash, is_marked, mark, set_bit};
-use type_provider::Found;
 
 // Field i of type block t, if its name's hash is of class c of k classes, after the fields before it, whose names' hashes of that class are
 // marked in `names`: it is the first of its name if its own hash is not marked.
@@ -83,12 +82,12 @@ pub fn note_firsts(book: &[u8], t: u32, firsts: &mut [u32])
 }
 
 // The block of a field that was found, 0 where none was. A number goes from call to call in a register, and Found through memory.
-fn block_of(found: Found) -> u32
+fn block_of(found: Option<u32>) -> u32
     ensures { result ≡ found_block found }
 {
     match found {
-        Found::At(f) => f,
-        Found::Nothing => 0,
+        Some(f) => f,
+        None => 0,
     }
 }
 

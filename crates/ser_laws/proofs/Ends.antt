@@ -1,4 +1,5 @@
 -- The walk of a write follows the walk over the form of its tape: it never meets 16, and ends where that ends. Assumes nothing.
+use Rattle.std.specs.Prelude.{Option, Some, None}
 use mathlib.Core.Path.{◌≡◌, refl, ap, ◌∙◌}
 use mathlib.Core.Bool.{Bool, true, false, cond, ◌&&◌}
 use mathlib.Core.List.{List}
@@ -8,8 +9,6 @@ use borrow.Author.Tests.{eqb-true, eqb-false, eq-eqb, ne_eqb}
 use lib.ListN.{length}
 use lib.Dec.{leb, ltb, eqb}
 use Rattle.type_book.specs.Book.{size_of, count_of}
-use Rattle.type_provider.specs.declared.Found.{Found}
-use Rattle.type_provider.specs.declared.Found.TheVariants as found
 use Rattle.type_category.specs.Category.{category_of}
 use Rattle.resolvers.specs.Resolve.{look_up, resolve_alias, resolved_numbers}
 use Rattle.resolvers.specs.declared.Resolved.{Resolved}
@@ -28,10 +27,6 @@ use Rattle.tape.specs.Record.{step_at}
 use Rattle.tape.specs.Text.{record_text}
 use Rattle.tape.specs.declared.record.Record.{Record}
 use Rattle.tape.specs.declared.cursor.Cursor.{Cursor}
-use Rattle.tape.specs.declared.cursor.NextRecord.{NextRecord}
-use Rattle.tape.specs.declared.cursor.NextRecord.TheVariants as step
-use Rattle.tape_form.specs.declared.form.FormPlace.{FormPlace}
-use Rattle.tape_form.specs.declared.form.FormPlace.TheVariants.{At, Broken}
 use Rattle.tape_form.specs.Ranges.{declares, only_a, empty, names_block, opens, closes, is_key, leaf_fine}
 use Rattle.tape_form.specs.Ranges as ranges
 use Rattle.tape_form.specs.Form.{formed, with_record, form_onward, closing_record, several, member_at, value_at, at_tape_end}
@@ -79,35 +74,35 @@ ends-placed n from size bytes (refused k b part) p = ends-refused n k b _ p.ends
 
 -- ---- the walk over the form, taken apart
 
-broken_at : {X : Type 0} {next : Cursor} → Broken ≡ At next → X
+broken_at : {X : Type 0} {next : Cursor} → None ≡ Some next → X
 broken_at h = different cc
 
-record Took (s : NextRecord) (f : Record → Cursor → FormPlace) (next : Cursor) : Type 0 where
+record Took (s : Option (Record × Cursor)) (f : Record → Cursor → Option Cursor) (next : Cursor) : Type 0 where
   r : Record
   mid : Cursor
-  is : s ≡ step.Record r mid
-  goes : f r mid ≡ At next
+  is : s ≡ Some (r, mid)
+  goes : f r mid ≡ Some next
 
-took : (s : NextRecord) (f : Record → Cursor → FormPlace) (next : Cursor) → with_record s f ≡ At next → Took s f next
+took : (s : Option (Record × Cursor)) (f : Record → Cursor → Option Cursor) (next : Cursor) → with_record s f ≡ Some next → Took s f next
 unfolding with_record
-took (step.Record r mid) f next h = record { r = r; mid = mid; is = refl; goes = h }
-took step.End f next h = broken_at h
+took (Some (r, mid)) f next h = record { r = r; mid = mid; is = refl; goes = h }
+took None f next h = broken_at h
 
-record Went (p : FormPlace) (f : form.ChildForm) (next : Cursor) : Type 0 where
+record Went (p : Option Cursor) (f : form.ChildForm) (next : Cursor) : Type 0 where
   mid : Cursor
-  is : p ≡ At mid
-  goes : f mid ≡ At next
+  is : p ≡ Some mid
+  goes : f mid ≡ Some next
 
-went_on : (p : FormPlace) (f : form.ChildForm) (next : Cursor) → form_onward p f ≡ At next → Went p f next
+went_on : (p : Option Cursor) (f : form.ChildForm) (next : Cursor) → form_onward p f ≡ Some next → Went p f next
 unfolding form_onward
-went_on (At mid) f next h = record { mid = mid; is = refl; goes = h }
-went_on Broken f next h = broken_at h
+went_on (Some mid) f next h = record { mid = mid; is = refl; goes = h }
+went_on None f next h = broken_at h
 
-record Passed (b : Bool) (p : FormPlace) (next : Cursor) : Type 0 where
+record Passed (b : Bool) (p : Option Cursor) (next : Cursor) : Type 0 where
   test : b ≡ true
-  goes : p ≡ At next
+  goes : p ≡ Some next
 
-passed : (b : Bool) (p : FormPlace) (next : Cursor) → cond b p Broken ≡ At next → Passed b p next
+passed : (b : Bool) (p : Option Cursor) (next : Cursor) → cond b p None ≡ Some next → Passed b p next
 passed true p next h = record { test = refl; goes = h }
 passed false p next h = broken_at h
 
@@ -156,26 +151,26 @@ unfolding ranges.leaf_ranges
 three-no-leaf book text r = refl
 
 -- what follows a value's record in the form, by its kind
-module _ (c : form.FormCtx) (child : form.ChildForm) (r : Record) (mid next : Cursor) (h : form.body_by c child (form.record_shape c r) mid ≡ At next) where
-  array_form : r.kind ≡ 1 → several c child 2 r.a mid ≡ At next
+module _ (c : form.FormCtx) (child : form.ChildForm) (r : Record) (mid next : Cursor) (h : form.body_by c child (form.record_shape c r) mid ≡ Some next) where
+  array_form : r.kind ≡ 1 → several c child 2 r.a mid ≡ Some next
   unfolding form.record_shape form.body_by
   array_form e = by (opens c.book 1 r) refl
     where
-      by : (b : Bool) → opens c.book 1 r ≡ b → several c child 2 r.a mid ≡ At next
+      by : (b : Bool) → opens c.book 1 r ≡ b → several c child 2 r.a mid ≡ Some next
       by true q = rw q at h
       by false q =
           let o : opens c.book 3 r ≡ false = opens-other c.book 3 r (λ z. omega (arith, z, e)) in
           let l : leaf_fine c.book c.text r ≡ false = no-leaf c.book c.text r 1 e (one-no-leaf c.book c.text r) in
           broken_at (rw (q, o, l) at h)
 
-  map_form : r.kind ≡ 3 → several c (member_at c child) 5 r.a mid ≡ At next
+  map_form : r.kind ≡ 3 → several c (member_at c child) 5 r.a mid ≡ Some next
   unfolding form.record_shape form.body_by
   map_form e = by (opens c.book 3 r) refl
     where
       o : opens c.book 1 r ≡ false
       o = opens-other c.book 1 r (λ z. omega (arith, z, e))
 
-      by : (b : Bool) → opens c.book 3 r ≡ b → several c (member_at c child) 5 r.a mid ≡ At next
+      by : (b : Bool) → opens c.book 3 r ≡ b → several c (member_at c child) 5 r.a mid ≡ Some next
       by true q = rw (o, q) at h
       by false q =
           let l : leaf_fine c.book c.text r ≡ false = no-leaf c.book c.text r 3 e (three-no-leaf c.book c.text r) in
@@ -196,7 +191,7 @@ module _ (c : form.FormCtx) (child : form.ChildForm) (r : Record) (mid next : Cu
       u = opens-other c.book 3 r b
 
       by : (b : Bool) → leaf_fine c.book c.text r ≡ b → LeafForm
-      by true q = let z : At mid ≡ At next = rw (o, u, q) at h in record { fine = q; same = let y : mid ≡ next = cc in ap (λ (i : Cursor). i.at) y }
+      by true q = let z : Some mid ≡ Some next = rw (o, u, q) at h in record { fine = q; same = let y : mid ≡ next = cc in ap (λ (i : Cursor). i.at) y }
       by false q = broken_at (rw (o, u, q) at h)
 
 -- ---- a leaf
@@ -240,20 +235,20 @@ form_ctx c = form.form_ctx c.book c.tape c.text
 -- where the form's walk of a value ends, a child ends
 abbrev Follows : WriteCtx → ℕ → ChildWrite → Type 0
 Follows c left child =
-    (i : Content ℕ) (at next : Cursor) (bytes : List ℕ) → value_at (form_ctx c) left at ≡ At next → EndsAt next.at (child i at bytes)
+    (i : Content ℕ) (at next : Cursor) (bytes : List ℕ) → value_at (form_ctx c) left at ≡ Some next → EndsAt next.at (child i at bytes)
 
 ends-taken : (tape : List ℕ) (n : ℕ) (at : Cursor) (bytes : List ℕ) (f : Record → Cursor → Outcome) (r : Record) (mid : Cursor)
-    → step_at tape at.at ≡ step.Record r mid → EndsAt n (f r mid) → EndsAt n (taken tape at bytes f)
+    → step_at tape at.at ≡ Some (r, mid) → EndsAt n (f r mid) → EndsAt n (taken tape at bytes f)
 unfolding taken taken_by
 ends-taken tape n at bytes f r mid e p = rw e p
 
-ends-closing : (c : WriteCtx) (k : ℕ) (at next : Cursor) (bytes : List ℕ) → closing_record (form_ctx c) k at ≡ At next → EndsAt next.at (taken c.tape at bytes (end_record_by k bytes))
+ends-closing : (c : WriteCtx) (k : ℕ) (at next : Cursor) (bytes : List ℕ) → closing_record (form_ctx c) k at ≡ Some next → EndsAt next.at (taken c.tape at bytes (end_record_by k bytes))
 unfolding closing_record end_record_by
 ends-closing c k at next bytes h =
     let t = took (step_at c.tape at.at) _ next h in
-    let p = passed (closes k t.r) (At t.mid) next t.goes in
+    let p = passed (closes k t.r) (Some t.mid) next t.goes in
     let q : t.r.kind ≡ k = closes-kind k t.r p.test in
-    let e : At t.mid ≡ At next = p.goes in
+    let e : Some t.mid ≡ Some next = p.goes in
     let m : t.mid ≡ next = cc in
     ends-taken c.tape next.at at bytes _ t.r t.mid t.is (rw (eq-eqb t.r.kind k q) (ends-went next.at t.mid bytes (ap (λ (i : Cursor). i.at) m)))
 
@@ -266,7 +261,7 @@ ends-checked n bytes check.TooLong o p = ends-refused n 8 0 bytes (λ e. omega a
 module _ (c : WriteCtx) (left : ℕ) (child : ChildWrite) (ih : Follows c left child) where
   -- ---- a map
 
-  field-ends : (at next : Cursor) (bytes : List ℕ) → value_at (form_ctx c) left at ≡ At next → (a : FieldAnswer) → EndsAt next.at (field_write child at bytes a)
+  field-ends : (at next : Cursor) (bytes : List ℕ) → value_at (form_ctx c) left at ≡ Some next → (a : FieldAnswer) → EndsAt next.at (field_write child at bytes a)
   unfolding field_write field_numbers
   field-ends at next bytes h (answer.Field f) =
       ends_if next.at (leb (f.offset + f.size) (length bytes)) _ 10 0 bytes (λ e. omega arith)
@@ -274,12 +269,12 @@ module _ (c : WriteCtx) (left : ℕ) (child : ChildWrite) (ih : Follows c left c
   field-ends at next bytes h (answer.NotFound b) = ends-refused next.at 7 b bytes (λ e. omega arith)
   field-ends at next bytes h answer.TooLong = ends-refused next.at 8 0 bytes (λ e. omega arith)
 
-  found-ends : (at next : Cursor) (bytes : List ℕ) → value_at (form_ctx c) left at ≡ At next → (f : Found) → EndsAt next.at (found_value child c at bytes f)
+  found-ends : (at next : Cursor) (bytes : List ℕ) → value_at (form_ctx c) left at ≡ Some next → (f : Option ℕ) → EndsAt next.at (found_value child c at bytes f)
   unfolding found_value
-  found-ends at next bytes h (found.At f) = field-ends at next bytes h (resolve_field c.book c.width f)
-  found-ends at next bytes h found.Nothing = ends-refused next.at 18 0 bytes (λ e. omega arith)
+  found-ends at next bytes h (Some f) = field-ends at next bytes h (resolve_field c.book c.width f)
+  found-ends at next bytes h None = ends-refused next.at 18 0 bytes (λ e. omega arith)
 
-  key-ends : (t : ℕ) (at next : Cursor) (bytes : List ℕ) → member_at (form_ctx c) (value_at (form_ctx c) left) at ≡ At next → EndsAt next.at (key_of child c t at bytes)
+  key-ends : (t : ℕ) (at next : Cursor) (bytes : List ℕ) → member_at (form_ctx c) (value_at (form_ctx c) left) at ≡ Some next → EndsAt next.at (key_of child c t at bytes)
   unfolding member_at key_of key_by
   key-ends t at next bytes h =
       let k = took (step_at c.tape at.at) _ next h in
@@ -288,7 +283,7 @@ module _ (c : WriteCtx) (left : ℕ) (child : ChildWrite) (ih : Follows c left c
       ends-taken c.tape next.at at bytes _ k.r k.mid k.is
       (rw (eq-eqb k.r.kind 4 q) (found-ends k.mid next bytes p.goes (field_named c.book t (record_text c.book c.text k.r))))
 
-  keys-end : (t k : ℕ) (at next : Cursor) (bytes : List ℕ) → several (form_ctx c) (member_at (form_ctx c) (value_at (form_ctx c) left)) 5 k at ≡ At next
+  keys-end : (t k : ℕ) (at next : Cursor) (bytes : List ℕ) → several (form_ctx c) (member_at (form_ctx c) (value_at (form_ctx c) left)) 5 k at ≡ Some next
       → EndsAt next.at (keys_from child c t k at bytes)
   unfolding several keys_from
   keys-end t zero at next bytes h = ends-closing c 5 at next bytes h
@@ -296,7 +291,7 @@ module _ (c : WriteCtx) (left : ℕ) (child : ChildWrite) (ih : Follows c left c
       let w = went_on (member_at (form_ctx c) (value_at (form_ctx c) left) at) _ next h in
       ends-then next.at w.mid _ _ (key-ends t at w.mid bytes w.is) (λ mid. keys-end t k w.mid next mid w.goes)
 
-  map-ends : (t k : ℕ) (at next : Cursor) (bytes : List ℕ) → several (form_ctx c) (member_at (form_ctx c) (value_at (form_ctx c) left)) 5 k at ≡ At next → (s : Shape)
+  map-ends : (t k : ℕ) (at next : Cursor) (bytes : List ℕ) → several (form_ctx c) (member_at (form_ctx c) (value_at (form_ctx c) left)) 5 k at ≡ Some next → (s : Shape)
       → EndsAt next.at (map_by child c t k at bytes s)
   unfolding map_by
   map-ends t k at next bytes h shape.Map =
@@ -307,7 +302,7 @@ module _ (c : WriteCtx) (left : ℕ) (child : ChildWrite) (ih : Follows c left c
 
   -- ---- an array
 
-  elements-end : (item : Content ℕ) (stride n i from k : ℕ) (at next : Cursor) (bytes : List ℕ) → several (form_ctx c) (value_at (form_ctx c) left) 2 k at ≡ At next
+  elements-end : (item : Content ℕ) (stride n i from k : ℕ) (at next : Cursor) (bytes : List ℕ) → several (form_ctx c) (value_at (form_ctx c) left) 2 k at ≡ Some next
       → EndsAt next.at (elements_write child c item stride n i from k at bytes)
   unfolding several elements_write
   elements-end item stride n i from zero at next bytes h =
@@ -319,8 +314,8 @@ module _ (c : WriteCtx) (left : ℕ) (child : ChildWrite) (ih : Follows c left c
       (λ mid. elements-end item stride n (i + 1) (from + stride) k w.mid next mid w.goes))
 
   -- a value's record, where the form has one
-  module _ (at next : Cursor) (r : Record) (mid : Cursor) (s : step_at c.tape at.at ≡ step.Record r mid)
-      (h : form.body_by (form_ctx c) (value_at (form_ctx c) left) (form.record_shape (form_ctx c) r) mid ≡ At next) where
+  module _ (at next : Cursor) (r : Record) (mid : Cursor) (s : step_at c.tape at.at ≡ Some (r, mid))
+      (h : form.body_by (form_ctx c) (value_at (form_ctx c) left) (form.record_shape (form_ctx c) r) mid ≡ Some next) where
     dimension_ends : (d t e : ℕ) (bytes : List ℕ) → EndsAt next.at (dimension_write child c d t e at bytes)
     unfolding dimension_write elements_by
     dimension_ends d t e bytes =
@@ -379,13 +374,13 @@ walk-follows c (suc left) i at next bytes h = item_ends c left (write_walk c lef
 
 -- ---- the laws
 
-ends-formed : (c : WriteCtx) (t : ℕ) (image : List ℕ) (p : FormPlace) → value_at (form_ctx c) 64 (record { at = 0 }) ≡ p → at_tape_end (length c.tape) p ≡ true
+ends-formed : (c : WriteCtx) (t : ℕ) (image : List ℕ) (p : Option Cursor) → value_at (form_ctx c) 64 (record { at = 0 }) ≡ p → at_tape_end (length c.tape) p ≡ true
     → EndsAt (length c.tape) (type_write c t image)
 unfolding at_tape_end type_write
-ends-formed c t image (At next) e h =
+ends-formed c t image (Some next) e h =
     let q : next.at ≡ length c.tape = eqb-true next.at (length c.tape) h in
     rw q at (walk-follows c 64 (whole t) (record { at = 0 }) next image e)
-ends-formed c t image Broken e h = different cc
+ends-formed c t image None e h = different cc
 
 pub formed-ends : FormedEnds
 unfolding formed

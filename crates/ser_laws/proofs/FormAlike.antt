@@ -1,4 +1,5 @@
 -- The form of a tape does not depend on byte 1 of its texts, as long as that is 0 or 1. Assumes nothing.
+use Rattle.std.specs.Prelude.{Option, Some, None}
 use mathlib.Core.Path.{◌≡◌, refl, sym, ap, ◌∙◌}
 use mathlib.Core.Bool.{Bool, true, false, cond}
 use mathlib.Core.List.{List}
@@ -10,9 +11,6 @@ use lib.Dec.{leb, eqb}
 use Rattle.tape.specs.Record.{record_of, step_at}
 use Rattle.tape.specs.declared.record.Record.{Record}
 use Rattle.tape.specs.declared.cursor.Cursor.{Cursor}
-use Rattle.tape.specs.declared.cursor.NextRecord.TheVariants as step
-use Rattle.tape_form.specs.declared.form.FormPlace.{FormPlace}
-use Rattle.tape_form.specs.declared.form.FormPlace.TheVariants.{At, Broken}
 use Rattle.tape_form.specs.Ranges.{unused, undeclared, declares, block_is, only_a, empty, names_block, opens, closes, is_key, textual, leaf_ranges, leaf_fine}
 use Rattle.tape_form.specs.Form.{FormCtx, form_ctx, ChildForm, with_record, form_onward, closing_record, several, member_at, FormShape, elements, members, alone, wrong, record_shape, body_by, value_at, formed}
 use Rattle.ser_laws.specs.Alike.{Records, SameButEnd}
@@ -94,28 +92,28 @@ module _ (r s : Record) (w : SameButEnd r s) where
 
 -- ---- two walks over the form that come to the same place, the end of a record
 
-abbrev WholePlace : FormPlace → Type 0
-WholePlace (At next) = next.at % 24 ≡ 0
-WholePlace Broken = Unit {0}
+abbrev WholePlace : Option Cursor → Type 0
+WholePlace (Some next) = next.at % 24 ≡ 0
+WholePlace None = Unit {0}
 
-record SamePlace (p q : FormPlace) : Type 0 where
+record SamePlace (p q : Option Cursor) : Type 0 where
   is : p ≡ q
   whole-end : WholePlace p
 
-same_broken : SamePlace Broken Broken
+same_broken : SamePlace None None
 same_broken = record { is = refl; whole-end = tt }
 
-same_at : (next : Cursor) → next.at % 24 ≡ 0 → SamePlace (At next) (At next)
+same_at : (next : Cursor) → next.at % 24 ≡ 0 → SamePlace (Some next) (Some next)
 same_at next h = record { is = refl; whole-end = h }
 
-same_cond : (t : Bool) {p q : FormPlace} → SamePlace p q → SamePlace (cond t p Broken) (cond t q Broken)
+same_cond : (t : Bool) {p q : Option Cursor} → SamePlace p q → SamePlace (cond t p None) (cond t q None)
 same_cond true h = h
 same_cond false h = same_broken
 
-same-onward : (p q : FormPlace) (f g : ChildForm) → SamePlace p q → ((next : Cursor) → next.at % 24 ≡ 0 → SamePlace (f next) (g next)) → SamePlace (form_onward p f) (form_onward q g)
+same-onward : (p q : Option Cursor) (f g : ChildForm) → SamePlace p q → ((next : Cursor) → next.at % 24 ≡ 0 → SamePlace (f next) (g next)) → SamePlace (form_onward p f) (form_onward q g)
 unfolding form_onward
-same-onward (At next) q f g h k = rw (← h.is) (k next h.whole-end)
-same-onward Broken q f g h k = rw (← h.is) same_broken
+same-onward (Some next) q f g h k = rw (← h.is) (k next h.whole-end)
+same-onward None q f g h k = rw (← h.is) same_broken
 
 module _ (book text tape tape' : List ℕ) (alike : Records SameButEnd tape tape') where
   abbrev c : FormCtx
@@ -124,15 +122,15 @@ module _ (book text tape tape' : List ℕ) (alike : Records SameButEnd tape tape
   abbrev c' : FormCtx
   c' = form_ctx book tape' text
 
-  same_taken : (here : Cursor) (f f' : Record → Cursor → FormPlace) → here.at % 24 ≡ 0
+  same_taken : (here : Cursor) (f f' : Record → Cursor → Option Cursor) → here.at % 24 ≡ 0
       → ((r s : Record) (next : Cursor) → SameButEnd r s → next.at % 24 ≡ 0 → SamePlace (f r next) (f' s next))
       → SamePlace (with_record (step_at tape here.at) f) (with_record (step_at tape' here.at) f')
   unfolding with_record step_at
   same_taken here f f' h g = rw (← alike.same_length) (by (leb (here.at + 24) (length tape)) refl)
     where
       by : (t : Bool) → leb (here.at + 24) (length tape) ≡ t
-          → SamePlace (with_record (cond t (step.Record (record_of (drop here.at tape)) (record { at = here.at + 24 })) step.End) f)
-          (with_record (cond t (step.Record (record_of (drop here.at tape')) (record { at = here.at + 24 })) step.End) f')
+          → SamePlace (with_record (cond t (Some (record_of (drop here.at tape), record { at = here.at + 24 })) None) f)
+          (with_record (cond t (Some (record_of (drop here.at tape'), record { at = here.at + 24 })) None) f')
       by true q = g _ _ _ (alike.each here.at h (leb-true (here.at + 24) (length tape) q)) (omega arith)
       by false q = same_broken
 

@@ -1,4 +1,5 @@
 -- A write changes no byte outside the ranges of its leaves, step by step along the walk. Assumes nothing.
+use Rattle.std.specs.Prelude.{Option, Some, None}
 use mathlib.Core.Path.{◌≡◌, refl, sym}
 use mathlib.Core.Bool.{Bool, true, false, cond}
 use mathlib.Core.List.{List, [], ◌∷◌, ◌++◌}
@@ -8,8 +9,6 @@ use borrow.Author.Tests.{leb-true, ltb-true}
 use lib.ListN.{length}
 use lib.Dec.{leb, ltb, eqb}
 use Rattle.type_book.specs.Book.{size_of, count_of}
-use Rattle.type_provider.specs.declared.Found.{Found}
-use Rattle.type_provider.specs.declared.Found.TheVariants as found
 use Rattle.type_category.specs.Category.{category_of}
 use Rattle.resolvers.specs.Resolve.{look_up, resolved_numbers}
 use Rattle.resolvers.specs.declared.Resolved.{Resolved}
@@ -29,8 +28,6 @@ use Rattle.tape.specs.Record.{step_at}
 use Rattle.tape.specs.Text.{record_text}
 use Rattle.tape.specs.declared.record.Record.{Record}
 use Rattle.tape.specs.declared.cursor.Cursor.{Cursor}
-use Rattle.tape.specs.declared.cursor.NextRecord.{NextRecord}
-use Rattle.tape.specs.declared.cursor.NextRecord.TheVariants as step
 use Rattle.ser_leaf.specs.Leaf.{Leaf, holds}
 use Rattle.ser_leaf.specs.Leaf as leaf
 use Rattle.ser.specs.declared.array_writer.Entered.TheVariants as entered
@@ -108,10 +105,10 @@ agrees-placed from at size bytes l (refused n b part) t a = agrees-refused from 
 -- ---- records
 
 agrees-by : (from : ℕ) (bytes : List ℕ) (f : Record → Cursor → Outcome) (g : Record → Cursor → Touched)
-    → ((r : Record) (next : Cursor) → Agrees from bytes (f r next) (g r next)) → (s : NextRecord) → Agrees from bytes (taken_by bytes f s) (record_by g s)
+    → ((r : Record) (next : Cursor) → Agrees from bytes (f r next) (g r next)) → (s : Option (Record × Cursor)) → Agrees from bytes (taken_by bytes f s) (record_by g s)
 unfolding taken_by record_by
-agrees-by from bytes f g h (step.Record r next) = h r next
-agrees-by from bytes f g h step.End = agrees-refused from bytes 16 0 bytes nowhere
+agrees-by from bytes f g h (Some (r, next)) = h r next
+agrees-by from bytes f g h None = agrees-refused from bytes 16 0 bytes nowhere
 
 module _ (c : WriteCtx) (from : ℕ) (bytes : List ℕ) where
   agrees-taken : (at : Cursor) (f : Record → Cursor → Outcome) (g : Record → Cursor → Touched)
@@ -158,10 +155,10 @@ module _ (c : WriteCtx) (child : ChildWrite) (marks : touched.ChildTouched) (ih 
   field-agrees at from bytes (answer.NotFound b) = agrees-refused from bytes 7 b bytes nowhere
   field-agrees at from bytes answer.TooLong = agrees-refused from bytes 8 0 bytes nowhere
 
-  found-agrees : (at : Cursor) (from : ℕ) (bytes : List ℕ) (f : Found) → Agrees from bytes (found_value child c at bytes f) (found_touched marks c at from f)
+  found-agrees : (at : Cursor) (from : ℕ) (bytes : List ℕ) (f : Option ℕ) → Agrees from bytes (found_value child c at bytes f) (found_touched marks c at from f)
   unfolding found_value found_touched
-  found-agrees at from bytes (found.At f) = field-agrees at from bytes (resolve_field c.book c.width f)
-  found-agrees at from bytes found.Nothing = agrees-refused from bytes 18 0 bytes nowhere
+  found-agrees at from bytes (Some f) = field-agrees at from bytes (resolve_field c.book c.width f)
+  found-agrees at from bytes None = agrees-refused from bytes 18 0 bytes nowhere
 
   key-agrees : (t : ℕ) (at : Cursor) (from : ℕ) (bytes : List ℕ) → Agrees from bytes (key_of child c t at bytes) (key_touched marks c t at from)
   unfolding key_of key_by key_touched

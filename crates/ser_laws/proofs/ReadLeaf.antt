@@ -1,4 +1,5 @@
 -- What a leaf is read as is in the ranges of its record. Assumes nothing.
+use Rattle.std.specs.Prelude.{Some}
 use mathlib.Core.Path.{◌≡◌, refl, ◌∙◌}
 use mathlib.Core.Bool.{Bool, true, false, cond}
 use mathlib.Core.List.{List, [], ◌∷◌, flat_map}
@@ -31,7 +32,6 @@ use Rattle.enc_windows_1252.specs.Text as windows1252
 use Rattle.enc_windows_1252.specs.Index.{code_point}
 use Rattle.enc_utf_16.specs.Decode as utf16
 use Rattle.type_book.specs.Book.{blocks, kind_of, is_type, size_of, type_id_of, fields_of, entries_of, value_of, same_name}
-use Rattle.type_provider.specs.declared.Found.TheVariants.{At}
 use Rattle.type_category.specs.Category.{category_of}
 use Rattle.time_types.specs.Counts.{count_width}
 use Rattle.type_book_check.specs.Check.{ValidBook}
@@ -223,7 +223,7 @@ module _ (book : List ℕ) (mem : List ℕ) (b : Bytes mem) where
       by (same_name (value_of book n) mem)
       (entry-fine other p (n + 1) k (λ j l. let e : n + suc j ≡ n + 1 + j = omega arith in rw e at (h (suc j) (omega arith))))
     where
-      by : (x : Bool) → FineValue book (entry_or (entry_from book mem (n + 1) k) other) → FineValue book (entry_or (cond x (At n) (entry_from book mem (n + 1) k)) other)
+      by : (x : Bool) → FineValue book (entry_or (entry_from book mem (n + 1) k) other) → FineValue book (entry_or (cond x (Some n) (entry_from book mem (n + 1) k)) other)
       by true q = record { fine = let e : n + 0 ≡ n = omega arith in rw e at (h 0 (omega arith)) }
       by false q = q
 

@@ -1,4 +1,5 @@
 -- What a read of a valid book emits are the records of a tree in its ranges and levels, where the text stands in the text buffer. Assumes nothing.
+use Rattle.std.specs.Prelude.{Option, Some, None}
 use mathlib.Core.Path.{◌≡◌, refl, sym, ap, ◌∙◌}
 use mathlib.Core.Bool.{Bool, true, false, cond}
 use mathlib.Core.List.{List, [], ◌∷◌, ◌++◌, append_assoc, append-nil}
@@ -13,8 +14,6 @@ use Rattle.enc_number.specs.Le.{Bytes}
 use Rattle.enc_number.proofs.ByteOrder.{le_value-below, bytes_drop}
 use Rattle.enc_utf_8.specs.Utf8.{well_formed}
 use Rattle.type_book.specs.Book.{blocks, kind_of, is_type, u32_at, size_of, fields_of, count_of, type_name_of}
-use Rattle.type_provider.specs.declared.Found.{Found}
-use Rattle.type_provider.specs.declared.Found.TheVariants as found
 use Rattle.type_provider.specs.Find.{find}
 use Rattle.type_book_check.specs.Check.{ValidBook}
 use Rattle.type_book_check.proofs.Valid.{valid-size, valid-below, valid-type}
@@ -92,12 +91,12 @@ of_typed book f n resolved.TooLong y h = record { typed = tt }
 pub base-typed : (book : List ℕ) (width n : ℕ) → is_type book n ≡ true → (u : ℕ) → resolve_alias book width n ≡ resolved.Base u → is_type book u ≡ true
 base-typed book width n y u e = (follow-ends (is_followed false book width) book 32 n u e).typed y
 
-found-typed : (book : List ℕ) (width f : ℕ) (x : Found) → find book (type_name_of book f) ≡ x → TypedField book (field_found book width f x)
+found-typed : (book : List ℕ) (width f : ℕ) (x : Option ℕ) → find book (type_name_of book f) ≡ x → TypedField book (field_found book width f x)
 unfolding field_found
-found-typed book width f (found.At n) e =
+found-typed book width f (Some n) e =
     let y = found_type book (type_name_of book f) n e in
     of_typed book f n (resolve_alias book width n) y (base-typed book width n y)
-found-typed book width f found.Nothing e = record { typed = tt }
+found-typed book width f None e = record { typed = tt }
 
 pub field-typed : (book : List ℕ) (width f : ℕ) → TypedField book (resolve_field book width f)
 unfolding resolve_field
@@ -426,12 +425,12 @@ module _ (book buffer : List ℕ) where
         element-by x g n y mem b (resolved.NotFound k) h = emits-refused (Value (suc left)) 7 k
         element-by x g n y mem b resolved.TooLong h = emits-refused (Value (suc left)) 8 0
 
-        array-by : (x : Typed) → GoodType book x → (mem : List ℕ) → Bytes mem → (f : Found) → find book (type_name_of book x.resolved) ≡ f → Emits (Value (suc left)) (array_by child c x mem f)
+        array-by : (x : Typed) → GoodType book x → (mem : List ℕ) → Bytes mem → (f : Option ℕ) → find book (type_name_of book x.resolved) ≡ f → Emits (Value (suc left)) (array_by child c x mem f)
         unfolding array_by resolved_numbers
-        array-by x g mem b (found.At n) e =
+        array-by x g mem b (Some n) e =
             let y = found_type book (type_name_of book x.resolved) n e in
             element-by x g n y mem b (resolve_alias book width n) (base-typed book width n y)
-        array-by x g mem b found.Nothing e = emits-refused (Value (suc left)) 7 x.resolved
+        array-by x g mem b None e = emits-refused (Value (suc left)) 7 x.resolved
 
         array-emits : (x : Typed) → GoodType book x → (mem : List ℕ) → Bytes mem → Emits (Value (suc left)) (array_of child c x mem)
         unfolding array_of

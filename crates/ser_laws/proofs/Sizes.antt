@@ -1,4 +1,5 @@
 -- A leaf that is written is as long as what there was. Assumes nothing.
+use Rattle.std.specs.Prelude.{Option, Some, None}
 use mathlib.Core.Path.{◌≡◌, refl, sym, ◌∙◌}
 use mathlib.Core.Bool.{Bool, true, false, cond, ◌&&◌}
 use mathlib.Core.List.{List}
@@ -11,8 +12,6 @@ use Rattle.enc_number.proofs.ByteOrder.{length-le_bytes}
 use Rattle.type_book.specs.Book.{size_of, type_id_of}
 use Rattle.type_id.specs.declared.AdsTypeId.{AdsTypeId}
 use Rattle.type_id.specs.declared.AdsTypeId.TheVariants.{UInt16, UInt32, UInt64}
-use Rattle.type_provider.specs.declared.Found.{Found}
-use Rattle.type_provider.specs.declared.Found.TheVariants.{At, Nothing}
 use Rattle.type_id.specs.TypeId.{id_width}
 use Rattle.enc_integer.specs.Integer.{integer_write_numbers, integer_value, fits_id, write_integer, integer_bytes}
 use Rattle.enc_integer.specs.declared.Integer.{Integer}
@@ -98,10 +97,10 @@ module _ (old : List ℕ) where
     sized-number v target.Enum = sized_integer _ v
     sized-number v target.Other = sized_integer _ v
 
-    sized-found : (f : Found) → Sized old (entry_by book old f)
+    sized-found : (f : Option ℕ) → Sized old (entry_by book old f)
     unfolding entry_by
-    sized-found (At n) = sized-exactly _
-    sized-found Nothing = sized-refused old 18
+    sized-found (Some n) = sized-exactly _
+    sized-found None = sized-refused old 18
 
     sized-entry : (name : List ℕ) → Sized old (entry_leaf book t name old)
     unfolding entry_leaf

@@ -1,4 +1,5 @@
 -- The record of a leaf that was read, written over the leaf's bytes, gives them back where they are kept. Assumes nothing.
+use Rattle.std.specs.Prelude.{Option, Some, None}
 use mathlib.Core.Path.{◌≡◌, refl, sym, ap, ◌∙◌}
 use mathlib.Core.Bool.{Bool, true, false, cond, not}
 use mathlib.Core.Logic.{◌⊎◌, ⊎_elim}
@@ -31,8 +32,6 @@ use Rattle.enc_float.proofs.Reals.{single-back, double-back}
 use Rattle.enc_windows_1252_encoder.proofs.Trips.{encode_decode}
 use Rattle.type_book.specs.Book.{blocks, is_type, flag_of, size_of, type_id_of, fields_of, entries_of, value_of, name_of}
 use Rattle.type_book.proofs.Names.{same_eq}
-use Rattle.type_provider.specs.declared.Found.{Found}
-use Rattle.type_provider.specs.declared.Found.TheVariants.{At, Nothing}
 use Rattle.type_category.specs.Category.{category_of}
 use Rattle.time_types.specs.Counts.{count_width}
 use Rattle.type_category.specs.declared.type_category.AdsTypeCategory.{AdsTypeCategory}
@@ -353,10 +352,10 @@ module _ (book buffer : List ℕ) (decl : ℕ) (below : decl < 2 ^ 32) (width t 
   -- ---- entry
 
   module _ (few : blocks book ≤ 65536) (enum : k ≡ target.Enum) (l : length mem ≡ size_of book t) where
-    entry-back : (f : Found) → entry_kept book mem f ≡ true → entry_by book mem f ≡ holds mem
+    entry-back : (f : Option ℕ) → entry_kept book mem f ≡ true → entry_by book mem f ≡ holds mem
     unfolding entry_kept entry_by
-    entry-back (At m) h = exactly-back (value_of book m) mem (same_eq (value_of book m) mem h)
-    entry-back Nothing h = different cc
+    entry-back (Some m) h = exactly-back (value_of book m) mem (same_eq (value_of book m) mem h)
+    entry-back None h = different cc
 
     name-text : (n : ℕ) → n < blocks book → record_text book buffer (rec_of decl 12 0 n 0) ≡ name_of book n
     unfolding record_text name_in
@@ -371,9 +370,9 @@ module _ (book buffer : List ℕ) (decl : ℕ) (below : decl < 2 ^ 32) (width t 
               (rw (enum, name-text n i, eq-eqb (length mem) (size_of book t) l) (entry-back (entry_named book t (name_of book n)) h));
         }
 
-    goes-found : (f : Found) (other : LeafValue) → FineValue book (entry_or f other) → Goes other → Goes (entry_or f other)
-    goes-found (At n) other x p = goes-entry n x.fine.inside
-    goes-found Nothing other x p = p
+    goes-found : (f : Option ℕ) (other : LeafValue) → FineValue book (entry_or f other) → Goes other → Goes (entry_or f other)
+    goes-found (Some n) other x p = goes-entry n x.fine.inside
+    goes-found None other x p = p
 
   goes-unlisted : (r : IntegerRead) → Goes (unlisted r)
   unfolding unlisted integer_read_numbers

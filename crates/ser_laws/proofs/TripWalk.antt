@@ -1,4 +1,5 @@
 -- A write of what was read of some bytes, over these bytes, gives them back, step by step along both walks. Assumes nothing.
+use Rattle.std.specs.Prelude.{Option, Some, None}
 use mathlib.Core.Path.{◌≡◌, refl, sym, ap, ◌∙◌}
 use mathlib.Core.Bool.{Bool, true, false, cond}
 use mathlib.Core.List.{List, [], ◌∷◌, ◌++◌, append_assoc, append-nil}
@@ -12,8 +13,6 @@ use Rattle.enc_number.specs.Le.{Bytes}
 use Rattle.enc_number.proofs.ByteOrder.{bytes_drop}
 use Rattle.type_book.specs.Book.{blocks, kind_of, is_type, size_of, fields_of, count_of, name_of, type_name_of}
 use Rattle.type_provider.specs.Find.{find}
-use Rattle.type_provider.specs.declared.Found.{Found}
-use Rattle.type_provider.specs.declared.Found.TheVariants as found
 use Rattle.type_category.specs.Category.{category_of}
 use Rattle.type_book_check.specs.Check.{ValidBook}
 use Rattle.type_book_check.proofs.Valid.{valid-size, valid-below, valid-type}
@@ -33,7 +32,6 @@ use Rattle.tape_shape.specs.Array.{stride_of, is_last, array_bytes}
 use Rattle.ser_named_blocks.specs.Named.{field_named}
 use Rattle.tape.specs.declared.record.Record.{Record}
 use Rattle.tape.specs.declared.cursor.Cursor.{Cursor}
-use Rattle.tape.specs.declared.cursor.NextRecord.TheVariants as step
 use Rattle.tape.specs.Record.{record_bytes, step_at, Held}
 use Rattle.tape.specs.Text.{name_in, record_text}
 use Rattle.tape.proofs.Records.{record-back, length-record}
@@ -68,7 +66,7 @@ place n = record { at = n }
 module _ (book buffer tape : List ℕ) where
   -- ---- what is read from the tape
 
-  step_is : (at : ℕ) (r : Record) (rest : List ℕ) → Held r → drop at tape ≡ record_bytes r ++ rest → step_at tape at ≡ step.Record r (place (at + 24))
+  step_is : (at : ℕ) (r : Record) (rest : List ℕ) → Held r → drop at tape ≡ record_bytes r ++ rest → step_at tape at ≡ Some (r, place (at + 24))
   unfolding step_at
   step_is at r rest g h =
       let n : length tape - at ≡ 24 + length rest = sym (length-drop at tape) ∙ ap length h ∙ length-append (record_bytes r) rest ∙ rw (length-record r) in
@@ -97,7 +95,7 @@ module _ (book buffer tape : List ℕ) where
       }
 
   -- a record before
-  back-record : (r : Record) → Held r → (o p : Cursor → List ℕ → Outcome) (mem : List ℕ) → ((at : ℕ) → step_at tape at ≡ step.Record r (place (at + 24)) → o (place at) mem ≡ p (place (at + 24)) mem)
+  back-record : (r : Record) → Held r → (o p : Cursor → List ℕ → Outcome) (mem : List ℕ) → ((at : ℕ) → step_at tape at ≡ Some (r, place (at + 24)) → o (place at) mem ≡ p (place (at + 24)) mem)
       → (from : ℕ) (es fs : List TapeEvent) → tape_bytes from es ≡ record_bytes r ++ tape_bytes from fs → Back p mem from fs → Back o mem from es
   back-record r g o p mem f from es fs e b =
       record {
@@ -111,7 +109,7 @@ module _ (book buffer tape : List ℕ) where
       }
 
   -- the last record
-  back_last : (r : Record) → Held r → (o : Cursor → List ℕ → Outcome) (mem : List ℕ) → ((at : ℕ) → step_at tape at ≡ step.Record r (place (at + 24)) → o (place at) mem ≡ went (place (at + 24)) mem)
+  back_last : (r : Record) → Held r → (o : Cursor → List ℕ → Outcome) (mem : List ℕ) → ((at : ℕ) → step_at tape at ≡ Some (r, place (at + 24)) → o (place at) mem ≡ went (place (at + 24)) mem)
       → (from : ℕ) (es : List TapeEvent) → tape_bytes from es ≡ record_bytes r → Back o mem from es
   back_last r g o mem f from es e =
       record {
@@ -194,10 +192,10 @@ module _ (book buffer tape : List ℕ) where
       field_back mem b (answer.NotFound n) y h = emits-refused book buffer _ 7 n
       field_back mem b answer.TooLong y h = emits-refused book buffer _ 8 0
 
-      finds-is : (f : ℕ) (x : Found) → trip.finds f x ≡ true → x ≡ found.At f
+      finds-is : (f : ℕ) (x : Option ℕ) → trip.finds f x ≡ true → x ≡ Some f
       unfolding trip.finds
-      finds-is f (found.At m) h = ap found.At (eqb-true m f h)
-      finds-is f found.Nothing h = different cc
+      finds-is f (Some m) h = ap Some (eqb-true m f h)
+      finds-is f None h = different cc
 
       key-name : (f : ℕ) → f < blocks book → record_text book buffer (rec_of 0 4 0 f 0) ≡ name_of book f
       unfolding record_text name_in
@@ -278,7 +276,7 @@ module _ (book buffer tape : List ℕ) where
 
       -- a dimension, for what is the same as its walk where there is an array's record
       dimension_back : (m d t : ℕ) (e : Typed) → is_type book m ≡ true → GoodType book e → is_type book t ≡ true → (mem : List ℕ) → Bytes mem → trip.dimension_kept kept rc d t e.resolved mem ≡ true → (o : Cursor → List ℕ → Outcome)
-          → ((at : ℕ) → step_at tape at ≡ step.Record (rec_of m 1 0 (count_of book t d) 0) (place (at + 24)) → o (place at) mem ≡ ser.dimension_write write sc d t e.resolved (place at) mem)
+          → ((at : ℕ) → step_at tape at ≡ Some (rec_of m 1 0 (count_of book t d) 0, place (at + 24)) → o (place at) mem ≡ ser.dimension_write write sc d t e.resolved (place at) mem)
           → Emits book buffer (Back o mem) (de.dimension_of child rc m d t e mem)
       unfolding de.dimension_of de.elements_of ser.dimension_write ser.checked_write ser.taken ser.taken_by ser.elements_by trip.dimension_kept tape_bytes
       dimension_back m d t e g y w mem b h o same =
@@ -303,19 +301,19 @@ module _ (book buffer tape : List ℕ) where
       element-by x g s mem b q n y resolved.TooLong l h = emits-refused book buffer _ 8 0
 
       -- a name that is found leads where its aliases do
-      look-found : (t n : ℕ) → find book (type_name_of book t) ≡ found.At n → look_up book width t ≡ resolve_alias book width n
+      look-found : (t n : ℕ) → find book (type_name_of book t) ≡ Some n → look_up book width t ≡ resolve_alias book width n
       unfolding look_up chain_onward
       look-found t n e = rw e
 
       array-by : (x : Typed) → GoodType book x → shape_of (category_of book width x.resolved) ≡ shape.Array → (mem : List ℕ) → Bytes mem
           → eqb (length mem) (size_of book x.resolved) ≡ true → trip.array_kept kept rc x.resolved mem (look_up book width x.resolved) ≡ true
-          → (f : Found) → find book (type_name_of book x.resolved) ≡ f
+          → (f : Option ℕ) → find book (type_name_of book x.resolved) ≡ f
           → Emits book buffer (Back (ser.item_write write sc (whole x.resolved)) mem) (de.array_by child rc x mem f)
       unfolding de.array_by resolved_numbers
-      array-by x g s mem b q h (found.At n) e =
+      array-by x g s mem b q h (Some n) e =
           let l = look-found x.resolved n e in
           element-by x g s mem b q n (found_type book (type_name_of book x.resolved) n e) (resolve_alias book width n) l (rw l at h)
-      array-by x g s mem b q h found.Nothing e = emits-refused book buffer _ 7 x.resolved
+      array-by x g s mem b q h None e = emits-refused book buffer _ 7 x.resolved
 
       array_back : (x : Typed) → GoodType book x → shape_of (category_of book width x.resolved) ≡ shape.Array → (mem : List ℕ) → Bytes mem
           → trip.array_kept kept rc x.resolved mem (look_up book width x.resolved) ≡ true

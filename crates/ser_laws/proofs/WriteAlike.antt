@@ -1,5 +1,6 @@
 -- The walk of a write looks at a record's kind, A and B, and at byte 1 of no text: over two tapes that agree there it comes to the same. Assumes
 -- nothing.
+use Rattle.std.specs.Prelude.{Option, Some, None}
 use mathlib.Core.Path.{◌≡◌, refl, sym, ◌∙◌}
 use mathlib.Core.Bool.{Bool, true, false, cond}
 use mathlib.Core.List.{List}
@@ -9,8 +10,6 @@ use borrow.Author.Tests.{eqb-true, eqb-false, leb-true}
 use lib.ListN.{length, drop}
 use lib.Dec.{leb, ltb, eqb}
 use Rattle.type_book.specs.Book.{size_of, count_of}
-use Rattle.type_provider.specs.declared.Found.{Found}
-use Rattle.type_provider.specs.declared.Found.TheVariants as found
 use Rattle.type_category.specs.Category.{category_of}
 use Rattle.resolvers.specs.Resolve.{resolve_alias}
 use Rattle.resolvers.specs.declared.Resolved.{Resolved}
@@ -28,7 +27,6 @@ use Rattle.tape.specs.Record.{record_of, step_at}
 use Rattle.tape.specs.Text.{record_text}
 use Rattle.tape.specs.declared.record.Record.{Record}
 use Rattle.tape.specs.declared.cursor.Cursor.{Cursor}
-use Rattle.tape.specs.declared.cursor.NextRecord.TheVariants as step
 use Rattle.ser_leaf.specs.declared.Target.{Target}
 use Rattle.type_category.specs.declared.type_category.AdsTypeCategory.{AdsTypeCategory}
 use Rattle.ser_leaf.specs.Leaf.{Leaf, holds, target_of, leaf_write_by, count_leaf, leaf_for}
@@ -134,8 +132,8 @@ module _ (book : List ℕ) (width : ℕ) (text tape tape' : List ℕ) (alike : R
   same_taken at bytes f f' h g = rw (← alike.same_length) (by (leb (at.at + 24) (length tape)) refl)
     where
       by : (t : Bool) → leb (at.at + 24) (length tape) ≡ t
-          → Same (taken_by bytes f (cond t (step.Record (record_of (drop at.at tape)) (record { at = at.at + 24 })) step.End))
-          (taken_by bytes f' (cond t (step.Record (record_of (drop at.at tape')) (record { at = at.at + 24 })) step.End))
+          → Same (taken_by bytes f (cond t (Some (record_of (drop at.at tape), record { at = at.at + 24 })) None))
+          (taken_by bytes f' (cond t (Some (record_of (drop at.at tape'), record { at = at.at + 24 })) None))
       by true q = g _ _ _ (alike.each at.at h (leb-true (at.at + 24) (length tape) q)) (omega arith)
       by false q = same-refused 16 0 bytes
 
@@ -159,10 +157,10 @@ module _ (book : List ℕ) (width : ℕ) (text tape tape' : List ℕ) (alike : R
     field-same at bytes h (answer.NotFound b) = same-refused _ _ bytes
     field-same at bytes h answer.TooLong = same-refused _ _ bytes
 
-    found-same : (at : Cursor) (bytes : List ℕ) → at.at % 24 ≡ 0 → (f : Found) → Same (found_value child c at bytes f) (found_value child' c' at bytes f)
+    found-same : (at : Cursor) (bytes : List ℕ) → at.at % 24 ≡ 0 → (f : Option ℕ) → Same (found_value child c at bytes f) (found_value child' c' at bytes f)
     unfolding found_value
-    found-same at bytes h (found.At f) = field-same at bytes h (resolve_field book width f)
-    found-same at bytes h found.Nothing = same-refused 18 0 bytes
+    found-same at bytes h (Some f) = field-same at bytes h (resolve_field book width f)
+    found-same at bytes h None = same-refused 18 0 bytes
 
     key-same : (t : ℕ) (at : Cursor) (bytes : List ℕ) → at.at % 24 ≡ 0 → Same (key_of child c t at bytes) (key_of child' c' t at bytes)
     unfolding key_of key_by

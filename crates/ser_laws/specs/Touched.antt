@@ -1,9 +1,7 @@
 -- Where a write goes: for each leaf record of the tape its place in the whole output, found from the book, the pointer width, the length of the
 -- output and the records alone, whatever the image's bytes (change request 12: "a leaf being where such a record goes"). The recursion is that
 -- of ser's specs/Write. Assumes nothing.
-use Rattle.std.specs.Prelude.{◌≡◌, Bool, false, cond, ◌&&◌, ◌||◌, List, [], ◌∷◌, ◌++◌, ℕ, zero, suc, ◌+◌, ◌≤◌, length, get_or, leb, ltb, eqb}
-use Rattle.type_provider.specs.declared.Found.{Found}
-use Rattle.type_provider.specs.declared.Found.TheVariants as found
+use Rattle.std.specs.Prelude.{◌≡◌, Bool, false, cond, ◌&&◌, ◌||◌, List, [], ◌∷◌, ◌++◌, ℕ, zero, suc, ◌+◌, ◌≤◌, length, get_or, leb, ltb, eqb, Option, Some, None}
 use Rattle.resolvers.specs.Resolve.{look_up, resolve_alias}
 use Rattle.resolvers.specs.declared.Resolved.{Resolved}
 use Rattle.resolvers.specs.declared.Resolved.TheVariants as resolved
@@ -16,8 +14,6 @@ use Rattle.tape.specs.Record.{step_at}
 use Rattle.tape.specs.Text.{record_text}
 use Rattle.tape.specs.declared.record.Record.{Record}
 use Rattle.tape.specs.declared.cursor.Cursor.{Cursor}
-use Rattle.tape.specs.declared.cursor.NextRecord.{NextRecord}
-use Rattle.tape.specs.declared.cursor.NextRecord.TheVariants as step
 use Rattle.tape_array_elements.specs.Element.{Content, whole, further, element_item}
 use Rattle.ser.specs.Write.{WriteCtx}
 
@@ -69,9 +65,9 @@ abbrev pub ChildTouched : Type 0
 ChildTouched = Content ℕ → Cursor → ℕ → ℕ → Touched
 
 -- what follows by a record, where there is one
-unfoldable pub record_by : (Record → Cursor → Touched) → NextRecord → Touched
-record_by f (step.Record r next) = f r next
-record_by f step.End = nowhere
+unfoldable pub record_by : (Record → Cursor → Touched) → Option (Record × Cursor) → Touched
+record_by f (Some (r, next)) = f r next
+record_by f None = nowhere
 
 -- the end record
 unfoldable pub end_at : WriteCtx → Cursor → Touched
@@ -86,9 +82,9 @@ field_touched child at from (answer.NotFound b) = nowhere
 field_touched child at from answer.TooLong = nowhere
 
 -- the same by the field of the key's name, where there is one
-unfoldable pub found_touched : ChildTouched → WriteCtx → Cursor → ℕ → Found → Touched
-found_touched child c at from (found.At f) = field_touched child at from (resolve_field c.book c.width f)
-found_touched child c at from found.Nothing = nowhere
+unfoldable pub found_touched : ChildTouched → WriteCtx → Cursor → ℕ → Option ℕ → Touched
+found_touched child c at from (Some f) = field_touched child at from (resolve_field c.book c.width f)
+found_touched child c at from None = nowhere
 
 -- one key of type t and its value
 unfoldable pub key_touched : ChildTouched → WriteCtx → ℕ → Cursor → ℕ → Touched

@@ -1,11 +1,9 @@
 -- What a write gives back as it was read: the premises of the round trip, found from the book, the pointer width and the bytes alone. The
 -- recursion is that of de's specs/Walk. Assumes nothing.
-use Rattle.std.specs.Prelude.{Bool, true, false, ◌&&◌, List, ℕ, zero, suc, ◌+◌, ◌-◌, length, get_or, take, drop, replicate, eqb, leb}
+use Rattle.std.specs.Prelude.{Bool, true, false, ◌&&◌, List, ℕ, zero, suc, ◌+◌, ◌-◌, length, get_or, take, drop, replicate, eqb, leb, Option, Some, None}
 use Rattle.enc_utf_8.specs.Utf8.{no_error, well_formed}
 use Rattle.enc_utf_16.specs.Decode as utf16
 use Rattle.type_book.specs.Book.{name_of, value_of, fields_of, count_of, same_name}
-use Rattle.type_provider.specs.declared.Found.{Found}
-use Rattle.type_provider.specs.declared.Found.TheVariants as found
 use Rattle.resolvers.specs.Resolve.{look_up, resolve_alias}
 use Rattle.resolvers.specs.declared.Resolved.{Resolved}
 use Rattle.resolvers.specs.declared.Resolved.TheVariants as resolved
@@ -36,9 +34,9 @@ unfoldable pub is_whole : List ℕ → Bool
 is_whole bytes = no_error (utf16.decode_items bytes)
 
 -- the entry that a name finds has these bytes
-unfoldable pub entry_kept : List ℕ → List ℕ → Found → Bool
-entry_kept book mem (found.At m) = same_name (value_of book m) mem
-entry_kept book mem found.Nothing = false
+unfoldable pub entry_kept : List ℕ → List ℕ → Option ℕ → Bool
+entry_kept book mem (Some m) = same_name (value_of book m) mem
+entry_kept book mem None = false
 
 -- by its decoder, a text of n bytes is ended and has zeros alone after its end; a WSTRING's is whole, and that of a STRING in UTF-8 is well-formed
 unfoldable pub text_kept : Decoder → ℕ → List ℕ → Bool
@@ -67,9 +65,9 @@ abbrev pub ChildTrip : Type 0
 ChildTrip = Content ℕ → List ℕ → Bool
 
 -- a name finds this block
-unfoldable pub finds : ℕ → Found → Bool
-finds f (found.At m) = eqb m f
-finds f found.Nothing = false
+unfoldable pub finds : ℕ → Option ℕ → Bool
+finds f (Some m) = eqb m f
+finds f None = false
 
 -- a field's value
 unfoldable pub field_kept : ChildTrip → List ℕ → FieldAnswer → Bool

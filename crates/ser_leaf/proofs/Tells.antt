@@ -1,5 +1,6 @@
 -- Which numbers the write of a leaf can answer: what holds of 10, 13, 17, 18 and 19, and of 16 where the record is no value, holds of every
 -- refusal. Assumes nothing.
+use Rattle.std.specs.Prelude.{Option, Some, None}
 use mathlib.Core.Path.{◌≡◌, refl}
 use mathlib.Core.Logic.{◌⊎◌, inl, inr, ⊎_elim}
 use mathlib.Core.Bool.{Bool, true, false, cond, ◌&&◌}
@@ -17,8 +18,6 @@ use Rattle.enc_integer.specs.declared.IntegerWrite.{IntegerWrite}
 use Rattle.enc_integer.specs.declared.IntegerWrite.TheVariants as write
 use Rattle.enc_integer.proofs.Numbers.{write_range_number, write_size-number, write_unsupported_number}
 use Rattle.type_book.specs.Book.{size_of, type_id_of}
-use Rattle.type_provider.specs.declared.Found.{Found}
-use Rattle.type_provider.specs.declared.Found.TheVariants.{At, Nothing}
 use Rattle.ser_named_blocks.specs.Named.{entry_named}
 use Rattle.type_category.specs.declared.type_category.AdsTypeCategory.{AdsTypeCategory}
 use Rattle.time_types.specs.Counts.{count_width}
@@ -96,10 +95,10 @@ module _ (P : ℕ → Type 0) where
       tells-number v target.Enum = tells_integer _ v old
       tells-number v target.Other = tells_integer _ v old
 
-      tells-found : (f : Found) → Tells P (entry_by book old f)
+      tells-found : (f : Option ℕ) → Tells P (entry_by book old f)
       unfolding entry_by
-      tells-found (At n) = tells-exactly _ old
-      tells-found Nothing = tells-refused 18 p18
+      tells-found (Some n) = tells-exactly _ old
+      tells-found None = tells-refused 18 p18
 
       tells-entry : (name : List ℕ) → Tells P (entry_leaf book t name old)
       unfolding entry_leaf

@@ -5,23 +5,21 @@ ghost use Rattle.std.specs.Prelude.{◌≡◌, ◌+◌, ◌<◌};
 ghost use Rattle.type_book.specs.Book.{fields_of, entries_of};
 ghost use Rattle.ser_named_blocks.specs.Named.{named_from, field_named, entry_named};
 
-use type_provider::Found;
-
 // The first of the k blocks from block n on that has this name.
-fn find_named(book: &[u8], name: &[u8], n: u32, k: u32) -> Found
+fn find_named(book: &[u8], name: &[u8], n: u32, k: u32) -> Option<u32>
     requires { n + k < 65537 }
     ensures { result ≡ named_from book.now name.now n k }
 {
     for i in n..n + k {
         if type_book::block::same_name(type_book::block::name(book, i), name) {
-            return Found::At(i);
+            return Some(i);
         }
     }
-    Found::Nothing
+    None
 }
 
 // The first field of type block t that has this name.
-pub fn field_by_name(book: &[u8], t: u32, name: &[u8]) -> Found
+pub fn field_by_name(book: &[u8], t: u32, name: &[u8]) -> Option<u32>
     requires { t + fields_of book.now t + entries_of book.now t < 65536 }
     ensures { result ≡ field_named book.now t name.now }
 {
@@ -29,7 +27,7 @@ pub fn field_by_name(book: &[u8], t: u32, name: &[u8]) -> Found
 }
 
 // The first enum entry of type block t that has this name.
-pub fn entry_by_name(book: &[u8], t: u32, name: &[u8]) -> Found
+pub fn entry_by_name(book: &[u8], t: u32, name: &[u8]) -> Option<u32>
     requires { t + fields_of book.now t + entries_of book.now t < 65536 }
     ensures { result ≡ entry_named book.now t name.now }
 {

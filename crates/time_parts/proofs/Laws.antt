@@ -1,4 +1,5 @@
 -- From a count to its parts and back. Assumes nothing.
+use Rattle.std.specs.Prelude.{Option, Some, None}
 use mathlib.Core.Path.{◌≡◌, refl, sym, ◌∙◌}
 use mathlib.Core.Bool.{Bool, true, false, cond, ◌&&◌}
 use mathlib.Core.List.{List}
@@ -13,9 +14,6 @@ use Rattle.time_types.specs.declared.TimeType.{TimeType}
 use Rattle.time_types.specs.declared.TimeType.TheVariants as time
 use Rattle.time_types.specs.Types.{time_type_of}
 use Rattle.time_parts.specs.declared.Parts.{Parts}
-use Rattle.time_parts.specs.declared.PartsAnswer.TheVariants as parts
-use Rattle.time_parts.specs.declared.CountAnswer.{CountAnswer}
-use Rattle.time_parts.specs.declared.CountAnswer.TheVariants as count
 use Rattle.time_parts.specs.Parts.{day_length, parts_at, clock_parts, moment_parts, time_parts, names_clock, clock_of, dateless, date_in, moment_of, count_in, clock_count, moment_count, time_count}
 use Rattle.time_parts.specs.Laws.{Exact}
 use Rattle.time_parts.proofs.Clock.{and_first, and_second, clock_few, clock_there, clock_back, hour_back, minute_back, second_back, nanosecond_back}
@@ -132,15 +130,15 @@ module _ (p : Parts) (h : names_date (date_in p) && names_clock p ≡ true) wher
 -- ---- by the type
 
 -- a count that was told passed its tests
-told-true : (b : Bool) (x : CountAnswer) (n : ℕ) → cond b x count.Refused ≡ count.Told n → (b ≡ true) × (x ≡ count.Told n)
+told-true : (b : Bool) (x : Option ℕ) (n : ℕ) → cond b x None ≡ Some n → (b ≡ true) × (x ≡ Some n)
 told-true true x n e = (refl, e)
 told-true false x n e = absurd (let z : ◌≡◌ {A = ℕ} 0 1 = cc in omega arith)
 
-parts-true : (b : Bool) (x p : Parts) → cond b (parts.Told x) parts.Refused ≡ parts.Told p → (b ≡ true) × (x ≡ p)
+parts-true : (b : Bool) (x p : Parts) → cond b (Some x) None ≡ Some p → (b ≡ true) × (x ≡ p)
 parts-true true x p e = (refl, (let z : x ≡ p = cc in z))
 parts-true false x p e = absurd (let z : ◌≡◌ {A = ℕ} 0 1 = cc in omega arith)
 
-same-told : (n m : ℕ) → count.Told n ≡ count.Told m → n ≡ m
+same-told : (n m : ℕ) → Some n ≡ Some m → n ≡ m
 same-told n m e = cc
 
 -- units of nanoseconds: what is counted, and nothing left over
@@ -149,20 +147,20 @@ pub record Units (unit largest n k : ℕ) : Type 0 where
   pub few : k ≤ largest
   pub is : n / unit ≡ k
 
-units_of : (unit largest n k : ℕ) → count_in unit largest n ≡ count.Told k → Units unit largest n k
+units_of : (unit largest n k : ℕ) → count_in unit largest n ≡ Some k → Units unit largest n k
 unfolding count_in
 units_of unit largest n k e =
-    let a = told-true (eqb (n % unit) 0) (cond (leb (n / unit) largest) (count.Told (n / unit)) count.Refused) k e in
-    let b = told-true (leb (n / unit) largest) (count.Told (n / unit)) k a.1 in
+    let a = told-true (eqb (n % unit) 0) (cond (leb (n / unit) largest) (Some (n / unit)) None) k e in
+    let b = told-true (leb (n / unit) largest) (Some (n / unit)) k a.1 in
     let q : n / unit ≡ k = same-told (n / unit) k b.1 in
     record { left = eqb-true (n % unit) 0 a.0; few = rw q at (leb-true (n / unit) largest b.0); is = q }
 
-count_units : (unit largest n k : ℕ) → n % unit ≡ 0 → n / unit ≡ k → k ≤ largest → count_in unit largest n ≡ count.Told k
+count_units : (unit largest n k : ℕ) → n % unit ≡ 0 → n / unit ≡ k → k ≤ largest → count_in unit largest n ≡ Some k
 unfolding count_in
 count_units unit largest n k a q l = rw (eq-eqb (n % unit) 0 a, q, le-leb k largest l)
 
 module _ (p : Parts) (n : ℕ) where
-  there-by : (y : TimeType) → time_parts y n ≡ parts.Told p → time_count y p ≡ count.Told n
+  there-by : (y : TimeType) → time_parts y n ≡ Some p → time_count y p ≡ Some n
   unfolding time_parts time_count clock_count moment_count
   there-by time.Time e = absurd (let z : ◌≡◌ {A = ℕ} 0 1 = cc in omega arith)
   there-by time.LTime e = absurd (let z : ◌≡◌ {A = ℕ} 0 1 = cc in omega arith)
@@ -185,7 +183,7 @@ module _ (p : Parts) (n : ℕ) where
       let l : n ≤ 0xffff_ffff_ffff_ffff = leb-true n 0xffff_ffff_ffff_ffff t.0 in
       rw (← t.1, moment_names n, moment_n n) (count_units 1 _ n n (omega arith) (omega arith) l)
 
-  back_by : (y : TimeType) → time_count y p ≡ count.Told n → time_parts y n ≡ parts.Told p
+  back_by : (y : TimeType) → time_count y p ≡ Some n → time_parts y n ≡ Some p
   unfolding time_parts time_count clock_count moment_count
   back_by time.Time e = absurd (let z : ◌≡◌ {A = ℕ} 0 1 = cc in omega arith)
   back_by time.LTime e = absurd (let z : ◌≡◌ {A = ℕ} 0 1 = cc in omega arith)
@@ -223,9 +221,9 @@ exact name = record {
   unnamed = λ p none. by p none (time_count (time_type_of name) p) refl;
 }
   where
-    never : (n : ℕ) → count.Refused ≡ count.Told n → ⊥
+    never : (n : ℕ) → None ≡ Some n → ⊥
     never n e = let z : ◌≡◌ {A = ℕ} 0 1 = cc in omega arith
 
-    by : (p : Parts) → ((n : ℕ) → time_parts (time_type_of name) n ≡ parts.Told p → ⊥) → (r : CountAnswer) → time_count (time_type_of name) p ≡ r → r ≡ count.Refused
-    by p none (count.Told n) e = absurd (none n (back_by p n (time_type_of name) e))
-    by p none count.Refused e = refl
+    by : (p : Parts) → ((n : ℕ) → time_parts (time_type_of name) n ≡ Some p → ⊥) → (r : Option ℕ) → time_count (time_type_of name) p ≡ r → r ≡ None
+    by p none (Some n) e = absurd (none n (back_by p n (time_type_of name) e))
+    by p none None e = refl

@@ -1,5 +1,5 @@
 -- A count of time as year, month, day, hour, minute, second and nanosecond, and back (document 02, change request 7). Assumes nothing.
-use Rattle.std.specs.Prelude.{Bool, cond, ◌&&◌, List, [], ◌∷◌, ℕ, ◌+◌, ◌*◌, ◌/◌, ◌%◌, eqb, leb, ltb}
+use Rattle.std.specs.Prelude.{Bool, cond, ◌&&◌, List, [], ◌∷◌, ℕ, ◌+◌, ◌*◌, ◌/◌, ◌%◌, eqb, leb, ltb, Option, Some, None}
 use Rattle.enc_number.specs.Refusals as refusal
 use Rattle.time_calendar.specs.declared.Date.{Date}
 use Rattle.time_calendar.specs.Calendar.{names_date, day_number, date_of}
@@ -7,22 +7,18 @@ use Rattle.time_types.specs.declared.TimeType.{TimeType}
 use Rattle.time_types.specs.declared.TimeType.TheVariants as time
 use Rattle.time_types.specs.Types.{time_type_of}
 use Rattle.time_parts.specs.declared.Parts.{Parts}
-use Rattle.time_parts.specs.declared.PartsAnswer.{PartsAnswer}
-use Rattle.time_parts.specs.declared.PartsAnswer.TheVariants as parts
-use Rattle.time_parts.specs.declared.CountAnswer.{CountAnswer}
-use Rattle.time_parts.specs.declared.CountAnswer.TheVariants as count
 
 -- ---- answers as numbers
 
 -- document 02's number and values of the parts: 0, then the seven of them, or 24
-unfoldable pub parts_numbers : PartsAnswer → List ℕ
-parts_numbers (parts.Told p) = 0 ∷ p.year ∷ p.month ∷ p.day ∷ p.hour ∷ p.minute ∷ p.second ∷ p.nanosecond ∷ []
-parts_numbers parts.Refused = refusal.no_moment ∷ []
+unfoldable pub parts_numbers : Option Parts → List ℕ
+parts_numbers (Some p) = 0 ∷ p.year ∷ p.month ∷ p.day ∷ p.hour ∷ p.minute ∷ p.second ∷ p.nanosecond ∷ []
+parts_numbers None = refusal.no_moment ∷ []
 
 -- document 02's number and value of a count: 0, then the count, or 24
-unfoldable pub count_numbers : CountAnswer → List ℕ
-count_numbers (count.Told n) = 0 ∷ n ∷ []
-count_numbers count.Refused = refusal.no_moment ∷ []
+unfoldable pub count_numbers : Option ℕ → List ℕ
+count_numbers (Some n) = 0 ∷ n ∷ []
+count_numbers None = refusal.no_moment ∷ []
 
 -- ---- from a count to its parts
 
@@ -52,17 +48,17 @@ moment_parts n = parts_at (date_of (n / day_length)) (n % day_length)
 
 -- the parts of a count: milliseconds or nanoseconds since midnight, which are less than a day; seconds, in 4 bytes, or nanoseconds, in 8,
 -- since 1970-01-01 00:00:00; a type that counts something else has none
-unfoldable pub time_parts : TimeType → ℕ → PartsAnswer
-time_parts time.Time n = parts.Refused
-time_parts time.LTime n = parts.Refused
-time_parts time.TimeOfDay n = cond (ltb n 86_400_000) (parts.Told (clock_parts (n * 1_000_000))) parts.Refused
-time_parts time.LTimeOfDay n = cond (ltb n day_length) (parts.Told (clock_parts n)) parts.Refused
-time_parts time.DateTime n = cond (leb n 0xffff_ffff) (parts.Told (moment_parts (n * 1_000_000_000))) parts.Refused
-time_parts time.LDateTime n = cond (leb n 0xffff_ffff_ffff_ffff) (parts.Told (moment_parts n)) parts.Refused
-time_parts time.NoTime n = parts.Refused
+unfoldable pub time_parts : TimeType → ℕ → Option Parts
+time_parts time.Time n = None
+time_parts time.LTime n = None
+time_parts time.TimeOfDay n = cond (ltb n 86_400_000) (Some (clock_parts (n * 1_000_000))) None
+time_parts time.LTimeOfDay n = cond (ltb n day_length) (Some (clock_parts n)) None
+time_parts time.DateTime n = cond (leb n 0xffff_ffff) (Some (moment_parts (n * 1_000_000_000))) None
+time_parts time.LDateTime n = cond (leb n 0xffff_ffff_ffff_ffff) (Some (moment_parts n)) None
+time_parts time.NoTime n = None
 
 -- the parts of a count of the type of that name
-abbrev pub parts_named : List ℕ → ℕ → PartsAnswer
+abbrev pub parts_named : List ℕ → ℕ → Option Parts
 parts_named name n = time_parts (time_type_of name) n
 
 -- ---- from parts to the count
@@ -88,27 +84,27 @@ unfoldable pub moment_of : Parts → ℕ
 moment_of p = day_number (date_in p) * day_length + clock_of p
 
 -- n nanoseconds as a count of units, which is at most the largest; nothing may be left over
-unfoldable pub count_in : ℕ → ℕ → ℕ → CountAnswer
-count_in unit largest n = cond (eqb (n % unit) 0) (cond (leb (n / unit) largest) (count.Told (n / unit)) count.Refused) count.Refused
+unfoldable pub count_in : ℕ → ℕ → ℕ → Option ℕ
+count_in unit largest n = cond (eqb (n % unit) 0) (cond (leb (n / unit) largest) (Some (n / unit)) None) None
 
 -- the count of parts that name a time of day
-unfoldable pub clock_count : ℕ → Parts → CountAnswer
-clock_count unit p = cond (dateless p && names_clock p) (count_in unit 0xffff_ffff_ffff_ffff (clock_of p)) count.Refused
+unfoldable pub clock_count : ℕ → Parts → Option ℕ
+clock_count unit p = cond (dateless p && names_clock p) (count_in unit 0xffff_ffff_ffff_ffff (clock_of p)) None
 
 -- the count of parts that name a moment
-unfoldable pub moment_count : ℕ → ℕ → Parts → CountAnswer
-moment_count unit largest p = cond (names_date (date_in p) && names_clock p) (count_in unit largest (moment_of p)) count.Refused
+unfoldable pub moment_count : ℕ → ℕ → Parts → Option ℕ
+moment_count unit largest p = cond (names_date (date_in p) && names_clock p) (count_in unit largest (moment_of p)) None
 
 -- the count that has these parts
-unfoldable pub time_count : TimeType → Parts → CountAnswer
-time_count time.Time p = count.Refused
-time_count time.LTime p = count.Refused
+unfoldable pub time_count : TimeType → Parts → Option ℕ
+time_count time.Time p = None
+time_count time.LTime p = None
 time_count time.TimeOfDay p = clock_count 1_000_000 p
 time_count time.LTimeOfDay p = clock_count 1 p
 time_count time.DateTime p = moment_count 1_000_000_000 0xffff_ffff p
 time_count time.LDateTime p = moment_count 1 0xffff_ffff_ffff_ffff p
-time_count time.NoTime p = count.Refused
+time_count time.NoTime p = None
 
 -- the count of the type of that name that has these parts
-abbrev pub count_named : List ℕ → Parts → CountAnswer
+abbrev pub count_named : List ℕ → Parts → Option ℕ
 count_named name p = time_count (time_type_of name) p

@@ -20,20 +20,6 @@ pub struct Parts {
     pub nanosecond: u32,
 }
 
-#[derive(Clone, Copy)]
-pub enum PartsAnswer {
-    Told(Parts),
-    // 24.
-    Refused,
-}
-
-#[derive(Clone, Copy)]
-pub enum CountAnswer {
-    Told(u64),
-    // 24.
-    Refused,
-}
-
 // The nanoseconds of a second, a minute, an hour and a day.
 const SECOND: u64 = 1_000_000_000;
 
@@ -89,37 +75,37 @@ fn moment_parts(moment: u64) -> Parts
     parts_at(date_of((moment / DAY) as u32), moment % DAY)
 }
 
-fn parts_by(time: TimeType, count: u64) -> PartsAnswer
+fn parts_by(time: TimeType, count: u64) -> Option<Parts>
     ensures { result ≡ time_parts time count }
 {
     match time {
-        TimeType::Time => PartsAnswer::Refused,
-        TimeType::LTime => PartsAnswer::Refused,
+        TimeType::Time => None,
+        TimeType::LTime => None,
         TimeType::TimeOfDay => {
             if count < 86_400_000 {
-                return PartsAnswer::Told(clock_parts(count * 1_000_000));
+                return Some(clock_parts(count * 1_000_000));
             }
-            return PartsAnswer::Refused;
+            return None;
         }
         TimeType::LTimeOfDay => {
             if count < DAY {
-                return PartsAnswer::Told(clock_parts(count));
+                return Some(clock_parts(count));
             }
-            return PartsAnswer::Refused;
+            return None;
         }
         TimeType::DateTime => {
             if count <= MAX32 {
-                return PartsAnswer::Told(moment_parts(count * SECOND));
+                return Some(moment_parts(count * SECOND));
             }
-            return PartsAnswer::Refused;
+            return None;
         }
-        TimeType::LDateTime => PartsAnswer::Told(moment_parts(count)),
-        TimeType::NoTime => PartsAnswer::Refused,
+        TimeType::LDateTime => Some(moment_parts(count)),
+        TimeType::NoTime => None,
     }
 }
 
 // The parts of a count of the type of that name.
-pub fn parts_of(name: &[u8], count: u64) -> PartsAnswer
+pub fn parts_of(name: &[u8], count: u64) -> Option<Parts>
     ensures { parts_numbers result ≡ parts_numbers (parts_named name.now count) }
 {
     parts_by(time_type(name), count)
@@ -153,21 +139,21 @@ fn is_dateless(p: Parts) -> bool
 }
 
 #[tactic(auto, unfolding(crate::specs::Nanoseconds::clock_nanoseconds))]
-fn clock_nanoseconds(p: Parts) -> CountAnswer
+fn clock_nanoseconds(p: Parts) -> Option<u64>
     ensures { result ≡ clock_nanoseconds p }
 {
     if is_dateless(p) && names_clock(p) {
-        return CountAnswer::Told(clock_of(p));
+        return Some(clock_of(p));
     }
-    CountAnswer::Refused
+    None
 }
 
 // The year is looked at before anything is counted: no product can wrap.
-fn moment_nanoseconds(p: Parts) -> CountAnswer
+fn moment_nanoseconds(p: Parts) -> Option<u64>
     ensures { result ≡ moment_nanoseconds p }
 {
     if LAST_YEAR < p.year {
-        return CountAnswer::Refused;
+        return None;
     }
     let date = Date {
         year: p.year,
@@ -178,61 +164,61 @@ fn moment_nanoseconds(p: Parts) -> CountAnswer
         if names_clock(p) {
             return from_day(day_of(date) as u64, clock_of(p));
         }
-        return CountAnswer::Refused;
+        return None;
     }
-    CountAnswer::Refused
+    None
 }
 
 // The nanoseconds of whole days and of a time of day.
-fn from_day(day: u64, clock: u64) -> CountAnswer
+fn from_day(day: u64, clock: u64) -> Option<u64>
     requires { clock < day_length }
     ensures { result ≡ sum_in day clock }
 {
     if LAST_DAY < day {
-        return CountAnswer::Refused;
+        return None;
     }
     let start = day * DAY;
     if MAX64 - start < clock {
-        return CountAnswer::Refused;
+        return None;
     }
-    CountAnswer::Told(start + clock)
+    Some(start + clock)
 }
 
 // Nanoseconds as a count of units, which is at most the largest.
-fn in_units(unit: u64, largest: u64, nanoseconds: CountAnswer) -> CountAnswer
+fn in_units(unit: u64, largest: u64, nanoseconds: Option<u64>) -> Option<u64>
     requires { 0 < unit }
     ensures { result ≡ in_units unit largest nanoseconds }
 {
     match nanoseconds {
-        CountAnswer::Refused => CountAnswer::Refused,
-        CountAnswer::Told(n) => {
+        None => None,
+        Some(n) => {
             if n % unit != 0 {
-                return CountAnswer::Refused;
+                return None;
             }
             if largest < n / unit {
-                return CountAnswer::Refused;
+                return None;
             }
-            return CountAnswer::Told(n / unit);
+            return Some(n / unit);
         }
     }
 }
 
-fn count_by(time: TimeType, p: Parts) -> CountAnswer
+fn count_by(time: TimeType, p: Parts) -> Option<u64>
     ensures { result ≡ time_count time p }
 {
     match time {
-        TimeType::Time => CountAnswer::Refused,
-        TimeType::LTime => CountAnswer::Refused,
+        TimeType::Time => None,
+        TimeType::LTime => None,
         TimeType::TimeOfDay => in_units(1_000_000, MAX64, clock_nanoseconds(p)),
         TimeType::LTimeOfDay => in_units(1, MAX64, clock_nanoseconds(p)),
         TimeType::DateTime => in_units(SECOND, MAX32, moment_nanoseconds(p)),
         TimeType::LDateTime => in_units(1, MAX64, moment_nanoseconds(p)),
-        TimeType::NoTime => CountAnswer::Refused,
+        TimeType::NoTime => None,
     }
 }
 
 // The count of the type of that name that has these parts.
-pub fn count_of(name: &[u8], p: Parts) -> CountAnswer
+pub fn count_of(name: &[u8], p: Parts) -> Option<u64>
     ensures { count_numbers result ≡ count_numbers (count_named name.now p) }
 {
     count_by(time_type(name), p)

@@ -1,5 +1,6 @@
 -- A valid book with another valid book after it, of which no type has a name of the first: a valid book, if it is short enough.
 -- What the call that appends needs. Assumes nothing.
+use Rattle.std.specs.Prelude.{None}
 use mathlib.Core.Path.{◌≡◌, refl, sym}
 use mathlib.Core.Bool.{Bool, true, false, not, ◌||◌}
 use mathlib.Core.List.{List, ◌++◌}
@@ -11,7 +12,6 @@ use lib.Seq.{drop-append-add, take-length}
 use lib.Dec.{eqb, ltb}
 use Rattle.type_book.specs.Book.{blocks, block_of, is_type, fields_of, entries_of, name_of, is_named}
 use Rattle.type_provider.specs.Find.{find}
-use Rattle.type_provider.specs.declared.Found.TheVariants.{Nothing}
 use Rattle.type_book.proofs.Blocks.{block_append, same_byte, same-u32, same-counted}
 use Rattle.type_provider.proofs.Finds.{same-named, find-nothing, searched-all}
 use Rattle.type_block_form.specs.Form.{sum_right, type_form, field_form, entry_form}
@@ -139,7 +139,7 @@ module _ (book more : List ℕ) (v : ValidBook book) (w : ValidBook more) where
   right-type m = rw (same_byte (book ++ more) more (blocks book + m) m (right m) 0 (omega arith))
 
   -- no type of the second has a name that the first defines
-  module _ (new : (n : ℕ) → is_type more n ≡ true → find book (name_of more n) ≡ Nothing) where
+  module _ (new : (n : ℕ) → is_type more n ≡ true → find book (name_of more n) ≡ None) where
     unnamed : (n : ℕ) → n < blocks (book ++ more) → is_type (book ++ more) n ≡ true → (m : ℕ) → m < n → is_named (book ++ more) (name_of (book ++ more) n) m ≡ false
     unnamed =
         halves (λ n. is_type (book ++ more) n ≡ true → (m : ℕ) → m < n → is_named (book ++ more) (name_of (book ++ more) n) m ≡ false)

@@ -1,5 +1,6 @@
 -- A root that is given by its number or by its name: one law for each way out of the functions that check it, and what a call with it answers. Assumes
 -- nothing.
+use Rattle.std.specs.Prelude.{Option, Some, None}
 use mathlib.Core.Path.{◌≡◌, refl, sym, ap, ◌∙◌}
 use mathlib.Core.Bool.{Bool, true, false, cond, not}
 use mathlib.Core.List.{List}
@@ -12,8 +13,6 @@ use lib.Dec.{eqb}
 use Rattle.enc_number.specs.Answer.{refusal_of}
 use Rattle.type_book.specs.Book.{is_type}
 use Rattle.type_provider.specs.Find.{find}
-use Rattle.type_provider.specs.declared.Found.{Found}
-use Rattle.type_provider.specs.declared.Found.TheVariants as found
 use Rattle.type_provider.proofs.Finds.{find-named, named-kind}
 use Rattle.type_book_check.specs.Check.{check_book, book_numbers, ValidBook, root_of, check_root, at_root}
 use Rattle.type_book_check.specs.declared.BookCheck.{BookCheck}
@@ -50,12 +49,12 @@ module _ (book bytes : List ℕ) (t : Bool) (e : t ≡ is_root_name bytes) where
   unfolding given_root
   named_unformed h = rw (← e, not-true t h)
 
-  module _ (h : not t ≡ false) (f : Found) (q : f ≡ find book bytes) where
-    pub named-found : (n : ℕ) → f ≡ found.At n → Block n ≡ given_root book (name bytes)
+  module _ (h : not t ≡ false) (f : Option ℕ) (q : f ≡ find book bytes) where
+    pub named-found : (n : ℕ) → f ≡ Some n → Block n ≡ given_root book (name bytes)
     unfolding given_root found_root
     named-found n o = rw (← e, not-false t h, ← q, o)
 
-    pub named-lacks : f ≡ found.Nothing → Lacking ≡ given_root book (name bytes)
+    pub named-lacks : f ≡ None → Lacking ≡ given_root book (name bytes)
     unfolding given_root found_root
     named-lacks o = rw (← e, not-false t h, ← q, o)
 
@@ -105,29 +104,29 @@ at-number refuse lacking go buffer len n = by (eqb (refusal_of (book_numbers (ch
 pub record Rooted (buffer : List ℕ) (len : ℕ) (bytes : List ℕ) (r : ℕ) : Type 0 where
   pub fits : len ≤ length buffer
   pub valid : ValidBook (take len buffer)
-  pub found : find (take len buffer) bytes ≡ found.At r
+  pub found : find (take len buffer) bytes ≡ Some r
   pub kind : is_type (take len buffer) r ≡ true
 
 -- an answer `Lacking`: the book lies in its buffer and is valid, and the look-up of the name finds nothing
 pub record Lacked (buffer : List ℕ) (len : ℕ) (bytes : List ℕ) : Type 0 where
   pub fits : len ≤ length buffer
   pub valid : ValidBook (take len buffer)
-  pub nothing : find (take len buffer) bytes ≡ found.Nothing
+  pub nothing : find (take len buffer) bytes ≡ None
 
 module _ (buffer : List ℕ) (len : ℕ) (bytes : List ℕ) where
   abbrev refusal : ℕ
   refusal = refusal_of (book_numbers (check_book buffer len))
 
-  found-block : (t : Bool) (f : Found) (r : ℕ) → cond t (found_root f) (Refused 23) ≡ Block r → f ≡ found.At r
+  found-block : (t : Bool) (f : Option ℕ) (r : ℕ) → cond t (found_root f) (Refused 23) ≡ Block r → f ≡ Some r
   unfolding found_root
-  found-block true (found.At n) r h = let q : n ≡ r = cc in ap found.At q
-  found-block true found.Nothing r h = let z : ◌≡◌ {A = ℕ} 0 1 = cc in absurd (omega arith)
+  found-block true (Some n) r h = let q : n ≡ r = cc in ap Some q
+  found-block true None r h = let z : ◌≡◌ {A = ℕ} 0 1 = cc in absurd (omega arith)
   found-block false f r h = let z : ◌≡◌ {A = ℕ} 0 1 = cc in absurd (omega arith)
 
-  found-lacking : (t : Bool) (f : Found) → cond t (found_root f) (Refused 23) ≡ Lacking → f ≡ found.Nothing
+  found-lacking : (t : Bool) (f : Option ℕ) → cond t (found_root f) (Refused 23) ≡ Lacking → f ≡ None
   unfolding found_root
-  found-lacking true (found.At n) h = let z : ◌≡◌ {A = ℕ} 0 1 = cc in absurd (omega arith)
-  found-lacking true found.Nothing h = refl
+  found-lacking true (Some n) h = let z : ◌≡◌ {A = ℕ} 0 1 = cc in absurd (omega arith)
+  found-lacking true None h = refl
   found-lacking false f h = let z : ◌≡◌ {A = ℕ} 0 1 = cc in absurd (omega arith)
 
   pub named-valid : (r : ℕ) → check_given buffer len (name bytes) ≡ Block r → Rooted buffer len bytes r
@@ -136,7 +135,7 @@ module _ (buffer : List ℕ) (len : ℕ) (bytes : List ℕ) where
     where
       by : (t : Bool) → eqb refusal 0 ≡ t → cond t (cond (is_root_name bytes) (found_root (find (take len buffer) bytes)) (Refused 23)) (Refused refusal) ≡ Block r → Rooted buffer len bytes r
       by true e g =
-          let o : find (take len buffer) bytes ≡ found.At r = found-block (is_root_name bytes) _ r g in
+          let o : find (take len buffer) bytes ≡ Some r = found-block (is_root_name bytes) _ r g in
           record {
             fits = (passes buffer len (zero-valid _ (eqb-true _ _ e))).size.fits;
             valid = valid-book buffer len (zero-valid _ (eqb-true _ _ e));

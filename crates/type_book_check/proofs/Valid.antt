@@ -12,7 +12,6 @@ use lib.Dec.{eqb, leb, ltb}
 use Rattle.enc_number.specs.Answer.{refusal_of}
 use Rattle.type_book.specs.Book.{blocks, block_of, byte_at, kind_of, is_type, dimensions_of, fields_of, entries_of, name_of, is_named}
 use Rattle.type_provider.specs.Find.{find_from, find, TypeBlock, UniqueNames}
-use Rattle.type_provider.specs.declared.Found.TheVariants.{At, Nothing}
 use Rattle.type_book.proofs.Blocks.{byte_of_block, part_of_block}
 use Rattle.type_provider.proofs.Finds.{named-own, find-is, searched-all}
 use Rattle.type_block_form.specs.Form.{every, is_zero, is_printable, part, unused_zero, name_form, names_form, flags_form, type_form, field_form, entry_form}
@@ -327,7 +326,7 @@ module _ (book : List ℕ) (v : ValidBook book) where
       let l : n < blocks book = valid-below n 0 (eqb-true (kind_of book n) 1 h) in
       record { below = rw (searched-all book valid-size.few) l; kind = h }
 
-  pub valid-own : (n : ℕ) → is_type book n ≡ true → find book (name_of book n) ≡ At n
+  pub valid-own : (n : ℕ) → is_type book n ≡ true → find book (name_of book n) ≡ Some n
   valid-own n h = valid-unique n (valid-block n h)
 
 -- ---- the book with nothing in it
@@ -336,7 +335,7 @@ pub empty-valid : (buffer : List ℕ) → check_book buffer 0 ≡ Valid
 unfolding check_book size_right check_blocks all_from placed_from
 empty-valid buffer = let l : 0 ≤ length buffer = omega arith in rw (le-leb 0 (length buffer) l)
 
-pub empty-lacks : (name : List ℕ) → find [] name ≡ Nothing
+pub empty-lacks : (name : List ℕ) → find [] name ≡ None
 unfolding find find_from
 empty-lacks name = refl
 

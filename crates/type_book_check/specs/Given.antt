@@ -1,11 +1,9 @@
 -- A root as a call is given it, by its block's number or by its name, and what it stands for in a book (change request 5; refusals 5 and 23).
 -- Assumes nothing.
-use Rattle.std.specs.Prelude.{Bool, cond, ◌&&◌, List, [], ◌∷◌, ℕ, length, take, eqb, leb}
+use Rattle.std.specs.Prelude.{Bool, cond, ◌&&◌, List, [], ◌∷◌, ℕ, length, take, eqb, leb, Option, Some, None}
 use Rattle.enc_number.specs.Answer.{refusal_of}
 use Rattle.enc_number.specs.Refusals as refusal
 use Rattle.type_provider.specs.Find.{find}
-use Rattle.type_provider.specs.declared.Found.{Found}
-use Rattle.type_provider.specs.declared.Found.TheVariants as found
 use Rattle.type_block_form.specs.Form.{every, is_printable}
 use Rattle.type_book_check.specs.Check.{check_book, book_numbers, root_of}
 use Rattle.type_book_check.specs.declared.RootCheck.{RootCheck}
@@ -38,9 +36,9 @@ numbered_root (checked.Root n) = Block n
 numbered_root (checked.Refused n) = Refused n
 
 -- a root given by name is the block that the look-up finds, or lacking
-unfoldable pub found_root : Found → GivenRoot
-found_root (found.At n) = Block n
-found_root found.Nothing = Lacking
+unfoldable pub found_root : Option ℕ → GivenRoot
+found_root (Some n) = Block n
+found_root None = Lacking
 
 -- what a root stands for in a valid book: 5 for a number that is no type block's, 23 in its place for a name that is not of the form
 unfoldable pub given_root : List ℕ → Given → GivenRoot

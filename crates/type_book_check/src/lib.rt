@@ -12,7 +12,7 @@ use type_block_form::{all_printable, entry_form, field_form, sum_right, type_for
 use type_book::block;
 use type_book::block::BLOCK;
 use type_doubles::distinct;
-use type_provider::{Found, find};
+use type_provider::find;
 
 // A valid book, or what it is refused for: 1 to 4 of document 01, in this order.
 #[derive(Clone, Copy)]
@@ -209,8 +209,8 @@ fn named_root(book: &[u8], name: &[u8]) -> GivenRoot
         return GivenRoot::Refused(23);
     }
     match find(book, name) {
-        Found::At(n) => GivenRoot::Block(n),
-        Found::Nothing => GivenRoot::Lacking,
+        Some(n) => GivenRoot::Block(n),
+        None => GivenRoot::Lacking,
     }
 }
 

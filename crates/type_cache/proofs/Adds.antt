@@ -1,4 +1,5 @@
 -- Adding a valid book's definitions by the call: which are refused, and what an accepted one leaves. Assumes nothing.
+use Rattle.std.specs.Prelude.{Some, None}
 use mathlib.Core.Path.{◌≡◌, refl, sym, ◌∙◌}
 use mathlib.Core.Bool.{Bool, true, false, not, ◌||◌}
 use mathlib.Core.List.{List, ◌++◌}
@@ -9,7 +10,6 @@ use lib.ListN.{length, take}
 use lib.Seq.{length-take-le, take-length, take-paste, length-paste}
 use Rattle.type_book.specs.Book.{blocks, block_of, kind_of, is_type, fields_of, entries_of, name_of}
 use Rattle.type_provider.specs.Find.{find}
-use Rattle.type_provider.specs.declared.Found.TheVariants.{At, Nothing}
 use Rattle.type_book.proofs.Blocks.{same_byte}
 use Rattle.type_doubles.specs.Doubles.{all_from, is_first}
 use Rattle.type_book_check.specs.Check.{sum_at, placed_from, check_book, ValidBook}
@@ -113,12 +113,12 @@ module _ (c : List ℕ) (v : ValidBook c) (n : ℕ) (t : is_type c n ≡ true) w
 
   -- a definition that has room is refused exactly if its name is known, and then with 4
   module _ (buffer : List ℕ) (len : ℕ) (b : check_book buffer len ≡ Valid) where
-    pub add-known : (k : ℕ) → find (take len buffer) (name_of c n) ≡ At k → append_refusal buffer len (definition_of c n) ≡ 4
+    pub add-known : (k : ℕ) → find (take len buffer) (name_of c n) ≡ Some k → append_refusal buffer len (definition_of c n) ≡ 4
     add-known k e =
         sym (refused-known buffer len d (check_book buffer len) refl 0 (valid-number (check_book buffer len) b) refl 0 (sym definition_whole) refl (name_of d 0) refl
         (is_known (take len buffer) (name_of d 0)) refl (sym (known_at (take len buffer) (name_of d 0) _ refl k (rw definition_name e))))
 
-    pub add-lacking : find (take len buffer) (name_of c n) ≡ Nothing → has_room (length buffer) len (length (definition_of c n)) ≡ true → append_refusal buffer len (definition_of c n) ≡ 0
+    pub add-lacking : find (take len buffer) (name_of c n) ≡ None → has_room (length buffer) len (length (definition_of c n)) ≡ true → append_refusal buffer len (definition_of c n) ≡ 0
     add-lacking e r = accepts buffer len d (record { book = b; one = definition_whole; new = sym (known-not (take len buffer) (name_of d 0) _ refl (rw definition_name e)); room = r })
 
 -- ---- a book with a definition of another after it
@@ -129,18 +129,18 @@ pub record Added (book c : List ℕ) (n : ℕ) (after : List ℕ) : Type 0 where
   pub same : Same after (blocks book) c n
   pub kept : (m : ℕ) → is_type book m ≡ true → Same after m book m
   pub types : (m : ℕ) → is_type after m ≡ true → (m ≡ blocks book → ⊥) → is_type book m ≡ true
-  pub found : find after (name_of c n) ≡ At (blocks book)
-  pub old : (name : List ℕ) (k : ℕ) → find book name ≡ At k → find after name ≡ At k
-  pub other : (name : List ℕ) → find book name ≡ Nothing → (name ≡ name_of c n → ⊥) → find after name ≡ Nothing
+  pub found : find after (name_of c n) ≡ Some (blocks book)
+  pub old : (name : List ℕ) (k : ℕ) → find book name ≡ Some k → find after name ≡ Some k
+  pub other : (name : List ℕ) → find book name ≡ None → (name ≡ name_of c n → ⊥) → find after name ≡ None
 
-pub added : (book c : List ℕ) (n : ℕ) → ValidBook book → ValidBook c → is_type c n ≡ true → find book (name_of c n) ≡ Nothing → blocks book + blocks_of c n ≤ 65536
+pub added : (book c : List ℕ) (n : ℕ) → ValidBook book → ValidBook c → is_type c n ≡ true → find book (name_of c n) ≡ None → blocks book + blocks_of c n ≤ 65536
     → Added book c n (book ++ definition_of c n)
 added book c n v w t lacking few =
     let d : List ℕ = definition_of c n in
     let e : name_of d 0 ≡ name_of c n = definition_name c w n t in
     let valid : ValidBook d = definition_valid c w n t in
     let one : OneType d = one_type d valid (definition_one c w n t) in
-    let new : find book (name_of d 0) ≡ Nothing = rw e lacking in
+    let new : find book (name_of d 0) ≡ None = rw e lacking in
     let k : blocks book + blocks d ≤ 65536 = omega (arith, definition_size c w n t) in
     record {
       valid = join-valid book d v valid one new k;
@@ -160,7 +160,7 @@ pub record Grown (buffer : List ℕ) (len : ℕ) (addition : List ℕ) : Type 0 
   pub old : ValidBook (take len buffer)
   pub valid : ValidBook addition
   pub one : OneType addition
-  pub new : find (take len buffer) (name_of addition 0) ≡ Nothing
+  pub new : find (take len buffer) (name_of addition 0) ≡ None
   pub few : blocks (take len buffer) + blocks addition ≤ 65536
   pub book : take (len + length addition) (append_buffer buffer len addition) ≡ take len buffer ++ addition
   pub check : check_book (append_buffer buffer len addition) (len + length addition) ≡ Valid
@@ -172,7 +172,7 @@ module _ (buffer : List ℕ) (len : ℕ) (addition : List ℕ) where
       let old : ValidBook (take len buffer) = valid-book buffer len a.book in
       let valid : ValidBook addition = addition_valid addition a.one in
       let one : OneType addition = one_type addition valid (addition_single addition a.one) in
-      let new : find (take len buffer) (name_of addition 0) ≡ Nothing = unknown _ _ a.new in
+      let new : find (take len buffer) (name_of addition 0) ≡ None = unknown _ _ a.new in
       let in_buffer : len ≤ length buffer = book-fits buffer len a.book in
       let size : length (take len buffer) ≡ len = length-take-le len buffer in_buffer in
       let few : blocks (take len buffer) + blocks addition ≤ 65536 =

@@ -1,4 +1,5 @@
 -- The call: one law for each way out. Assumes nothing.
+use Rattle.std.specs.Prelude.{Option, Some, None}
 use mathlib.Core.Path.{◌≡◌, refl, sym, ap, ◌∙◌}
 use mathlib.Core.Bool.{Bool, true, false, cond}
 use mathlib.Core.List.{List}
@@ -11,8 +12,6 @@ use lib.Dec.{eqb, leb}
 use Rattle.enc_number.specs.Answer.{refusal_of}
 use Rattle.type_book.specs.Book.{name_of}
 use Rattle.type_provider.specs.Find.{find, is_found}
-use Rattle.type_provider.specs.declared.Found.{Found}
-use Rattle.type_provider.specs.declared.Found.TheVariants.{At, Nothing}
 use Rattle.type_book_check.specs.Check.{check_book, book_numbers}
 use Rattle.type_book_check.specs.declared.BookCheck.{BookCheck}
 use Rattle.type_book_check.specs.declared.BookCheck.TheVariants.{Valid, Size, Sum, Form, Doubled}
@@ -49,18 +48,18 @@ module _ (addition : List ℕ) (z : addition_refusal addition ≡ 0) where
   addition_single = single _ (rw addition_valid at z)
 
 -- ---- a known name
-module _ (book name : List ℕ) (r : Found) (e : r ≡ find book name) where
-  pub known_at : (n : ℕ) → r ≡ At n → true ≡ is_known book name
+module _ (book name : List ℕ) (r : Option ℕ) (e : r ≡ find book name) where
+  pub known_at : (n : ℕ) → r ≡ Some n → true ≡ is_known book name
   known_at n h = rw (← e, h)
 
-  pub known-not : r ≡ Nothing → false ≡ is_known book name
+  pub known-not : r ≡ None → false ≡ is_known book name
   known-not h = rw (← e, h)
 
-not_found_lem : (r : Found) → is_found r ≡ false → r ≡ Nothing
-not_found_lem (At n) h = cc
-not_found_lem Nothing h = refl
+not_found_lem : (r : Option ℕ) → is_found r ≡ false → r ≡ None
+not_found_lem (Some n) h = cc
+not_found_lem None h = refl
 
-pub unknown : (book name : List ℕ) → is_known book name ≡ false → find book name ≡ Nothing
+pub unknown : (book name : List ℕ) → is_known book name ≡ false → find book name ≡ None
 unknown book name h = not_found_lem _ h
 
 -- ---- the room

@@ -1,4 +1,5 @@
 -- A valid book with one type after it: its blocks, its definitions, what a look-up finds, and that it is valid. Assumes nothing.
+use Rattle.std.specs.Prelude.{Some, None}
 use mathlib.Core.Path.{◌≡◌, refl, sym, ap, ◌∙◌}
 use mathlib.Core.Bool.{Bool, true, false}
 use mathlib.Core.List.{List, ◌++◌}
@@ -10,7 +11,6 @@ use lib.Seq.{drop-append-add}
 use lib.Dec.{ltb}
 use Rattle.type_book.specs.Book.{blocks, block_of, kind_of, is_type, fields_of, entries_of, name_of, is_named}
 use Rattle.type_provider.specs.Find.{searched, find}
-use Rattle.type_provider.specs.declared.Found.TheVariants.{At, Nothing}
 use Rattle.type_book.proofs.Blocks.{same_byte, block_append}
 use Rattle.type_provider.proofs.Finds.{same-named, named-own, named-name, named-kind, find-nothing, find-is, find-lacks, find_append}
 use Rattle.type_book_check.specs.Check.{ValidBook}
@@ -61,7 +61,7 @@ module _ (book more : List ℕ) (v : ValidBook book) where
       }
 
   -- what was found is found at the same block
-  pub find-kept : (name : List ℕ) (n : ℕ) → find book name ≡ At n → find (book ++ more) name ≡ At n
+  pub find-kept : (name : List ℕ) (n : ℕ) → find book name ≡ Some n → find (book ++ more) name ≡ Some n
   find-kept name n e = find_append book more (λ m l. omega (arith, (valid-names book v m (omega arith)).name.short)) name n e
 
 -- a definition of another book that is added is that of the new block
@@ -103,7 +103,7 @@ module _ (more : List ℕ) (v : ValidBook more) where
           absurd (omega arith)
 
 -- ---- a valid book with one type of a lacking name after it
-module _ (book more : List ℕ) (v : ValidBook book) (w : ValidBook more) (o : OneType more) (new : find book (name_of more 0) ≡ Nothing)
+module _ (book more : List ℕ) (v : ValidBook book) (w : ValidBook more) (o : OneType more) (new : find book (name_of more 0) ≡ None)
     (few : blocks book + blocks more ≤ 65536) where
   pub join-valid : ValidBook (book ++ more)
   join-valid = valid_append book more v w (λ n t. rw (o.all n t) new) few
@@ -111,7 +111,7 @@ module _ (book more : List ℕ) (v : ValidBook book) (w : ValidBook more) (o : O
   size : blocks (book ++ more) ≡ blocks book + blocks more
   size = append_blocks book more v w
 
-  lacks : (name : List ℕ) → find book name ≡ Nothing → (m : ℕ) → m < blocks book → is_named (book ++ more) name m ≡ false
+  lacks : (name : List ℕ) → find book name ≡ None → (m : ℕ) → m < blocks book → is_named (book ++ more) name m ≡ false
   lacks name e m l = named-old book more v name m l ∙ find-nothing book name e m (omega (arith, (valid-size book v).few))
 
   -- the type after it is in a block
@@ -126,7 +126,7 @@ module _ (book more : List ℕ) (v : ValidBook book) (w : ValidBook more) (o : O
   join-type = rw (same_byte (book ++ more) more (blocks book) 0 (join-at book more v) 0 (omega arith)) o.is
 
   -- the new name is found at the new block
-  pub find-new : find (book ++ more) (name_of more 0) ≡ At (blocks book)
+  pub find-new : find (book ++ more) (name_of more 0) ≡ Some (blocks book)
   find-new =
       find-is (book ++ more) (name_of more 0) (blocks book)
       (record {
@@ -136,7 +136,7 @@ module _ (book more : List ℕ) (v : ValidBook book) (w : ValidBook more) (o : O
       (lacks (name_of more 0) new)
 
   -- every other name is found, or not, as before
-  pub find-other : (name : List ℕ) → find book name ≡ Nothing → (name ≡ name_of more 0 → ⊥) → find (book ++ more) name ≡ Nothing
+  pub find-other : (name : List ℕ) → find book name ≡ None → (name ≡ name_of more 0 → ⊥) → find (book ++ more) name ≡ None
   find-other name e n = find-lacks (book ++ more) name (λ m l. by m l (ltb m (blocks book)) refl)
     where
       late : (j : ℕ) (t : Bool) → is_named (book ++ more) name (blocks book + j) ≡ t → is_named (book ++ more) name (blocks book + j) ≡ false

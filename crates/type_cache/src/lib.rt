@@ -8,7 +8,7 @@ ghost use Rattle.type_cache.specs.Append.{is_one_type, addition_refusal, is_know
 use type_book::block;
 use type_book::block::BLOCK;
 use type_book_check::{BookCheck, check_book, refusal_of};
-use type_provider::{Found, find};
+use type_provider::find;
 
 // The book's new length, or document 01's number of the refusal.
 #[derive(Clone, Copy)]
@@ -44,7 +44,7 @@ pub fn addition_refusal(addition: &[u8]) -> u8
 fn is_known(book: &[u8], name: &[u8]) -> bool
     ensures { result ≡ is_known book.now name.now }
 {
-    matches!(find(book, name), Found::At(_))
+    matches!(find(book, name), Some(_))
 }
 
 // The longer book fits the buffer, and has at most 65,536 blocks.

@@ -1,6 +1,6 @@
 -- The category of a type: `AdsTypeCategory::determine` of the Rust, on block n of a type book. The first test that holds
 -- decides, in the Rust's order. Nothing here looks at the block's kind. Assumes nothing.
-use Rattle.std.specs.Prelude.{Bool, cond, not, ◌&&◌, ◌||◌, List, ℕ, ◌+◌, ◌%◌, length, eqb, ltb}
+use Rattle.std.specs.Prelude.{Bool, cond, not, ◌&&◌, ◌||◌, List, ℕ, ◌+◌, ◌%◌, length, eqb, ltb, Option, Some, None}
 use Rattle.type_id.specs.declared.AdsTypeId.{AdsTypeId}
 use Rattle.type_id.specs.declared.AdsTypeId.TheVariants as id
 use Rattle.type_id.specs.TypeId.{id_of}
@@ -9,8 +9,6 @@ use Rattle.type_names.specs.Text.{ascii_bytes, starts_with}
 use Rattle.type_names.specs.Names.{is_pointer_name, is_sub_range_name, is_primitive_name}
 use Rattle.type_category.specs.declared.type_category.AdsTypeCategory.{AdsTypeCategory}
 use Rattle.type_category.specs.declared.type_category.AdsTypeCategory.TheVariants.{None, Primitive, Alias, Enum, Array, Struct, FunctionBlock, SubRange, String, Bitset, Pointer, Union, Reference, Interface}
-use Rattle.type_category.specs.declared.type_category.ById.{ById}
-use Rattle.type_category.specs.declared.type_category.ById.TheVariants.{Is, Next}
 
 -- the type has fields
 abbrev pub has_fields : List ℕ → ℕ → Bool
@@ -49,30 +47,30 @@ unfoldable pub is_alias : List ℕ → ℕ → Bool
 is_alias book n = has_type_name book n && not (has_fields book n) && not (has_methods book n)
 
 -- the type id alone decides primitives, strings and bitsets
-abbrev pub id_step : AdsTypeId → ById
-id_step id.Void = Next
-id_step id.Int16 = Is Primitive
-id_step id.Int32 = Is Primitive
-id_step id.Real32 = Is Primitive
-id_step id.Real64 = Is Primitive
-id_step id.Int8 = Is Primitive
-id_step id.UInt8 = Is Primitive
-id_step id.UInt16 = Is Primitive
-id_step id.UInt32 = Is Primitive
-id_step id.Int64 = Is Primitive
-id_step id.UInt64 = Is Primitive
-id_step id.String = Is String
-id_step id.WString = Is String
-id_step id.Real80 = Is Primitive
-id_step id.Bit = Is Bitset
-id_step id.MaxTypes = Next
-id_step id.BigType = Next
-id_step (id.Unknown k) = Next
+abbrev pub id_step : AdsTypeId → Option AdsTypeCategory
+id_step id.Void = None
+id_step id.Int16 = Some Primitive
+id_step id.Int32 = Some Primitive
+id_step id.Real32 = Some Primitive
+id_step id.Real64 = Some Primitive
+id_step id.Int8 = Some Primitive
+id_step id.UInt8 = Some Primitive
+id_step id.UInt16 = Some Primitive
+id_step id.UInt32 = Some Primitive
+id_step id.Int64 = Some Primitive
+id_step id.UInt64 = Some Primitive
+id_step id.String = Some String
+id_step id.WString = Some String
+id_step id.Real80 = Some Primitive
+id_step id.Bit = Some Bitset
+id_step id.MaxTypes = None
+id_step id.BigType = None
+id_step (id.Unknown k) = None
 
 -- the category that a step decides, or else the next step's
-unfoldable pub or_else : ById → AdsTypeCategory → AdsTypeCategory
-or_else (Is c) next = c
-or_else Next next = next
+unfoldable pub or_else : Option AdsTypeCategory → AdsTypeCategory → AdsTypeCategory
+or_else (Some c) next = c
+or_else None next = next
 
 -- a union has two fields or more, the first two at one offset, and neither a type name nor methods
 unfoldable pub is_union : List ℕ → ℕ → Bool

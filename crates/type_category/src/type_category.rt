@@ -46,13 +46,6 @@ pub enum AdsTypeCategory {
     Interface,
 }
 
-// What the type id alone gives: the category, or that what follows decides.
-#[derive(Clone, Copy)]
-pub enum ById {
-    Is(AdsTypeCategory),
-    Next,
-}
-
 impl AdsTypeCategory {
     // The category of block n, for pointers of `width` bytes. The width tells interfaces from function blocks where both
     // have methods. An empty function block with no interface is taken for an interface.
@@ -92,7 +85,7 @@ fn simple(book: &[u8], width: u8, n: u32) -> AdsTypeCategory
         }
         return AdsTypeCategory::Alias;
     }
-    if let ById::Is(category) = by_type_id(block::type_id(book, n)) {
+    if let Some(category) = by_type_id(block::type_id(book, n)) {
         return category;
     }
     if is_primitive_name(name) {
@@ -112,7 +105,7 @@ fn is_alias(book: &[u8], n: u32) -> bool
 }
 
 // Primitives, bitsets and strings.
-fn by_type_id(id: AdsTypeId) -> ById
+fn by_type_id(id: AdsTypeId) -> Option<AdsTypeCategory>
     ensures { result ≡ id_step id }
 {
     match id {
@@ -126,11 +119,11 @@ fn by_type_id(id: AdsTypeId) -> ById
         | AdsTypeId::UInt64
         | AdsTypeId::Real32
         | AdsTypeId::Real64
-        | AdsTypeId::Real80 => ById::Is(AdsTypeCategory::Primitive),
-        AdsTypeId::Bit => ById::Is(AdsTypeCategory::Bitset),
-        AdsTypeId::String | AdsTypeId::WString => ById::Is(AdsTypeCategory::String),
+        | AdsTypeId::Real80 => Some(AdsTypeCategory::Primitive),
+        AdsTypeId::Bit => Some(AdsTypeCategory::Bitset),
+        AdsTypeId::String | AdsTypeId::WString => Some(AdsTypeCategory::String),
         AdsTypeId::Void | AdsTypeId::MaxTypes | AdsTypeId::BigType | AdsTypeId::Unknown(_) => {
-            ById::Next
+            None
         }
     }
 }

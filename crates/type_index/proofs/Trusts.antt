@@ -1,4 +1,5 @@
 -- When an index's "not there" is the book's, and that a look-up by an index gives what the search of the book gives. Assumes nothing.
+use Rattle.std.specs.Prelude.{Option, Some, None}
 use mathlib.Core.Path.{◌≡◌, refl, sym, ◌∙◌}
 use mathlib.Core.Bool.{Bool, true, false, cond, not, ◌||◌}
 use mathlib.Core.List.{List}
@@ -6,8 +7,6 @@ use Prim.Native.Nat.{ℕ, zero, suc, ◌+◌, ◌≤◌, ◌<◌}
 use native.Mathlib.Omega.{arith}
 use native.Mathlib.Nat.{eq-or-lt_of_le}
 use mathlib.Core.Logic.{⊎_elim}
-use Rattle.type_provider.specs.declared.Found.{Found}
-use Rattle.type_provider.specs.declared.Found.TheVariants.{At, Nothing}
 use Rattle.type_book.specs.Book.{is_type, name_of, type_name_of}
 use Rattle.type_provider.specs.Find.{searched, find, found_numbers, NamedBlock, is_found}
 use Rattle.type_provider.proofs.Finds.{find-named, named-kind, named-name, unique-find}
@@ -78,7 +77,7 @@ module _ (book index : List ℕ) where
   -- ---- its "not there" is the book's
 
   -- whatever the hash: an index that leads to each type block by its own name leads to every name that the book has
-  pub not_there : holds_all book index ≡ true → (name : List ℕ) → probe_of book index name ≡ Nothing → find book name ≡ Nothing
+  pub not_there : holds_all book index ≡ true → (name : List ℕ) → probe_of book index name ≡ None → find book name ≡ None
   unfolding holds_all leads
   not_there h name e = by (find book name) refl
     where
@@ -86,23 +85,23 @@ module _ (book index : List ℕ) where
       led n b q =
           let t : is_type book n ≡ true = named-kind book name n b.named in
           let w : name_of book n ≡ name = named-name book name n b.named in
-          let x : ◌≡◌ {A = Bool} (not true || is_found Nothing) true = (rw (t, w, e) at q) in
+          let x : ◌≡◌ {A = Bool} (not true || is_found None) true = (rw (t, w, e) at q) in
           let z : ◌≡◌ {A = ℕ} 0 1 = cc in omega arith
 
-      by : (f : Found) → find book name ≡ f → find book name ≡ Nothing
-      by Nothing q = q
-      by (At n) q =
+      by : (f : Option ℕ) → find book name ≡ f → find book name ≡ None
+      by None q = q
+      by (Some n) q =
           let b = find-named book name n q in
           absurd (led n b (each (searched book) 0 h n (omega arith) (let l : n < searched book = b.below in omega arith)))
 
 -- ---- the look-ups
 
 module _ (book name : List ℕ) where
-  pub not-held : (t : Trust) → t ≡ trust.Held → Nothing ≡ not_led book t name
+  pub not-held : (t : Trust) → t ≡ trust.Held → None ≡ not_led book t name
   unfolding not_led
   not-held t e = rw e
 
-  module _ (t : Trust) (r : Found) (er : found_numbers r ≡ found_numbers (find book name)) where
+  module _ (t : Trust) (r : Option ℕ) (er : found_numbers r ≡ found_numbers (find book name)) where
     pub not-unknown : t ≡ trust.Unknown → r ≡ not_led book t name
     unfolding not_led
     not-unknown e = rw e (found-is _ _ er)
@@ -111,7 +110,7 @@ module _ (book name : List ℕ) where
     unfolding not_led
     not_foreign e = rw e (found-is _ _ er)
 
-  by_search : (r : Found) → r ≡ find book name → FoundBy book name r
+  by_search : (r : Option ℕ) → r ≡ find book name → FoundBy book name r
   by_search r e =
       record {
         at = λ n h. find-named book name n (sym e ∙ found-is _ _ h);
@@ -119,20 +118,20 @@ module _ (book name : List ℕ) where
         unique = λ u. found-says _ _ e;
       }
 
-  by_probed : (r : Found) (n : ℕ) → Probed book name r → r ≡ At n → FoundBy book name (At n)
+  by_probed : (r : Option ℕ) (n : ℕ) → Probed book name r → r ≡ Some n → FoundBy book name (Some n)
   by_probed r n p e =
       record {
         at = λ m h. p.at m (e ∙ found-is _ _ h);
-        nothing = λ h. absurd (let q : At n ≡ Nothing = found-is _ _ h in let z : ◌≡◌ {A = ℕ} 0 1 = cc in omega arith);
+        nothing = λ h. absurd (let q : Some n ≡ None = found-is _ _ h in let z : ◌≡◌ {A = ℕ} 0 1 = cc in omega arith);
         unique = λ u. found-says _ _ (sym (unique-find book u name n (p.at n e)));
       }
 
-  module _ (index : List ℕ) (f : Found) (ef : f ≡ probe_of book index name) where
-    pub by_probe : (n : ℕ) → f ≡ At n → FoundBy book name (At n)
+  module _ (index : List ℕ) (f : Option ℕ) (ef : f ≡ probe_of book index name) where
+    pub by_probe : (n : ℕ) → f ≡ Some n → FoundBy book name (Some n)
     by_probe n e = by_probed f n (probe_probed book index name f ef) e
 
     -- the index does not lead to the name: the search, or the index that holds all, says that it is not there
-    pub by_trust : (t : Trust) → Trusted book index t → f ≡ Nothing → (r : Found) → r ≡ not_led book t name → FoundBy book name r
+    pub by_trust : (t : Trust) → Trusted book index t → f ≡ None → (r : Option ℕ) → r ≡ not_led book t name → FoundBy book name r
     unfolding not_led
     by_trust t k e r er = by_search r (er ∙ same t k)
       where
@@ -142,8 +141,8 @@ module _ (book name : List ℕ) where
         same trust.Foreign k = refl
 
 -- the same of the type name of a block, by its hint or by its name
-module _ (book : List ℕ) (b : ℕ) (name : List ℕ) (en : name ≡ type_name_of book b) (r : Found) where
-  pub of_hint : (slot : ℕ) → r ≡ led_to book name slot → (n : ℕ) → r ≡ At n → FoundBy book (type_name_of book b) (At n)
+module _ (book : List ℕ) (b : ℕ) (name : List ℕ) (en : name ≡ type_name_of book b) (r : Option ℕ) where
+  pub of_hint : (slot : ℕ) → r ≡ led_to book name slot → (n : ℕ) → r ≡ Some n → FoundBy book (type_name_of book b) (Some n)
   of_hint slot er n e = rw (← en) (by_probed book name r n (led_probed book name slot r er) e)
 
   pub of_name : FoundBy book name r → FoundBy book (type_name_of book b) r

@@ -1,10 +1,8 @@
 -- An index of the names of a book's types: where a name is tried in it, what the look-up by it answers, and what a new one holds. A number of
 -- an index says nothing if it is 0, and else stands for the block whose number is one less. Assumes nothing.
-use Rattle.std.specs.Prelude.{◌≡◌, Bool, cond, ◌&&◌, List, ℕ, zero, suc, ◌+◌, ◌-◌, ◌*◌, ◌/◌, min, length, get_or, set, replicate, eqb, ltb, leb}
+use Rattle.std.specs.Prelude.{◌≡◌, Bool, cond, ◌&&◌, List, ℕ, zero, suc, ◌+◌, ◌-◌, ◌*◌, ◌/◌, min, length, get_or, set, replicate, eqb, ltb, leb, Option, Some, None}
 use Rattle.type_book.specs.Book.{is_type, name_of, type_name_of, is_named}
 use Rattle.type_marks.specs.Marks.{hash_of}
-use Rattle.type_provider.specs.declared.Found.{Found}
-use Rattle.type_provider.specs.declared.Found.TheVariants.{At, Nothing}
 use Rattle.type_provider.specs.Find.{searched, find, found_numbers, NamedBlock, UniqueNames}
 
 -- 6: the index has at least 16,384 numbers
@@ -27,31 +25,31 @@ unfoldable pub next_of : ℕ → ℕ → ℕ
 next_of n at = cond (ltb (at + 1) n) (at + 1) 0
 
 -- the type block that a number of the index stands for, if it is one of that name
-unfoldable pub led_to : List ℕ → List ℕ → ℕ → Found
-led_to book name zero = Nothing
-led_to book name (suc n) = cond (ltb n (searched book) && is_named book name n) (At n) Nothing
+unfoldable pub led_to : List ℕ → List ℕ → ℕ → Option ℕ
+led_to book name zero = None
+led_to book name (suc n) = cond (ltb n (searched book) && is_named book name n) (Some n) None
 
 -- the first that is found
-unfoldable pub first_found : Found → Found → Found
-first_found (At n) f = At n
-first_found Nothing f = f
+unfoldable pub first_found : Option ℕ → Option ℕ → Option ℕ
+first_found (Some n) f = Some n
+first_found None f = f
 
 -- ---- the look-up
 
 -- the type block of that name among k slots from slot `at` on; an empty slot ends the search
-unfoldable pub probe_from : List ℕ → List ℕ → List ℕ → ℕ → ℕ → ℕ → Found
-probe_from book index name n at zero = Nothing
+unfoldable pub probe_from : List ℕ → List ℕ → List ℕ → ℕ → ℕ → ℕ → Option ℕ
+probe_from book index name n at zero = None
 probe_from book index name n at (suc k) =
-    cond (eqb (get_or index at 0) 0) Nothing (first_found (led_to book name (get_or index at 0)) (probe_from book index name n (next_of n at) k))
+    cond (eqb (get_or index at 0) 0) None (first_found (led_to book name (get_or index at 0)) (probe_from book index name n (next_of n at) k))
 
 -- the type block of that name to which the index leads: 64 slots from the name's place on are tried
-unfoldable pub probe_of : List ℕ → List ℕ → List ℕ → Found
+unfoldable pub probe_of : List ℕ → List ℕ → List ℕ → Option ℕ
 probe_of book index name = probe_from book index name (slots_of book (length index)) (slot_for name (slots_of book (length index))) 64
 
 -- what the look-up by an index answers, whatever the index holds
-pub record FoundBy (book name : List ℕ) (r : Found) : Type 0 where
-  pub at : (n : ℕ) → found_numbers r ≡ found_numbers (At n) → NamedBlock book name n
-  pub nothing : found_numbers r ≡ found_numbers Nothing → found_numbers (find book name) ≡ found_numbers Nothing
+pub record FoundBy (book name : List ℕ) (r : Option ℕ) : Type 0 where
+  pub at : (n : ℕ) → found_numbers r ≡ found_numbers (Some n) → NamedBlock book name n
+  pub nothing : found_numbers r ≡ found_numbers None → found_numbers (find book name) ≡ found_numbers None
   pub unique : UniqueNames book → found_numbers r ≡ found_numbers (find book name)
 
 -- ---- what a new index holds
@@ -81,9 +79,9 @@ names_index book len = entered_from book (replicate len 0) 0 (searched book)
 -- ---- hints
 
 -- the hint for a block, by the type to which the index leads by the block's type name
-unfoldable pub hint_for : Found → ℕ
-hint_for (At t) = t + 1
-hint_for Nothing = 0
+unfoldable pub hint_for : Option ℕ → ℕ
+hint_for (Some t) = t + 1
+hint_for None = 0
 
 -- the index with k hints, for the blocks from block b on, past its slots
 unfoldable pub hints_from : List ℕ → List ℕ → ℕ → ℕ → List ℕ

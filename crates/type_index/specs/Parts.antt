@@ -1,8 +1,6 @@
 -- What the parts of the look-up by an index promise each other. Assumes nothing.
-use Rattle.std.specs.Prelude.{◌≡◌, List, ℕ, ◌+◌, ◌≤◌, ◌<◌}
+use Rattle.std.specs.Prelude.{◌≡◌, List, ℕ, ◌+◌, ◌≤◌, ◌<◌, Option, Some}
 use Rattle.type_provider.specs.Find.{NamedBlock}
-use Rattle.type_provider.specs.declared.Found.{Found}
-use Rattle.type_provider.specs.declared.Found.TheVariants.{At}
 use Rattle.type_index.specs.Index.{slots_of, slot_for, next_of}
 
 -- the hints begin after the slots, within an index of len numbers, and are no more than a book has blocks
@@ -23,5 +21,5 @@ pub record NextIs (at n r : ℕ) : Type 0 where
   pub below : r < n
 
 -- a block to which the index leads is a type block of that name
-pub record Probed (book name : List ℕ) (r : Found) : Type 0 where
-  pub at : (n : ℕ) → r ≡ At n → NamedBlock book name n
+pub record Probed (book name : List ℕ) (r : Option ℕ) : Type 0 where
+  pub at : (n : ℕ) → r ≡ Some n → NamedBlock book name n

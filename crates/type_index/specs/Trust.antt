@@ -1,8 +1,6 @@
 -- When an index's "not there" is the book's: it leads to each type block of the book by the block's own name. Assumes nothing.
-use Rattle.std.specs.Prelude.{◌≡◌, Bool, true, cond, not, ◌&&◌, ◌||◌, List, ℕ, zero, suc, ◌+◌}
+use Rattle.std.specs.Prelude.{◌≡◌, Bool, true, cond, not, ◌&&◌, ◌||◌, List, ℕ, zero, suc, ◌+◌, Option, None}
 use Rattle.type_book.specs.Book.{is_type, name_of}
-use Rattle.type_provider.specs.declared.Found.{Found}
-use Rattle.type_provider.specs.declared.Found.TheVariants.{Nothing}
 use Rattle.type_provider.specs.Find.{searched, find, is_found}
 use Rattle.type_index.specs.declared.Trust.{Trust}
 use Rattle.type_index.specs.declared.Trust.TheVariants as trust
@@ -28,8 +26,8 @@ trust_then book index trust.Foreign = trust.Foreign
 trust_then book index trust.Unknown = cond (holds_all book index) trust.Held trust.Foreign
 
 -- the look-up of a name to which the index does not lead
-unfoldable pub not_led : List ℕ → Trust → List ℕ → Found
-not_led book trust.Held name = Nothing
+unfoldable pub not_led : List ℕ → Trust → List ℕ → Option ℕ
+not_led book trust.Held name = None
 not_led book trust.Unknown name = find book name
 not_led book trust.Foreign name = find book name
 

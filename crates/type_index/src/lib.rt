@@ -14,7 +14,7 @@ ghost use Rattle.type_index.specs.Trust.{leads, holds_all, trust_then, not_led, 
 use enc_zeros::clear_numbers;
 use type_book::block;
 use type_marks::hash;
-use type_provider::{Found, find, is_named, searched};
+use type_provider::{find, is_named, searched};
 
 // How many slots of an index are tried for a name.
 const PROBES: usize = 64;
@@ -74,40 +74,40 @@ fn next_slot(at: usize, len: usize) -> usize
 
 // The block that a slot holds, if it is a type block of that name. A slot may hold any number: nothing is believed
 // before it is compared.
-fn believe(book: &[u8], name: &[u8], slot: u32) -> Found
+fn believe(book: &[u8], name: &[u8], slot: u32) -> Option<u32>
     ensures { result ≡ led_to book.now name.now slot }
 {
     if slot == 0 {
-        return Found::Nothing;
+        return None;
     }
     let n = slot - 1;
     if n < searched(book) && is_named(book, name, n) {
-        return Found::At(n);
+        return Some(n);
     }
-    Found::Nothing
+    None
 }
 
 // The type block of that name, if the index leads to it: the slots are tried up to the first empty one, and the book is not searched.
-fn probe(book: &[u8], index: &[u32], name: &[u8]) -> Found
+fn probe(book: &[u8], index: &[u32], name: &[u8]) -> Option<u32>
     ensures { result ≡ probe_of book.now index.now name.now }
 {
     let slots = hints_at(book, index.len());
     if slots == 0 {
-        return Found::Nothing;
+        return None;
     }
     let mut at = first_slot(name, slots);
     for _ in 0..PROBES {
         let slot = index[at];
         if slot == 0 {
-            return Found::Nothing;
+            return None;
         }
         let found = believe(book, name, slot);
-        let Found::Nothing = found else {
+        let None = found else {
             return found;
         };
         at = next_slot(at, slots);
     }
-    Found::Nothing
+    None
 }
 
 // The hint for block b, 0 where the index has none.
@@ -123,7 +123,7 @@ fn hint_of(book: &[u8], index: &[u32], b: u32) -> u32 {
 fn leads_to(book: &[u8], index: &[u32], n: u32) -> bool
     ensures { result ≡ leads book.now index.now n }
 {
-    !block::is_type(book, n) || matches!(probe(book, index, block::name(book, n)), Found::At(_))
+    !block::is_type(book, n) || matches!(probe(book, index, block::name(book, n)), Some(_))
 }
 
 // Whether the index leads to every type block of the book. Then it leads to every name that the book has.
@@ -153,45 +153,45 @@ pub fn hold_against(book: &[u8], index: &[u32], trust: Trust) -> Trust
 // ---- the look-ups
 
 // The answer where the index does not lead to a name: the index is believed if it was held against the book, else the book is searched.
-fn not_led(book: &[u8], trust: Trust, name: &[u8]) -> Found
+fn not_led(book: &[u8], trust: Trust, name: &[u8]) -> Option<u32>
     ensures { result ≡ not_led book.now trust name.now }
 {
     match trust {
-        Trust::Held => Found::Nothing,
+        Trust::Held => None,
         Trust::Unknown | Trust::Foreign => find(book, name),
     }
 }
 
 // The type block of that name, whatever the index holds, by what is known of the index.
-pub fn find_in(book: &[u8], index: &[u32], trust: Trust, name: &[u8]) -> Found
+pub fn find_in(book: &[u8], index: &[u32], trust: Trust, name: &[u8]) -> Option<u32>
     requires { Trusted book.now index.now trust }
     ensures { FoundBy book.now name.now result }
 {
     let found = probe(book, index, name);
-    let Found::At(n) = found else {
+    let Some(n) = found else {
         return not_led(book, trust, name);
     };
-    Found::At(n)
+    Some(n)
 }
 
 // The same where nothing is known of the index.
-pub fn find_by(book: &[u8], index: &[u32], name: &[u8]) -> Found
+pub fn find_by(book: &[u8], index: &[u32], name: &[u8]) -> Option<u32>
     ensures { FoundBy book.now name.now result }
 {
     find_in(book, index, Trust::Unknown, name)
 }
 
 // The type that block b's type name finds, whatever the index holds: by the block's hint, else by the name.
-pub fn type_of(book: &[u8], index: &[u32], trust: Trust, b: u32) -> Found
+pub fn type_of(book: &[u8], index: &[u32], trust: Trust, b: u32) -> Option<u32>
     requires { Trusted book.now index.now trust }
     ensures { FoundBy book.now (type_name_of book.now b) result }
 {
     let name = block::type_name(book, b);
     let found = believe(book, name, hint_of(book, index, b));
-    let Found::At(t) = found else {
+    let Some(t) = found else {
         return find_in(book, index, trust, name);
     };
-    Found::At(t)
+    Some(t)
 }
 
 // ---- the making of an index
@@ -235,8 +235,8 @@ fn hint(book: &[u8], index: &[u32], b: u32) -> u32
     ensures { result ≡ hint_for (probe_of book.now index.now (type_name_of book.now b)) }
 {
     match probe(book, index, block::type_name(book, b)) {
-        Found::At(t) => t + 1,
-        Found::Nothing => 0,
+        Some(t) => t + 1,
+        None => 0,
     }
 }
 

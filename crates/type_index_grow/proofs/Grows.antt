@@ -1,4 +1,5 @@
 -- An index that leads to every type of a book, and takes the type that is appended, leads to every type of the longer book. Assumes nothing.
+use Rattle.std.specs.Prelude.{None}
 use mathlib.Core.Path.{◌≡◌, refl, sym, ap, ◌∙◌}
 use mathlib.Core.Bool.{Bool, true, false, cond, not, ◌&&◌, ◌||◌}
 use mathlib.Core.List.{List, ◌++◌}
@@ -10,8 +11,6 @@ use lib.ListN.{length, get_or, set, length-set}
 use lib.Dec.{eqb, ltb}
 use borrow.Author.Tests.{eqb-true, eqb-false, ltb-true, lt-ltb}
 use Rattle.type_book.specs.Book.{blocks, is_type, name_of}
-use Rattle.type_provider.specs.declared.Found.{Found}
-use Rattle.type_provider.specs.declared.Found.TheVariants.{Nothing}
 use Rattle.type_provider.specs.Find.{searched, find, NamedBlock, is_found}
 use Rattle.type_provider.proofs.Finds.{find-named}
 use Rattle.type_block_form.proofs.Bytes.{and_left, and_right}
@@ -60,7 +59,7 @@ unfolding slots_of
 all_slots book len n g l = rw (lt-ltb (len / 3) (searched book) (omega arith))
 
 -- ---- a valid book with one type of a lacking name after it
-module _ (book d : List ℕ) (v : ValidBook book) (w : ValidBook d) (o : OneType d) (new : find book (name_of d 0) ≡ Nothing)
+module _ (book d : List ℕ) (v : ValidBook book) (w : ValidBook d) (o : OneType d) (new : find book (name_of d 0) ≡ None)
     (few : blocks book + blocks d ≤ 65536) (index : List ℕ) (h : holds_all book index ≡ true)
     (t : takes (book ++ d) index (blocks book) ≡ true) where
   abbrev longer : List ℕ

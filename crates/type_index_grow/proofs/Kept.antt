@@ -1,4 +1,5 @@
 -- A number put into an empty slot: what the index led to it leads to still, and it leads to what the number stands for. Assumes nothing.
+use Rattle.std.specs.Prelude.{Option, Some, None}
 use mathlib.Core.Path.{◌≡◌, refl, sym, ap, ◌∙◌}
 use mathlib.Core.Bool.{Bool, true, false, cond, ◌&&◌}
 use mathlib.Core.List.{List}
@@ -8,8 +9,6 @@ use lib.ListN.{length, get_or, set}
 use lib.Seq.{get_or-set_same, get_or-set_other}
 use lib.Dec.{eqb, ltb}
 use borrow.Author.Tests.{eq-eqb, ne_eqb, eqb-true, eqb-false, ltb-true, lt-ltb}
-use Rattle.type_provider.specs.declared.Found.{Found}
-use Rattle.type_provider.specs.declared.Found.TheVariants.{At, Nothing}
 use Rattle.type_provider.specs.Find.{searched, NamedBlock, is_found}
 use Rattle.type_book.specs.Book.{is_named}
 use Rattle.type_block_form.proofs.Bytes.{and_left, and_right}
@@ -32,21 +31,21 @@ module _ (index : List ℕ) (f : ℕ) (free : get_or index f 0 ≡ 0) (x : ℕ) 
   pub slot_kept : (at : ℕ) → (get_or index at 0 ≡ 0 → ⊥) → get_or (set index f x) at 0 ≡ get_or index at 0
   slot_kept at ne = get_or-set_other index f at x 0 (λ e. ne (rw e free))
 
-or_found : (a b : Found) → is_found b ≡ true → is_found (first_found a b) ≡ true
+or_found : (a b : Option ℕ) → is_found b ≡ true → is_found (first_found a b) ≡ true
 unfolding first_found
-or_found (At n) b h = refl
-or_found Nothing b h = h
+or_found (Some n) b h = refl
+or_found None b h = h
 
-or_here : (a b : Found) → is_found a ≡ true → is_found (first_found a b) ≡ true
+or_here : (a b : Option ℕ) → is_found a ≡ true → is_found (first_found a b) ≡ true
 unfolding first_found
-or_here (At m) b h = refl
-or_here Nothing b h = absurd (let z : ◌≡◌ {A = ℕ} 0 1 = cc in omega arith)
+or_here (Some m) b h = refl
+or_here None b h = absurd (let z : ◌≡◌ {A = ℕ} 0 1 = cc in omega arith)
 
-or_both : (a b : Found) → (is_found a ≡ true → is_found b ≡ true) → (p q : Found) → (is_found p ≡ true → is_found q ≡ true)
+or_both : (a b : Option ℕ) → (is_found a ≡ true → is_found b ≡ true) → (p q : Option ℕ) → (is_found p ≡ true → is_found q ≡ true)
     → is_found (first_found a p) ≡ true → is_found (first_found b q) ≡ true
 unfolding first_found
-or_both (At m) b i p q j h = or_here b q (i refl)
-or_both Nothing b i p q j h = or_found b q (j h)
+or_both (Some m) b i p q j h = or_here b q (i refl)
+or_both None b i p q j h = or_found b q (j h)
 
 -- a block that has the name is led to
 pub led-found : (book name : List ℕ) (n : ℕ) → NamedBlock book name n → is_found (led_to book name (n + 1)) ≡ true
@@ -63,7 +62,7 @@ module _ (old new name : List ℕ) (kept : (m : ℕ) → NamedBlock old name m �
   led-kept zero h = absurd (let z : ◌≡◌ {A = ℕ} 0 1 = cc in omega arith)
   led-kept (suc n) h = by (ltb n (searched old) && is_named old name n) refl h
     where
-      by : (g : Bool) → ltb n (searched old) && is_named old name n ≡ g → is_found (cond g (At n) Nothing) ≡ true → is_found (led_to new name (suc n)) ≡ true
+      by : (g : Bool) → ltb n (searched old) && is_named old name n ≡ g → is_found (cond g (Some n) None) ≡ true → is_found (led_to new name (suc n)) ≡ true
       by true e q =
           let b : NamedBlock new name n = kept n (record { below = ltb-true n (searched old) (and_left (ltb n (searched old)) (is_named old name n) e); named = and_right (ltb n (searched old)) (is_named old name n) e }) in
           let l : ltb n (searched new) ≡ true = lt-ltb n (searched new) b.below in
@@ -82,8 +81,8 @@ module _ (old new name : List ℕ) (kept : (m : ℕ) → NamedBlock old name m �
       where
         by : (g : Bool) → eqb (get_or index at 0) 0 ≡ g
             → (is_found (probe_from old index name n (next_of n at) k) ≡ true → is_found (probe_from new index' name n (next_of n at) k) ≡ true)
-            → is_found (cond g Nothing (first_found (led_to old name (get_or index at 0)) (probe_from old index name n (next_of n at) k))) ≡ true
-            → is_found (cond (eqb (get_or index' at 0) 0) Nothing (first_found (led_to new name (get_or index' at 0)) (probe_from new index' name n (next_of n at) k))) ≡ true
+            → is_found (cond g None (first_found (led_to old name (get_or index at 0)) (probe_from old index name n (next_of n at) k))) ≡ true
+            → is_found (cond (eqb (get_or index' at 0) 0) None (first_found (led_to new name (get_or index' at 0)) (probe_from new index' name n (next_of n at) k))) ≡ true
         by true e ih q = absurd (let z : ◌≡◌ {A = ℕ} 0 1 = cc in omega arith)
         by false e ih q =
             rw (slot_kept index f free x at (eqb-false _ _ e), e)
@@ -102,7 +101,7 @@ module _ (book name index : List ℕ) (f : ℕ) (x : ℕ) (some : x ≡ 0 → �
       by : (g : Bool) → eqb (get_or index at 0) 0 ≡ g
           → (free_from index n (next_of n at) k ≡ f → is_found (probe_from book index'' name n (next_of n at) k) ≡ true)
           → cond g at (free_from index n (next_of n at) k) ≡ f
-          → is_found (cond (eqb (get_or index'' at 0) 0) Nothing (first_found (led_to book name (get_or index'' at 0)) (probe_from book index'' name n (next_of n at) k))) ≡ true
+          → is_found (cond (eqb (get_or index'' at 0) 0) None (first_found (led_to book name (get_or index'' at 0)) (probe_from book index'' name n (next_of n at) k))) ≡ true
       by true g ih q =
           let s : get_or index'' at 0 ≡ x = rw q (get_or-set_same index f x 0 l) in
           rw (s, ne_eqb x 0 some) (or_here (led_to book name x) _ led)

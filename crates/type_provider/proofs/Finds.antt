@@ -1,4 +1,5 @@
 -- The first type block of a name: what `find` says, and the turns of its loop. Assumes nothing.
+use Rattle.std.specs.Prelude.{Some, None}
 use mathlib.Core.Path.{◌≡◌, refl, sym, ap, ◌∙◌}
 use mathlib.Core.Bool.{Bool, true, false, cond, ◌&&◌}
 use mathlib.Core.List.{List, ◌++◌}
@@ -7,7 +8,6 @@ use Prim.Native.Nat.{ℕ, zero, suc, ◌+◌, ◌≤◌, ◌<◌}
 use native.Mathlib.Omega.{arith}
 use native.Mathlib.Nat.{eq-or-lt_of_le}
 use lib.ListN.{length-append}
-use Rattle.type_provider.specs.declared.Found.TheVariants.{At, Nothing}
 use Rattle.type_book.specs.Book.{blocks, block_of, byte_at, is_type, name_of, same_name, is_named}
 use Rattle.type_provider.specs.Find.{searched, find_from, find, TypeBlock, NamedBlock, UniqueNames}
 use Rattle.type_book.proofs.Blocks.{same_byte, same-counted, block_append}
@@ -51,7 +51,7 @@ searched-all book h = omega arith
 -- ---- the search
 
 module _ (book name : List ℕ) where
-  step : (i k : ℕ) (t : Bool) → t ≡ is_named book name i → find_from book name i (suc k) ≡ cond t (At i) (find_from book name (i + 1) k)
+  step : (i k : ℕ) (t : Bool) → t ≡ is_named book name i → find_from book name i (suc k) ≡ cond t (Some i) (find_from book name (i + 1) k)
   unfolding find_from
   step i k t e = rw e
 
@@ -61,13 +61,13 @@ module _ (book name : List ℕ) where
     named : is_named book name n ≡ true
     first : (m : ℕ) → i ≤ m → m < n → is_named book name m ≡ false
 
-  from_found : (k i n : ℕ) → find_from book name i k ≡ At n → First i k n
+  from_found : (k i n : ℕ) → find_from book name i k ≡ Some n → First i k n
   unfolding find_from
   from_found zero i n e = absurd (let z : ◌≡◌ {A = ℕ} 0 1 = cc in omega arith)
   from_found (suc k) i n e = by (is_named book name i) refl (from_found k (i + 1) n) e
     where
-      by : (g : Bool) → is_named book name i ≡ g → (find_from book name (i + 1) k ≡ At n → First (i + 1) k n)
-          → cond g (At i) (find_from book name (i + 1) k) ≡ At n → First i (suc k) n
+      by : (g : Bool) → is_named book name i ≡ g → (find_from book name (i + 1) k ≡ Some n → First (i + 1) k n)
+          → cond g (Some i) (find_from book name (i + 1) k) ≡ Some n → First i (suc k) n
       by true h ih e =
           let q : i ≡ n = cc in
           record {
@@ -83,79 +83,79 @@ module _ (book name : List ℕ) where
             first = λ m l b. ⊎_elim (λ q. rw (← q) h) (λ q. r.first m (omega arith) b) (eq-or-lt_of_le l);
           }
 
-  from_nothing : (k i : ℕ) → find_from book name i k ≡ Nothing → (m : ℕ) → i ≤ m → m < i + k → is_named book name m ≡ false
+  from_nothing : (k i : ℕ) → find_from book name i k ≡ None → (m : ℕ) → i ≤ m → m < i + k → is_named book name m ≡ false
   unfolding find_from
   from_nothing zero i e m l b = absurd (omega arith)
   from_nothing (suc k) i e m l b = by (is_named book name i) refl (from_nothing k (i + 1)) e
     where
       by : (g : Bool) → is_named book name i ≡ g
-          → (find_from book name (i + 1) k ≡ Nothing → (m : ℕ) → i + 1 ≤ m → m < i + 1 + k → is_named book name m ≡ false)
-          → cond g (At i) (find_from book name (i + 1) k) ≡ Nothing → is_named book name m ≡ false
+          → (find_from book name (i + 1) k ≡ None → (m : ℕ) → i + 1 ≤ m → m < i + 1 + k → is_named book name m ≡ false)
+          → cond g (Some i) (find_from book name (i + 1) k) ≡ None → is_named book name m ≡ false
       by true h ih e = absurd (let z : ◌≡◌ {A = ℕ} 0 1 = cc in omega arith)
       by false h ih e = ⊎_elim (λ q. rw (← q) h) (λ q. ih e m (omega arith) (omega arith)) (eq-or-lt_of_le l)
 
   from_is : (k i n : ℕ) → i ≤ n → n < i + k → is_named book name n ≡ true
-      → ((m : ℕ) → i ≤ m → m < n → is_named book name m ≡ false) → find_from book name i k ≡ At n
+      → ((m : ℕ) → i ≤ m → m < n → is_named book name m ≡ false) → find_from book name i k ≡ Some n
   from_is zero i n l b h f = absurd (omega arith)
   from_is (suc k) i n l b h f =
       ⊎_elim
-      (λ q. step i k true (sym (rw q h)) ∙ ap At q)
+      (λ q. step i k true (sym (rw q h)) ∙ ap Some q)
       (λ q. step i k false (sym (f i (omega arith) q)) ∙ from_is k (i + 1) n (omega arith) (omega arith) h (λ m a c. f m (omega arith) c))
       (eq-or-lt_of_le l)
 
-  from-lacks : (k i : ℕ) → ((m : ℕ) → i ≤ m → m < i + k → is_named book name m ≡ false) → find_from book name i k ≡ Nothing
+  from-lacks : (k i : ℕ) → ((m : ℕ) → i ≤ m → m < i + k → is_named book name m ≡ false) → find_from book name i k ≡ None
   unfolding find_from
   from-lacks zero i f = refl
   from-lacks (suc k) i f =
       step i k false (sym (f i (omega arith) (omega arith))) ∙ from-lacks k (i + 1) (λ m a c. f m (omega arith) (omega arith))
 
   -- what is found is a type block of that name
-  pub find-named : (n : ℕ) → find book name ≡ At n → NamedBlock book name n
+  pub find-named : (n : ℕ) → find book name ≡ Some n → NamedBlock book name n
   unfolding find
   find-named n e = let r = from_found (searched book) 0 n e in record { below = omega arith; named = r.named }
 
   -- no block before it is one
-  pub find_first : (n : ℕ) → find book name ≡ At n → (m : ℕ) → m < n → is_named book name m ≡ false
+  pub find_first : (n : ℕ) → find book name ≡ Some n → (m : ℕ) → m < n → is_named book name m ≡ false
   unfolding find
   find_first n e m b = (from_found (searched book) 0 n e).first m (omega arith) b
 
   -- where nothing is found, no block searched is one
-  pub find-nothing : find book name ≡ Nothing → (m : ℕ) → m < searched book → is_named book name m ≡ false
+  pub find-nothing : find book name ≡ None → (m : ℕ) → m < searched book → is_named book name m ≡ false
   unfolding find
   find-nothing e m b = from_nothing (searched book) 0 e m (omega arith) (omega arith)
 
   -- the first type block of that name is found
-  pub find-is : (n : ℕ) → NamedBlock book name n → ((m : ℕ) → m < n → is_named book name m ≡ false) → find book name ≡ At n
+  pub find-is : (n : ℕ) → NamedBlock book name n → ((m : ℕ) → m < n → is_named book name m ≡ false) → find book name ≡ Some n
   unfolding find
   find-is n b f = from_is (searched book) 0 n (omega arith) (omega arith) b.named (λ m a c. f m c)
 
   -- where no block searched is one, nothing is found
-  pub find-lacks : ((m : ℕ) → m < searched book → is_named book name m ≡ false) → find book name ≡ Nothing
+  pub find-lacks : ((m : ℕ) → m < searched book → is_named book name m ≡ false) → find book name ≡ None
   unfolding find
   find-lacks f = from-lacks (searched book) 0 (λ m a c. f m (omega arith))
 
   -- ---- the ways out of `find`, where none of the first i blocks has that name
 
   module _ (i : ℕ) (none : (k : ℕ) → k < i → is_named book name k ≡ false) where
-    pub find-here : (n : ℕ) → n ≡ searched book → i < n → (t : Bool) → t ≡ is_named book name i → t ≡ true → At i ≡ find book name
+    pub find-here : (n : ℕ) → n ≡ searched book → i < n → (t : Bool) → t ≡ is_named book name i → t ≡ true → Some i ≡ find book name
     find-here n q l t e h = sym (find-is i (record { below = rw (← q) l; named = sym e ∙ h }) none)
 
-    pub find-end : (n : ℕ) → n ≡ searched book → n ≤ i → Nothing ≡ find book name
+    pub find-end : (n : ℕ) → n ≡ searched book → n ≤ i → None ≡ find book name
     find-end n q l = sym (find-lacks (λ m h. none m (omega arith)))
 
 -- ---- books whose names are unique
 
 module _ (book : List ℕ) where
   -- a type block of that name is the one that is found
-  pub unique-find : UniqueNames book → (name : List ℕ) (n : ℕ) → NamedBlock book name n → find book name ≡ At n
+  pub unique-find : UniqueNames book → (name : List ℕ) (n : ℕ) → NamedBlock book name n → find book name ≡ Some n
   unique-find u name n b =
       rw (← named-name book name n b.named) (u n (record { below = b.below; kind = named-kind book name n b.named }))
 
   -- type blocks of one name are one block
   pub unique-same : UniqueNames book → (m n : ℕ) → TypeBlock book m → TypeBlock book n → name_of book m ≡ name_of book n → m ≡ n
   unique-same u m n bm bn e =
-      let p : find book (name_of book m) ≡ At m = u m bm in
-      let q : find book (name_of book n) ≡ At n = u n bn in
+      let p : find book (name_of book m) ≡ Some m = u m bm in
+      let q : find book (name_of book n) ≡ Some n = u n bn in
       cc
 
   -- names are unique where type blocks of one name are one block
@@ -181,7 +181,7 @@ module _ (book more : List ℕ) (fits : (m : ℕ) → m < searched book → 54 +
       sym (same-named book (book ++ more) m m (sym (block_append book more m (omega arith))) name (fits m h))
 
   -- what was found is found at the same block
-  pub find_append : (name : List ℕ) (n : ℕ) → find book name ≡ At n → find (book ++ more) name ≡ At n
+  pub find_append : (name : List ℕ) (n : ℕ) → find book name ≡ Some n → find (book ++ more) name ≡ Some n
   find_append name n e =
       let b = find-named book name n e in
       let l : n < searched book = b.below in

@@ -7,13 +7,6 @@ ghost use Rattle.type_provider.specs.Find.{searched as searched_of, find as find
 
 use type_book::block;
 
-// A type block's number, or that the book has no type of that name.
-#[derive(Clone, Copy)]
-pub enum Found {
-    At(u32),
-    Nothing,
-}
-
 // A book of more blocks is refused before any look-up.
 const MAX_BLOCKS: usize = 65536;
 
@@ -33,14 +26,14 @@ pub fn is_named(book: &[u8], name: &[u8], n: u32) -> bool
 }
 
 // The first type block of that name.
-pub fn find(book: &[u8], name: &[u8]) -> Found
+pub fn find(book: &[u8], name: &[u8]) -> Option<u32>
     ensures { found_numbers result ≡ found_numbers (find_in book.now name.now) }
 {
     let n = searched(book);
     for i in 0..n {
         if is_named(book, name, i) {
-            return Found::At(i);
+            return Some(i);
         }
     }
-    Found::Nothing
+    None
 }

@@ -2,23 +2,22 @@
 // `out`, which stands in the answer after the reply.
 use crate::answer::{Answered, byte, byte_and, number, put_number, put_u32};
 use cases_file::input::{byte_at, from, u16_at, u32_at};
-use enc_utf_8::{Char, Put, Room, TextEnd};
-use enc_windows_1252::Byte;
+use enc_utf_8::{Char, TextEnd};
 
 // Document 01's number where a buffer is too short.
 const SHORT: u8 = 15;
 
-fn written(put: Put) -> Answered {
+fn written(put: Option<usize>) -> Answered {
     match put {
-        Put::Next(n) => byte_and(0, n as u64, 8),
-        Put::Full => byte(SHORT),
+        Some(n) => byte_and(0, n as u64, 8),
+        None => byte(SHORT),
     }
 }
 
-fn room(room: Room) -> Answered {
+fn room(room: Option<usize>) -> Answered {
     match room {
-        Room::Fits(n) => byte_and(0, n as u64, 8),
-        Room::Over => byte(SHORT),
+        Some(n) => byte_and(0, n as u64, 8),
+        None => byte(SHORT),
     }
 }
 
@@ -29,10 +28,10 @@ fn end(end: TextEnd) -> Answered {
     }
 }
 
-fn encoded(found: Byte) -> Answered {
+fn encoded(found: Option<u8>) -> Answered {
     match found {
-        Byte::Is(b) => byte_and(1, b as u64, 1),
-        Byte::None => byte(0),
+        Some(b) => byte_and(1, b as u64, 1),
+        None => byte(0),
     }
 }
 

@@ -5,7 +5,6 @@ ghost use Rattle.std.specs.Prelude.{◌<◌};
 use crate::answer::{Answered, number};
 use cases_file::input::{byte_at, first, u64_at};
 use de_output::ReadAnswer;
-use enc_utf_8::{Put, Room};
 
 // The longest byte string of a group with a zero after it, and room for its text.
 const LONGEST: usize = 40;
@@ -35,14 +34,14 @@ pub(crate) fn run(operation: u8, input: &[u8], book: &[u8]) -> Answered {
 
 // The text in as much room as the decoder itself asks for. A text that isn't written counts as empty, which differs from what is recorded.
 fn decoded(bytes: &[u8], text: &mut [u8]) -> usize {
-    let Room::Fits(n) = enc_utf_8_replacing::decoded_len(bytes, text.len()) else {
+    let Some(n) = enc_utf_8_replacing::decoded_len(bytes, text.len()) else {
         return 0;
     };
     let Some(text) = text.get_mut(..n) else {
         return 0;
     };
     match enc_utf_8_replacing::decode(bytes, text, 0) {
-        Put::Next(end) if end == n => n,
+        Some(end) if end == n => n,
         _ => 0,
     }
 }

@@ -9,8 +9,8 @@ ruleset full = (from_next, record-full)
 pub returns-in_default : goal.returns-in_default
 returns-in_default c = search from-held
 
-pub returns-in-Next-put : goal.returns-in-Next-put
-returns-in-Next-put c = search done
+pub returns-in-Some : goal.returns-in-Some
+returns-in-Some c = search done
 
-pub returns-in-Full : goal.returns-in-Full
-returns-in-Full c = search full
+pub returns-in-None : goal.returns-in-None
+returns-in-None c = search full

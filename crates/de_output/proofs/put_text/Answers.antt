@@ -16,8 +16,8 @@ returns-in_default-decode c = search exits
 pub text_record-requires : goal.text_record-requires
 text_record-requires c = search text-order
 
-pub returns-in-Next-text_record : goal.returns-in-Next-text_record
-returns-in-Next-text_record c = search exits
+pub returns-in-Some-text_record : goal.returns-in-Some-text_record
+returns-in-Some-text_record c = search exits
 
-pub returns-in-Full : goal.returns-in-Full
-returns-in-Full c = search exits
+pub returns-in-None : goal.returns-in-None
+returns-in-None c = search exits

@@ -7,9 +7,9 @@ pub returns-then-bytes-room : goal.returns-then-bytes-room
 returns-then-bytes-room c = search fits-short
 
 -- src/lib.rt:95:1
-pub returns-in-Fits : goal.returns-in-Fits
-returns-in-Fits c = search measured_fits
+pub returns-in-Some : goal.returns-in-Some
+returns-in-Some c = search measured_fits
 
 -- src/lib.rt:95:1
-pub returns-in-Over : goal.returns-in-Over
-returns-in-Over c = search measured_over
+pub returns-in-None : goal.returns-in-None
+returns-in-None c = search measured_over

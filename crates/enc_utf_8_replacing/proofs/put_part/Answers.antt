@@ -2,9 +2,9 @@ use Rattle.enc_utf_8_replacing.proofs.Decoders.{part-went, part-never}
 use Rattle.enc_utf_8_replacing.proofs.put_part.Goals as goal
 
 -- src/lib.rt:108:1
-pub returns-in-Next : goal.returns-in-Next
-returns-in-Next c = search part-went
+pub returns-in-Some : goal.returns-in-Some
+returns-in-Some c = search part-went
 
 -- src/lib.rt:108:1
-pub returns-in-Full : goal.returns-in-Full
-returns-in-Full c = search part-never
+pub returns-in-None : goal.returns-in-None
+returns-in-None c = search part-never

@@ -2,5 +2,5 @@
 use Rattle.enc_windows_1252_decoder.proofs.Decoders.{block-copied}
 use Rattle.enc_windows_1252_decoder.proofs.put_ascii.Goals as goal
 
-pub returns-in-Next : goal.returns-in-Next
-returns-in-Next c = search block-copied
+pub returns-in-Some : goal.returns-in-Some
+returns-in-Some c = search block-copied

@@ -5,8 +5,8 @@ use Rattle.enc_windows_1252_encoder.proofs.encode.Goals as goal
 pub put_codes-requires : goal.put_codes-requires
 put_codes-requires c = search encode_room
 
-pub returns-in-Fits : goal.returns-in-Fits
-returns-in-Fits c = search encode_done
+pub returns-in-Some : goal.returns-in-Some
+returns-in-Some c = search encode_done
 
-pub returns-in-Over : goal.returns-in-Over
-returns-in-Over c = search encode_full
+pub returns-in-None : goal.returns-in-None
+returns-in-None c = search encode_full

@@ -8,14 +8,14 @@ bounds-out-at c = search ascii-code-room
 pub returns-then-code-lt128 : goal.returns-then-code-lt128
 returns-then-code-lt128 c = search ascii-code-laid
 
-pub bounds-out-at-in-Is : goal.bounds-out-at-in-Is
-bounds-out-at-in-Is c = search code-byte-room
+pub bounds-out-at-in-Some : goal.bounds-out-at-in-Some
+bounds-out-at-in-Some c = search code-byte-room
 
 pub put_reference-requires : goal.put_reference-requires
 put_reference-requires c = search code-none-room
 
-pub returns-in-Is : goal.returns-in-Is
-returns-in-Is c = search code-byte-laid
+pub returns-in-Some : goal.returns-in-Some
+returns-in-Some c = search code-byte-laid
 
 pub returns-in-None : goal.returns-in-None
 returns-in-None c = search code-none-laid

@@ -9,8 +9,8 @@ slice_bounds-copy-end c = search prefix_counted
 pub put_from-requires : goal.put_from-requires
 put_from-requires c = search begins-left
 
-pub returns-in-Next : goal.returns-in-Next
-returns-in-Next c = search begins-done
+pub returns-in-Some : goal.returns-in-Some
+returns-in-Some c = search begins-done
 
-pub returns-in-Full : goal.returns-in-Full
-returns-in-Full c = search begins-never
+pub returns-in-None : goal.returns-in-None
+returns-in-None c = search begins-never

@@ -4,8 +4,8 @@ use Rattle.gateway_codes.proofs.found.Goals as goal
 
 ruleset exits = (found_at, found_nothing)
 
-pub returns-in-At : goal.returns-in-At
-returns-in-At c = search exits
+pub returns-in-Some : goal.returns-in-Some
+returns-in-Some c = search exits
 
-pub returns-in-Nothing : goal.returns-in-Nothing
-returns-in-Nothing c = search exits
+pub returns-in-None : goal.returns-in-None
+returns-in-None c = search exits

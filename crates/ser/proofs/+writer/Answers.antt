@@ -170,5 +170,5 @@ serializer::value-leaf-requires t c = let p = c.requires in (search (leaf-inside
 pub serializer::value-returns-else-r-eq-MAP : goal.serializer::value-returns-else-r-eq-MAP
 serializer::value-returns-else-r-eq-MAP t c = search values
 
-pub serializer::value-returns-in-End : goal.serializer::value-returns-in-End
-serializer::value-returns-in-End t c = search values
+pub serializer::value-returns-in-None : goal.serializer::value-returns-in-None
+serializer::value-returns-in-None t c = search values

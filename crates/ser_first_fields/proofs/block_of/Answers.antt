@@ -4,9 +4,9 @@ use Rattle.ser_first_fields.proofs.block_of.Goals as goal
 ruleset exits = (block_at, block_none)
 
 -- src/lib.rt:101:1
-pub returns-in-At : goal.returns-in-At
-returns-in-At c = search exits
+pub returns-in-Some : goal.returns-in-Some
+returns-in-Some c = search exits
 
 -- src/lib.rt:101:1
-pub returns-in-Nothing : goal.returns-in-Nothing
-returns-in-Nothing c = search exits
+pub returns-in-None : goal.returns-in-None
+returns-in-None c = search exits

@@ -7,8 +7,8 @@ ruleset exits = (entry-size, entry_found, entry-none, size_is, size-other)
 pub returns-in_default : goal.returns-in_default
 returns-in_default c = search exits
 
-pub returns-in-At : goal.returns-in-At
-returns-in-At c = search exits
+pub returns-in-Some : goal.returns-in-Some
+returns-in-Some c = search exits
 
-pub returns-in-Nothing : goal.returns-in-Nothing
-returns-in-Nothing c = search exits
+pub returns-in-None : goal.returns-in-None
+returns-in-None c = search exits

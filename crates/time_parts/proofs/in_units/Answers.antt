@@ -8,8 +8,8 @@ returns-then-n-unit-ne0 c = search (units_refused, units_left, units_late, units
 pub returns-then-largest-n : goal.returns-then-largest-n
 returns-then-largest-n c = search (units_refused, units_left, units_late, units_told, rules)
 
-pub returns-in-Told : goal.returns-in-Told
-returns-in-Told c = search (units_refused, units_left, units_late, units_told, rules)
+pub returns-in-Some : goal.returns-in-Some
+returns-in-Some c = search (units_refused, units_left, units_late, units_told, rules)
 
 pub returns : goal.returns
 returns c = search (units_refused, units_left, units_late, units_told, rules)

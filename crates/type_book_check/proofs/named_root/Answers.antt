@@ -8,8 +8,8 @@ ruleset exits = (named_unformed, named-found, named-lacks, found-is)
 pub returns-then-not-is_root_name : goal.returns-then-not-is_root_name
 returns-then-not-is_root_name c = search exits
 
-pub returns-in-At : goal.returns-in-At
-returns-in-At c = search exits
+pub returns-in-Some : goal.returns-in-Some
+returns-in-Some c = search exits
 
-pub returns-in-Nothing : goal.returns-in-Nothing
-returns-in-Nothing c = search exits
+pub returns-in-None : goal.returns-in-None
+returns-in-None c = search exits

@@ -9,8 +9,8 @@ ruleset exits = (enum-size, enum-found, enum-none, refl, integer_read_is, size_i
 pub returns-in_default : goal.returns-in_default
 returns-in_default c = search exits
 
-pub returns-in-At : goal.returns-in-At
-returns-in-At c = search exits
+pub returns-in-Some : goal.returns-in-Some
+returns-in-Some c = search exits
 
-pub returns-in-Nothing : goal.returns-in-Nothing
-returns-in-Nothing c = search exits
+pub returns-in-None : goal.returns-in-None
+returns-in-None c = search exits

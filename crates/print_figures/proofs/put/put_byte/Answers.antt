@@ -7,5 +7,5 @@ returns-then-out-at c = search byte-over
 pub returns-else-out-at : goal.returns-else-out-at
 returns-else-out-at c = search byte_put
 
-pub returns-in-Full : goal.returns-in-Full
-returns-in-Full c = search puts_full
+pub returns-in-None : goal.returns-in-None
+returns-in-None c = search puts_full

@@ -12,8 +12,8 @@ pub returns-else-r-eq-ARRAY : goal.returns-else-r-eq-ARRAY
 returns-else-r-eq-ARRAY c = search exits
 
 -- src/array_writer.rt:131:1
-pub returns-in-End : goal.returns-in-End
-returns-in-End c = search exits
+pub returns-in-None : goal.returns-in-None
+returns-in-None c = search exits
 
 -- src/array_writer.rt:131:1
 pub returns-in-NotFound : goal.returns-in-NotFound

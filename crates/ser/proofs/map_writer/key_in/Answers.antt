@@ -29,5 +29,5 @@ pub returns-else-r-eq-KEY : goal.returns-else-r-eq-KEY
 returns-else-r-eq-KEY c = search exits
 
 -- src/map_writer.rt:68:1
-pub returns-in-End : goal.returns-in-End
-returns-in-End c = search exits
+pub returns-in-None : goal.returns-in-None
+returns-in-None c = search exits

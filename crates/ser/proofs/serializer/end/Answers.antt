@@ -9,5 +9,5 @@ returns-then-r-kind c = search exits
 pub returns-else-r-kind : goal.returns-else-r-kind
 returns-else-r-kind c = search exits
 
-pub returns-in-End : goal.returns-in-End
-returns-in-End c = search exits
+pub returns-in-None : goal.returns-in-None
+returns-in-None c = search exits

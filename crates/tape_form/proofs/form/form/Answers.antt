@@ -10,9 +10,9 @@ pub value-place-requires : goal.value-place-requires
 value-place-requires c = search (rules, known-none)
 
 -- src/form.rt:123:1
-pub returns-in-At : goal.returns-in-At
-returns-in-At c = search exits
+pub returns-in-Some : goal.returns-in-Some
+returns-in-Some c = search exits
 
 -- src/form.rt:123:1
-pub returns-in-Broken : goal.returns-in-Broken
-returns-in-Broken c = search exits
+pub returns-in-None : goal.returns-in-None
+returns-in-None c = search exits
