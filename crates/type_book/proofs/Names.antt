@@ -1,10 +1,10 @@
 -- Names compared byte by byte. Assumes nothing.
-use mathlib.Core.Path.{◌≡◌, refl, sym, ap}
+use mathlib.Core.Path.{◌≡◌, refl, sym, ap, ◌∙◌}
 use mathlib.Core.Bool.{Bool, true, false, ◌&&◌}
 use mathlib.Core.List.{List, [], ◌∷◌}
-use Prim.Native.Nat.{ℕ}
+use Prim.Native.Nat.{ℕ, ◌-◌}
 use native.Mathlib.Omega.{arith}
-use lib.ListN.{length}
+use lib.ListN.{length, drop}
 use lib.Dec.{eqb}
 use lib.Pointwise.{pointwise}
 use borrow.Author.Tests.{eq-eqb, eqb-true}
@@ -47,3 +47,10 @@ other_name a b n = by (same_name a b) refl
 
 pub same-lengths : (a b : List ℕ) → (length a ≡ length b → ⊥) → false ≡ same_name a b
 same-lengths a b n = other_name a b (λ e. n (ap length e))
+
+-- names that end in other eight bytes are not the same
+pub end-differs : (a b x y : List ℕ) (t : Bool) → x ≡ drop (length a - 8) a → y ≡ drop (length b - 8) b → t ≡ pointwise eqb x y → t ≡ false → false ≡ same_name a b
+end-differs a b x y t p q r e = other_name a b (λ h.
+    let xy : x ≡ y = p ∙ ap (λ (s : List ℕ). drop (length s - 8) s) h ∙ sym q in
+    let z : false ≡ true = sym e ∙ r ∙ compared x y ∙ eq_same x y xy in
+    absurd (let w : ◌≡◌ {A = ℕ} 0 1 = cc in omega arith))

@@ -1,6 +1,6 @@
 // What the blocks of a type book say. A block is 512 bytes; document 01, "The type book", has its layout.
 // Every function takes any bytes and any block number: past the end a byte is 0 and a part is empty.
-ghost use Rattle.std.specs.Prelude.{◌≡◌, ◌+◌, ◌*◌, ◌/◌, ◌%◌, ◌≤◌, ◌<◌, length, take, drop, eqb};
+ghost use Rattle.std.specs.Prelude.{◌≡◌, false, ◌+◌, ◌*◌, ◌/◌, ◌%◌, ◌≤◌, ◌<◌, length, take, drop, eqb};
 ghost use Rattle.type_id.specs.TypeId.{id_of};
 ghost use Rattle.type_book.specs.Book.{blocks as blocks_of, byte_at, u32_at, kind_of, is_type, flag_of, dimensions_of, type_id_of, offset_of, size_of, fields_of, entries_of, count_of, value_of, name_of, type_name_of, same_name};
 
@@ -181,9 +181,23 @@ pub fn type_name(book: &[u8], n: u32) -> &[u8]
     counted(book, n, 53, 254)
 }
 
+// Whether two names may be the same by their last eight bytes, where both have so many. The names of a book mostly differ there also where they
+// begin alike, and then `==` would call a function.
+fn end_alike(a: &[u8], b: &[u8]) -> bool
+    ensures { result ≡ false → false ≡ same_name a.now b.now }
+{
+    match (a.last_chunk::<8>(), b.last_chunk::<8>()) {
+        (Some(x), Some(y)) => x == y,
+        _ => true,
+    }
+}
+
 // Whether two names are the same bytes.
 pub fn same_name(a: &[u8], b: &[u8]) -> bool
     ensures { result ≡ same_name a.now b.now }
 {
-    a == b
+    if a.len() != b.len() {
+        return false;
+    }
+    end_alike(a, b) && a == b
 }

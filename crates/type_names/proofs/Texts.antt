@@ -6,27 +6,22 @@ use Prim.Native.Nat.{ℕ, ◌+◌, ◌-◌, ◌≤◌, ◌<◌}
 use native.Mathlib.Nat.{le_refl}
 use native.Mathlib.Omega.{arith}
 use native.Mathlib.Numerals.{add-one}
-use lib.ListN.{length, take, drop, drop_of_length-le, length-drop}
+use lib.ListN.{length, take, drop, drop_of_length-le, length-take, length-drop}
 use lib.Seq.{drop-cons, take_all}
 use lib.Dec.{eqb}
 use borrow.Author.Tests.{ne_eqb}
 use Rattle.type_book.specs.Book.{same_name}
 use Rattle.type_names.specs.Text.{starts_with, contains}
-use lib.Pointwise.{pointwise}
 use Rattle.std.specs.List.{list_any}
-use Rattle.type_book.proofs.Names.{compared, same_eq, eq_same, other_name}
+use Rattle.type_book.proofs.Names.{same-lengths}
 
--- two names compared the other way round
-turned : (a b : List ℕ) → same_name a b ≡ same_name b a
-turned a b = by (same_name a b) refl
-  where
-    by : (g : Bool) → same_name a b ≡ g → same_name a b ≡ same_name b a
-    by true h = h ∙ sym (eq_same b a (sym (same_eq a b h)))
-    by false h = h ∙ other_name b a (λ e. let z : true ≡ false = sym (eq_same a b (sym e)) ∙ h in absurd (let w : ◌≡◌ {A = ℕ} 0 1 = cc in omega arith))
-
-pub started : (name start : List ℕ) → pointwise eqb start (take (length start) name) ≡ starts_with name start
+pub starts-short : (name start : List ℕ) → length name < length start → false ≡ starts_with name start
 unfolding starts_with
-started name start = compared start (take (length start) name) ∙ turned start (take (length start) name)
+starts-short name start h = same-lengths (take (length start) name) start (λ e. omega (arith, simp length-take at e))
+
+pub starts-whole : (name start : List ℕ) (t : Bool) → t ≡ same_name (take (length start) name) start → t ≡ starts_with name start
+unfolding starts_with
+starts-whole name start t e = e
 
 -- one byte is compared as such
 starts-byte : (x b : ℕ) (xs : List ℕ) → starts_with (x ∷ xs) (b ∷ []) ≡ eqb x b

@@ -2,11 +2,16 @@
 ghost use Rattle.std.specs.Prelude.{◌≡◌, ◌∷◌, []};
 ghost use Rattle.type_names.specs.Text.{starts_with, contains as contains_in};
 
+use type_book::block::same_name;
+
 // Whether a name begins with these bytes.
 pub fn starts_with(name: &[u8], start: &[u8]) -> bool
     ensures { result ≡ starts_with name.now start.now }
 {
-    name.starts_with(start)
+    if name.len() < start.len() {
+        return false;
+    }
+    same_name(&name[..start.len()], start)
 }
 
 // Whether a byte stands somewhere in a name.

@@ -170,7 +170,7 @@ fn rank(order: &[u32], ranks: &mut [u32], n: usize)
 
 // The first place whose name the one before it does not stand before; none, where all n names rise.
 fn first_fall(book: &[u8], order: &[u32], n: usize) -> Option<usize>
-    ensures { MatchOption result (RisesTo book.now order.now (max 1 n)) (λ r. 0 < r) }
+    ensures { MatchOption result (RisesTo book.now order.now (max 1 n)) (λ r. RisesTo book.now order.now r) }
 {
     for i in 1..n {
         if !less_at(book, at(order, i - 1), at(order, i)) {
