@@ -42,7 +42,9 @@ pub fn copy(bytes: &[u8], out: &mut [u8], at: usize) -> Option<usize>
     if out.len() < at || out.len() - at < bytes.len() {
         return None;
     }
-    let end = at + bytes.len();
-    out[at..end].copy_from_slice(bytes);
-    Some(end)
+    // `copy_from_slice` calls memmove, which the archive for C would then need from outside.
+    for i in 0..bytes.len() {
+        out[at + i] = bytes[i];
+    }
+    Some(at + bytes.len())
 }

@@ -6,12 +6,16 @@ ghost use Rattle.std.specs.Prelude.{◌≡◌, [], ◌∷◌};
 ghost use Rattle.gateway_lent_values.specs.Values.{laid, Gives};
 
 // Lays numbers over the first ones of the array.
-#[tactic(auto, using(crate::proofs::Lays::copied))]
 fn lay(values: &mut [u64], new: &[u64])
     ensures { values.new ≡ laid new.now values.old }
 {
-    let n = new.len().min(values.len());
-    values[..n].copy_from_slice(&new[..n]);
+    // Each number has its own test: `copy_from_slice` calls memcpy, which the archive for C would then need from outside, and a loop up to
+    // the smaller length is compiled to that call too.
+    for i in 0..new.len() {
+        if i < values.len() {
+            values[i] = new[i];
+        }
+    }
 }
 
 // Nothing is refused, and there is one value.
