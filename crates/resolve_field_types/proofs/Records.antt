@@ -127,13 +127,13 @@ module _ (book : List ℕ) (width t n : ℕ) (en : n ≡ fields_of book t) (reco
         left = omega arith
 
         -- no field left is refused
-        store-lacks : (c : ℕ) → a ≡ answer.NotFound c → now ≡ sets records 0 (field_records book width t)
+        pub store-lacks : (c : ℕ) → a ≡ answer.NotFound c → now ≡ sets records 0 (field_records book width t)
         store-lacks c h =
             let w : fields_from book width (t + 1 + i) (suc (n - (i + 1))) ≡ check.Fine = rw left at s.fine in
             let y = fields-lacks book width (t + 1 + i) (n - (i + 1)) c (sym (field_is _ _ q.is) ∙ h) in
             absurd (let z : ◌≡◌ {A = ℕ} 0 1 = cc in omega arith)
 
-        store-endless : a ≡ answer.TooLong → now ≡ sets records 0 (field_records book width t)
+        pub store-endless : a ≡ answer.TooLong → now ≡ sets records 0 (field_records book width t)
         store-endless h =
             let w : fields_from book width (t + 1 + i) (suc (n - (i + 1))) ≡ check.Fine = rw left at s.fine in
             let y = fields-endless book width (t + 1 + i) (n - (i + 1)) (sym (field_is _ _ q.is) ∙ h) in

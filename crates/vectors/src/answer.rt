@@ -47,7 +47,11 @@ pub(crate) fn put(answer: &mut [u8], reply: Answered) -> usize {
 }
 
 pub(crate) fn put_byte(answer: &mut [u8], at: usize, byte: u8) -> usize {
-    put_bytes(answer, at, &[byte])
+    let Some(place) = answer.get_mut(at) else {
+        return at;
+    };
+    *place = byte;
+    at + 1
 }
 
 pub(crate) fn put_bytes(answer: &mut [u8], at: usize, bytes: &[u8]) -> usize {
@@ -70,9 +74,13 @@ pub(crate) fn put_zeros(answer: &mut [u8], at: usize, n: usize) -> usize {
 
 // The low bytes of a number, at most eight of them, low byte first.
 pub(crate) fn put_number(answer: &mut [u8], at: usize, value: u64, len: usize) -> usize {
-    put_bytes(answer, at, first(&value.to_le_bytes(), len))
+    let mut to = at;
+    for byte in first(&value.to_le_bytes(), len) {
+        to = put_byte(answer, to, *byte);
+    }
+    to
 }
 
 pub(crate) fn put_u32(answer: &mut [u8], at: usize, value: u32) -> usize {
-    put_bytes(answer, at, &value.to_le_bytes())
+    put_number(answer, at, value as u64, 4)
 }

@@ -55,11 +55,11 @@ fn read(memory: &[u8], book: &[u8], text: &mut [u8]) -> usize {
     }
 }
 
-// The text of the first n bytes where there is no book, else of all as a memory.
+// The text of the first n bytes where there is no book or an empty one, else of all as a memory.
 fn text_of(bytes: &[u8], n: usize, book: Option<&[u8]>, text: &mut [u8]) -> usize {
     match book {
-        None => decoded(first(bytes, n), text),
-        Some(book) => read(bytes, book, text),
+        Some(book) if !book.is_empty() => read(bytes, book, text),
+        _ => decoded(first(bytes, n), text),
     }
 }
 

@@ -8,7 +8,7 @@ const KEEP: u8 = 64;
 
 // Puts the answer of an operation at the start of `answer` and returns its length. `book` keeps a type book of `len` bytes
 // from case to case. The buffer `out` that a case lends is empty where the operation takes none. An operation that is not there
-// has an empty answer, which no case records. Each number stands once, beside what it calls.
+// answers the lent buffer as it is, and one past the last nothing. Each number stands once, beside what it calls.
 pub(crate) fn run(
     operation: u8,
     input: &[u8],
@@ -19,9 +19,9 @@ pub(crate) fn run(
 ) -> usize {
     let reply = match operation {
         14 => return encodings::items(input, answer),
-        1..=16 => encodings::run(operation, input, out),
-        17..=22 => groups::run(operation, input, first(book, len)),
-        32..=39 => numbers::run(operation, input, out),
+        0..=16 => encodings::run(operation, input, out),
+        17..=31 => groups::run(operation, input, first(book, len)),
+        32..=63 => numbers::run(operation, input, out),
         KEEP..=69 => books::run(operation, input, book, len),
         70..=72 => return resolving::run(operation, input, book, len, answer),
         73 => return reads::read(input, book, len, answer),

@@ -8,7 +8,10 @@ use de_output::ReadAnswer;
 
 // The bytes of n records, of which a tape has at most 2,730.
 fn bytes_of(n: usize) -> usize {
-    24 * n.min(2730)
+    match n {
+        0..=2730 => 24 * n,
+        _ => 0,
+    }
 }
 
 fn reply_of(read: ReadAnswer) -> Answered {

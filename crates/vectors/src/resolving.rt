@@ -121,9 +121,12 @@ fn missing(
     put_scratch(answer, at, scratch)
 }
 
-// The numbers of n records, of which there are at most 4,096.
+// The numbers of n records, of which a recorded answer has at most 4,096: more count as none, though up to 5,000 may be lent.
 fn numbers_of(n: usize) -> usize {
-    4 * n.min(4096)
+    match n {
+        0..=4096 => 4 * n,
+        _ => 0,
+    }
 }
 
 fn fields_reply(fields: FieldsAnswer) -> Answered {
