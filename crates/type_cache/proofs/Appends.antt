@@ -3,11 +3,12 @@ use Rattle.std.specs.Prelude.{Option, Some, None}
 use mathlib.Core.Path.{◌≡◌, refl, sym, ap, ◌∙◌}
 use mathlib.Core.Bool.{Bool, true, false, cond}
 use mathlib.Core.List.{List}
-use Prim.Native.Nat.{ℕ, zero, suc, ◌+◌, ◌/◌, ◌≤◌}
+use Prim.Native.Nat.{ℕ, zero, suc, ◌+◌, ◌/◌, ◌≤◌, ◌<◌}
 use native.Mathlib.Omega.{arith}
 use borrow.Author.Tests.{eq-eqb, ne_eqb, le-leb, leb-true, eqb-true}
-use lib.ListN.{length, take}
-use lib.Seq.{length-take-le}
+use native.Mathlib.Numerals.{add-one}
+use lib.ListN.{length, get_or, take, set}
+use lib.Seq.{length-take-le, take-length, paste, paste-zero, paste-suc}
 use lib.Dec.{eqb, leb}
 use Rattle.enc_number.specs.Answer.{refusal_of}
 use Rattle.type_book.specs.Book.{name_of}
@@ -200,3 +201,17 @@ module _ (buffer : List ℕ) (len : ℕ) (addition : List ℕ) where
       pub append_done : (n : ℕ) (after : List ℕ) → CopyIs buffer len addition n after → AppendIs buffer len addition (Done n) after
       unfolding append_call append_buffer
       append_done n after o = record { answer = appended-says _ _ (rw (← e, eq-eqb r 0 z) (ap Done o.new)); bytes = rw (← e, eq-eqb r 0 z) o.bytes }
+
+-- ---- the loop of `copy`
+module _ (buffer : List ℕ) (len : ℕ) (addition : List ℕ) where
+  pub copy_start : buffer ≡ paste buffer len addition 0
+  copy_start = paste-zero buffer len addition
+
+  module _ (l : len + length addition ≤ length buffer) (i : ℕ) (now : List ℕ) (inv : now ≡ paste buffer len addition i) where
+    pub copy_again : i < length addition → set now (len + i) (get_or addition i 0) ≡ paste buffer len addition (i + 1)
+    copy_again h = rw (inv, add-one) (paste-suc buffer len addition i 0 (omega arith) h)
+
+    pub copy_end : length addition ≤ i → i ≤ length addition → CopyIs buffer len addition (len + length addition) now
+    copy_end h g =
+        let q : i ≡ length addition = omega arith in
+        record { new = refl; bytes = inv ∙ rw (q, take-length addition) }

@@ -60,9 +60,11 @@ pub fn copy(buffer: &mut [u8], len: usize, addition: &[u8]) -> usize
     requires { len + length addition.now ≤ length buffer.old }
     ensures { CopyIs buffer.old len addition.now result buffer.new }
 {
-    let end = len + addition.len();
-    buffer[len..end].copy_from_slice(addition);
-    end
+    // `copy_from_slice` calls memmove, which the archive for C would then need from outside.
+    for i in 0..addition.len() {
+        buffer[len + i] = addition[i];
+    }
+    len + addition.len()
 }
 
 // Appends one whole type to the book that fills the first `len` bytes of the buffer. The first refusal is answered: the book's, the
