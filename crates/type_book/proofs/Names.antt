@@ -2,12 +2,13 @@
 use mathlib.Core.Path.{◌≡◌, refl, sym, ap, ◌∙◌}
 use mathlib.Core.Bool.{Bool, true, false, ◌&&◌}
 use mathlib.Core.List.{List, [], ◌∷◌}
-use Prim.Native.Nat.{ℕ, ◌-◌}
+use Prim.Native.Nat.{ℕ, ◌+◌, ◌≤◌, ◌<◌}
 use native.Mathlib.Omega.{arith}
-use lib.ListN.{length, drop}
+use native.Mathlib.Numerals.{add-one}
+use lib.ListN.{length, get_or, drop, drop_of_length-le}
+use lib.Seq.{drop-cons}
 use lib.Dec.{eqb}
-use lib.Pointwise.{pointwise}
-use borrow.Author.Tests.{eq-eqb, eqb-true}
+use borrow.Author.Tests.{eq-eqb, ne_eqb, eqb-true}
 use Rattle.type_book.specs.Book.{same_name}
 
 pub same_refl : (a : List ℕ) → same_name a a ≡ true
@@ -29,13 +30,7 @@ same_eq (x ∷ xs) (y ∷ ys) h = both (eqb x y) refl (same_eq xs ys) h
 pub eq_same : (a b : List ℕ) → a ≡ b → same_name a b ≡ true
 eq_same a b e = rw e (same_refl b)
 
--- the names as `==` compares them
-pub compared : (a b : List ℕ) → pointwise eqb a b ≡ same_name a b
-unfolding same_name
-compared [] [] = refl
-compared [] (y ∷ ys) = refl
-compared (x ∷ xs) [] = refl
-compared (x ∷ xs) (y ∷ ys) = ap (λ t. eqb x y && t) (compared xs ys)
+-- ---- the loop of `same_bytes`
 
 -- other bytes are another name
 pub other_name : (a b : List ℕ) → (a ≡ b → ⊥) → false ≡ same_name a b
@@ -48,9 +43,19 @@ other_name a b n = by (same_name a b) refl
 pub same-lengths : (a b : List ℕ) → (length a ≡ length b → ⊥) → false ≡ same_name a b
 same-lengths a b n = other_name a b (λ e. n (ap length e))
 
--- names that end in other eight bytes are not the same
-pub end-differs : (a b x y : List ℕ) (t : Bool) → x ≡ drop (length a - 8) a → y ≡ drop (length b - 8) b → t ≡ pointwise eqb x y → t ≡ false → false ≡ same_name a b
-end-differs a b x y t p q r e = other_name a b (λ h.
-    let xy : x ≡ y = p ∙ ap (λ (s : List ℕ). drop (length s - 8) s) h ∙ sym q in
-    let z : false ≡ true = sym e ∙ r ∙ compared x y ∙ eq_same x y xy in
-    absurd (let w : ◌≡◌ {A = ℕ} 0 1 = cc in omega arith))
+module _ (a b : List ℕ) (i : ℕ) (inv : same_name a b ≡ same_name (drop i a) (drop i b)) where
+  turn : i < length a → i < length b → same_name a b ≡ eqb (get_or a i 0) (get_or b i 0) && same_name (drop (i + 1) a) (drop (i + 1) b)
+  unfolding same_name
+  turn ha hb = inv ∙ rw (add-one, drop-cons a i 0 ha, drop-cons b i 0 hb)
+
+  pub same_differ : i < length a → length a ≡ length b → (get_or a i 0 ≡ get_or b i 0 → ⊥) → false ≡ same_name a b
+  same_differ ha e n = sym (turn ha (omega arith) ∙ rw (ne_eqb (get_or a i 0) (get_or b i 0) n))
+
+  pub same-again : i < length a → length a ≡ length b → get_or a i 0 ≡ get_or b i 0 → same_name a b ≡ same_name (drop (i + 1) a) (drop (i + 1) b)
+  same-again ha e q = turn ha (omega arith) ∙ rw (eq-eqb (get_or a i 0) (get_or b i 0) q)
+
+  pub same_end : length a ≤ i → length a ≡ length b → true ≡ same_name a b
+  unfolding same_name
+  same_end ha e =
+      let hb : length b ≤ i = omega arith in
+      sym (inv ∙ rw (drop_of_length-le a ha, drop_of_length-le b hb))

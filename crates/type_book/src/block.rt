@@ -1,10 +1,10 @@
 // What the blocks of a type book say. A block is 512 bytes; document 01, "The type book", has its layout.
 // Every function takes any bytes and any block number: past the end a byte is 0 and a part is empty.
-ghost use Rattle.std.specs.Prelude.{◌≡◌, false, ◌+◌, ◌*◌, ◌/◌, ◌%◌, ◌≤◌, ◌<◌, length, take, drop, eqb};
+ghost use Rattle.std.specs.Prelude.{◌≡◌, ◌+◌, ◌*◌, ◌/◌, ◌%◌, ◌≤◌, ◌<◌, length, take, drop, eqb};
 ghost use Rattle.type_id.specs.TypeId.{id_of};
 ghost use Rattle.type_book.specs.Book.{blocks as blocks_of, byte_at, u32_at, kind_of, is_type, flag_of, dimensions_of, type_id_of, offset_of, size_of, fields_of, entries_of, count_of, value_of, name_of, type_name_of, same_name};
 
-use enc_number::le::le_u32;
+use enc_number::le::{le_u32, le_value};
 use type_id::AdsTypeId;
 
 pub const BLOCK: usize = 512;
@@ -181,23 +181,47 @@ pub fn type_name(book: &[u8], n: u32) -> &[u8]
     counted(book, n, 53, 254)
 }
 
-// Whether two names may be the same by their last eight bytes, where both have so many. The names of a book mostly differ there also where they
-// begin alike, and then `==` would call a function.
-fn end_alike(a: &[u8], b: &[u8]) -> bool
-    ensures { result ≡ false → false ≡ same_name a.now b.now }
+// Whether two short names of one length are the same bytes.
+fn same_bytes(a: &[u8], b: &[u8]) -> bool
+    requires { length a.now ≡ length b.now }
+    ensures { result ≡ same_name a.now b.now }
 {
-    match (a.last_chunk::<8>(), b.last_chunk::<8>()) {
-        (Some(x), Some(y)) => x == y,
-        _ => true,
+    for i in 0..a.len() {
+        if a[i] != b[i] {
+            return false;
+        }
     }
+    true
 }
 
-// Whether two names are the same bytes.
+// Whether the W bytes from place i on are the same, compared as one number. The parts have W bytes and no more, so that each is one load.
+fn same_part<const W: usize>(a: &[u8], b: &[u8], i: usize) -> bool
+    requires { (W ≤ 8) × (i + W ≤ length a.now) × (i + W ≤ length b.now) }
+    ensures { result ≡ same_name (take W (drop i a.now)) (take W (drop i b.now)) }
+{
+    le_value(&a[i..i + W]) == le_value(&b[i..i + W])
+}
+
+// Whether two names are the same bytes. Those of four bytes or more are compared by four or by eight bytes, of which the last may overlap
+// those before. `==` would call a function.
 pub fn same_name(a: &[u8], b: &[u8]) -> bool
     ensures { result ≡ same_name a.now b.now }
 {
-    if a.len() != b.len() {
+    let n = a.len();
+    if n != b.len() {
         return false;
     }
-    end_alike(a, b) && a == b
+    if n < 4 {
+        return same_bytes(a, b);
+    }
+    if n < 8 {
+        return same_part::<4>(a, b, 0) && same_part::<4>(a, b, n - 4);
+    }
+    let last = n - 8;
+    for i in (0..last).step_by(8) {
+        if !same_part::<8>(a, b, i) {
+            return false;
+        }
+    }
+    same_part::<8>(a, b, last)
 }
