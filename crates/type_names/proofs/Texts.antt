@@ -55,3 +55,7 @@ pub any_byte : (name : List ℕ) (byte : ℕ) → list_any (λ y. eqb y byte) na
 unfolding contains starts_with same_name
 any_byte [] byte = refl
 any_byte (x ∷ xs) byte = rw (any_byte xs byte, starts-byte x byte xs)
+
+-- what a slice's own search for a byte says
+pub byte_told : (name : List ℕ) (byte : ℕ) (t : Bool) → t ≡ list_any (λ y. eqb y byte) name → t ≡ contains name (byte ∷ [])
+byte_told name byte t e = e ∙ any_byte name byte

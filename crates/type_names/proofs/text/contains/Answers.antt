@@ -1,4 +1,4 @@
-use mathlib.Core.Path.{refl, ◌∙◌}
+use mathlib.Core.Path.{refl}
 use native.Mathlib.Omega.{arith}
 use Rattle.type_names.proofs.Texts.{contains-here, contains-again, contains-end}
 use Rattle.type_names.proofs.text.contains.Goals as goal
@@ -13,4 +13,4 @@ pub loop-i-preserved : goal.loop-i-preserved
 loop-i-preserved c = search contains-again
 
 pub returns : goal.returns
-returns c = c.is_empty.ensures ∙ contains-end _ _ _ c.loop-i.invariant (omega arith)
+returns c = grind (arith, contains-end)
