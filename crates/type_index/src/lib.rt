@@ -158,7 +158,8 @@ fn not_led(book: &[u8], trust: Trust, name: &[u8]) -> Option<u32>
 {
     match trust {
         Trust::Held => None,
-        Trust::Unknown | Trust::Foreign => find(book, name),
+        Trust::Unknown => find(book, name),
+        Trust::Foreign => find(book, name),
     }
 }
 
