@@ -4,7 +4,6 @@
 ghost use Rattle.std.specs.Prelude.{◌≡◌, ◌+◌, ◌<◌, ◌≤◌, length, drop};
 ghost use Rattle.enc_utf_8.specs.Buffer.{Wrote, Laid, room_for};
 ghost use Rattle.enc_windows_1252.specs.Text.{decimal, reference, encode_code, encode_text};
-ghost use Rattle.enc_ascii.specs.Ascii.{is_ascii};
 ghost use Rattle.enc_windows_1252_encoder.specs.Step.{AsciiTo, TakenFrom};
 
 use enc_ascii::{copy, is_ascii};
@@ -12,26 +11,20 @@ use enc_utf_8::Char;
 use enc_utf_8_decoder::next;
 use enc_windows_1252::byte_of;
 
-// Whether a block is ASCII. Where it is whole its length is known, and the compiler makes wide instructions of the loop.
-fn is_ascii_block(block: &[u8]) -> bool
-    ensures { result ≡ is_ascii block.now }
-{
-    match block.as_array::<64>() {
-        Some(whole) => is_ascii(whole),
-        None => is_ascii(block),
-    }
-}
-
 // How far a text is ASCII from its start on, in blocks of 64 bytes, of which the last may be shorter.
 fn ascii_prefix(text: &[u8]) -> usize
     ensures { AsciiTo text.now result }
 {
+    let (blocks, rest) = text.as_chunks::<64>();
     let mut n: usize = 0;
-    for block in text.chunks(64) {
-        if !is_ascii_block(block) {
+    for block in blocks {
+        if !is_ascii(block) {
             return n;
         }
-        n += block.len();
+        n += 64;
+    }
+    if is_ascii(rest) {
+        return text.len();
     }
     n
 }
